@@ -1,5 +1,5 @@
--- Stores that are closed one after another, and what came of a run before that.
-use Rattle.std.proofs.Common.{◌≡◌, ◌∙◌, ◌∷◌, ◌++◌, ℕ, List, [], Some, Result, Ok, Err, IfOk, append-nil, append_assoc, arith, ap, length, refl, sym, take}
+-- Stores that are closed one after another.
+use Rattle.std.proofs.Common.{◌≡◌, ◌∙◌, ◌∷◌, ◌++◌, List, [], Some, append-nil, append_assoc, arith, ap, length, refl, sym, take}
 use Rattle.std.specs.Prelude.{slice_get}
 
 -- the first of those that are left is done
@@ -26,9 +26,3 @@ part_done {X} all done left split = ap (λ (xs : List X). take (length done) xs)
 pub all_done : {X : Type 0} (all done left : List X) → all ≡ done ++ left → length left ≡ 0 → all ≡ done
 all_done all done [] split none = split ∙ append-nil done
 all_done all done (x ∷ xs) split none = absurd (omega (arith, none))
-
--- ---- results
-
-pub both_ok : {T E : Type 0} {P Q R : T → Type 0} (r : Result T E) → ((x : T) → P x → Q x → R x) → IfOk r P → IfOk r Q → IfOk r R
-both_ok (Ok x) f p q = f x p q
-both_ok (Err e) f p q = tt

@@ -1,7 +1,7 @@
 //! The command `run`.
-ghost use Rattle.std.specs.Prelude.{◌≡◌, All, IfErr, IfOk, OnErr, OnOk, length, map, vec_len};
-ghost use Rattle.desk.specs.Views.{opened_with};
-ghost use Rattle.protocol.specs.Registries.{nodes};
+ghost use Rattle.std.specs.Prelude.{◌≡◌, ◌⊎◌, ◌++◌, ◌∷◌, [], IfErr, IfOk, OnOk, map};
+ghost use Rattle.std.specs.Io.KnownBytes.{Keeps};
+ghost use Rattle.run.specs.Ended.{stored_in};
 ghost use Rattle.run.specs.Runs.{FailsToRun, IsLoadedAmong};
 ghost use Rattle.commands.specs.Commands.{AreClosed, AreOpened, FailsToLoadFolder, FailsToRunFolder, FailsToRunLoaded, HasClosingFault, HasReported, IsPortFault, LoadsFolder, RunsFolder, RunsLoaded};
 
@@ -12,11 +12,11 @@ use audit::load_run;
 use command_faults::{OpFault, store_fault};
 use desk::{OpenGate, Stored, WallClock};
 use input_lines::ScriptLine;
-use protocol::nodes_of;
 use protocol::scheme::Scheme;
 use run::world::Core;
-use run::{Network, run_script};
-use sockets::{Port, Ports, open_ports};
+use run::{EndedNode, LoadedNode, run_script};
+use sessions::Network;
+use sockets::{Port, Ports, SocketNodes};
 use std::alloc::Global;
 use std::io::{ErrorKind, Write};
 use std::net::{Net, TcpListener, TcpStream};
@@ -24,7 +24,7 @@ use std::rt::Clock as SystemClock;
 use std::sync::Wait;
 use std::thread::Threads;
 use stores::NodeStore;
-use units::Node;
+use units::NoMemory;
 use weave::Watch;
 
 /// The stores of all nodes in the folder, each with the state that its records lead to.
@@ -50,24 +50,63 @@ fn load_nodes<A: Archive, P: Progress>(
     loaded
 }
 
-/// A listener for each node.
+/// A listener of the node's own.
 ///
 /// # Errors
 ///
 /// Fails with `Read` where a port can't be had, and with `NoMemory` where memory ran out.
-fn open_all<R: Net<Listener = TcpListener, Stream = TcpStream>>(
-    network: &R,
-    alloc: Global,
-    nodes: &[Node],
-) -> Result<Vec<Port>, OpFault>
-    ensures ok { IfOk result (λ v. vec_len v ≡ length nodes.now) }
+fn open_listener<R: Net<Listener = TcpListener, Stream = TcpStream>>(
+    net: &R,
+) -> Result<Port, OpFault>
     ensures err { IfErr result IsPortFault }
 {
-    match open_ports(network, alloc, nodes.len()) {
-        Ok(ports) => Ok(ports),
+    match Port::open(net) {
+        Ok(port) => Ok(port),
         Err(error) if error.kind() == ErrorKind::OutOfMemory => Err(OpFault::NoMemory),
         Err(_) => Err(OpFault::Read),
     }
+}
+
+/// Adds a node, and where it accepts connections.
+fn push<S, R>(
+    nodes: &mut Vec<LoadedNode<SocketNodes<S, R>>>,
+    ports: &mut Ports<R>,
+    stored: Stored<Core, S>,
+    listener: Port,
+) -> Result<(), NoMemory>
+where
+    S: NodeStore + Send + Drop,
+    R: Net<Listener = TcpListener, Stream = TcpStream> + SystemClock + Send + Sync + Drop,
+    ensures { OnOk result (map (λ n. n.stored) nodes.new.items ≡ map (λ n. n.stored) nodes.old.items ++ stored ∷ []) }
+{
+    ports.add(stored.state().node(), &listener)?;
+    nodes.push(LoadedNode { stored, listener })?;
+    Ok(())
+}
+
+/// The nodes, each with a listener of its own, and what connects to them there.
+///
+/// # Errors
+///
+/// Fails as `open_listener` does, and with `NoMemory` where memory ran out.
+fn open_all<S, R>(
+    net: R,
+    alloc: Global,
+    loaded: Vec<Stored<Core, S>>,
+) -> Result<(Vec<LoadedNode<SocketNodes<S, R>>>, Ports<R>), OpFault>
+where
+    S: NodeStore + Send + Drop,
+    R: Net<Listener = TcpListener, Stream = TcpStream> + SystemClock + Copy + Send + Sync + Drop,
+    ensures ok { IfOk result (λ opened. map (λ n. n.stored) opened.0.items ≡ loaded.items) }
+    ensures err { IfErr result IsPortFault }
+{
+    let mut nodes = Vec::new(alloc);
+    let mut ports = Ports::new(net, alloc);
+    for stored in loaded {
+        let listener = open_listener(&net)?;
+        push(&mut nodes, &mut ports, stored, listener)?;
+    }
+    Ok((nodes, ports))
 }
 
 /// Closes each store.
@@ -75,12 +114,15 @@ fn open_all<R: Net<Listener = TcpListener, Stream = TcpStream>>(
 /// # Errors
 ///
 /// Fails with the first fault of a store, after all of them were closed.
-fn close_stores<A: Archive>(archive: &A, nodes: Vec<Stored<Core, A::Store>>) -> Result<(), OpFault>
-    ensures ok { OnOk result (AreClosed (A.closes archive.now) nodes.items) }
-    ensures err { IfErr result (HasClosingFault (A.closes archive.now) (A.unclosed archive.now) nodes.items) }
+fn close_stores<A: Archive>(archive: &A, nodes: Vec<EndedNode<A::Store>>) -> Result<(), OpFault>
+    ensures ok { OnOk result (AreClosed (A.closes archive.now) (stored_in nodes.items)) }
+    ensures err { IfErr result
+        (HasClosingFault (A.closes archive.now) (A.unclosed archive.now) (stored_in nodes.items)) }
 {
     let mut first = Ok(());
-    for stored in nodes {
+    for ended in nodes {
+        let EndedNode { stored, seats } = ended;
+        drop(seats);
         let (state, store) = stored.into_parts();
         let node = state.node();
         drop(state);
@@ -94,41 +136,38 @@ fn close_stores<A: Archive>(archive: &A, nodes: Vec<Stored<Core, A::Store>>) -> 
     first
 }
 
-/// Runs the nodes in threads, over connections that are made to these listeners, while the script is played, and
-/// reports.
+/// Runs the nodes in threads, over connections of the loopback interface, while the script is played, and reports.
 fn run_connected<S, W, P, R>(
     rt: &R,
     alloc: Global,
     scheme: &Scheme,
     lines: &[ScriptLine],
     loaded: Vec<Stored<Core, S>>,
-    listeners: &[Port],
-    dial: &Ports<'_, R>,
     writer: &mut W,
     progress: &P,
-) -> Result<Vec<Stored<Core, S>>, OpFault>
+) -> Result<Vec<EndedNode<S>>, OpFault>
 where
     S: NodeStore + Send + Drop,
     W: Write,
     P: Progress,
     R: Threads + Wait + SystemClock + Net<Listener = TcpListener, Stream = TcpStream> + Sync,
     requires opened { AreOpened scheme.now loaded.items }
-    requires listeners { length listeners.now ≡ length (nodes scheme.now) }
-    ensures ok { IfOk result (λ v. HasReported S.NodeStore scheme.now lines.now loaded.items v.items
+    ensures ok { IfOk result (λ v. HasReported S.NodeStore scheme.now lines.now loaded.items (stored_in v.items)
         (W.contents writer.old) (W.contents writer.new)) }
     ensures err { IfErr result
-        (λ e. FailsToRun S.NodeStore (IsLoadedAmong S.NodeStore scheme.now loaded.items) e scheme.now lines.now
+        (λ e. (IsPortFault e × Keeps (W.contents writer.old) (W.contents writer.new))
+        ⊎ FailsToRun S.NodeStore (IsLoadedAmong S.NodeStore scheme.now loaded.items) e scheme.now lines.now
         (W.contents writer.old) (W.contents writer.new)) }
 {
+    let (nodes, ports) = open_all(rt, alloc, loaded)?;
     let network = Network {
-        listeners,
-        dial,
-        clock: &WallClock::new(rt),
-        gate: &OpenGate,
+        dialer: ports,
+        clock: WallClock::new(rt),
+        gate: OpenGate,
     };
     let mut watch = progress.of_run(lines.len());
-    let ended = run_script(
-        rt, alloc, scheme, lines, loaded, &network, writer, &mut watch,
+    let ended = run_script::<SocketNodes<S, &R>, W, P::OfRun, R>(
+        rt, alloc, scheme, lines, nodes, &network, writer, &mut watch,
     );
     watch.finished();
     ended
@@ -158,13 +197,7 @@ where
         (λ e. FailsToRunLoaded A.Store.NodeStore (A.closes archive.now)
         (A.unclosed archive.now) scheme.now lines.now loaded.items e (W.contents writer.old) (W.contents writer.new)) }
 {
-    let nodes = nodes_of(alloc, scheme)?;
-    let listeners = open_all(rt, alloc, nodes.as_slice())?;
-    let listening = listeners.as_slice();
-    let dial = Ports::of(rt, alloc, nodes.as_slice(), listening)?;
-    match run_connected(
-        rt, alloc, scheme, lines, loaded, listening, &dial, writer, progress,
-    ) {
+    match run_connected(rt, alloc, scheme, lines, loaded, writer, progress) {
         Ok(ended) => close_stores(archive, ended),
         Err(fault) => Err(fault),
     }

@@ -6,7 +6,7 @@ use std::io::IsTerminal;
 use std::time::Instant;
 use units::Node;
 
-/// When a line of progress is due: once a second, where standard error is a terminal.
+/// When a line of progress is written: once a second, where standard error is a terminal.
 #[derive(Drop)]
 struct Pace<'a> {
     rt: &'a HostRuntime,
@@ -27,8 +27,8 @@ impl<'a> Pace<'a> {
         Pace { rt, last, lines: 0 }
     }
 
-    /// Whether a line is due, which then is to be written.
-    fn is_due(&mut self) -> bool {
+    /// Whether it is time for a line, which then is to be written.
+    fn should_write(&mut self) -> bool {
         let Some(last) = self.last else {
             return false;
         };
@@ -84,9 +84,9 @@ impl<'a> ProgressLine<'a> {
         }
     }
 
-    /// Writes the line, where it is due.
+    /// Writes the line, where it is time for one.
     fn tell(&mut self) {
-        if self.pace.is_due() {
+        if self.pace.should_write() {
             let _ = eprint!(self.pace.rt;
                 "\rkyoto-link: {} records {}, {} woven",
                 self.records, self.done, self.woven
@@ -136,7 +136,7 @@ impl<'a> MigrationLine<'a> {
 
 impl<'a> store_files::durable::Watch for MigrationLine<'a> {
     fn migrated(&mut self, records: u64, count: u64) {
-        if self.pace.is_due() {
+        if self.pace.should_write() {
             let _ = eprint!(self.pace.rt;
                 "\rkyoto-link: store {}: {} of {} records migrated to format 2",
                 self.node, records, count
@@ -176,8 +176,8 @@ impl<'a> commands::run::Watch for RunLine<'a> {
         }
     }
 
-    fn is_due(&mut self) -> bool {
-        self.pace.is_due()
+    fn wants_count(&mut self) -> bool {
+        self.pace.should_write()
     }
 
     fn committed(&mut self, records: usize) {

@@ -15,7 +15,7 @@ use Rattle.desk.specs.declared.notes.Note.{Note}
 use Rattle.desk.specs.declared.notes.Ticket.{Ticket}
 use Rattle.desk.specs.declared.notes.Told.{Told}
 use Rattle.desk.specs.declared.notes.Told.TheVariants.{Step, Status, Refused}
-use Rattle.run.specs.Answers.{IsBorne, IsDueWithin}
+use Rattle.run.specs.Answers.{IsBorne, IsExpectedWithin}
 use Rattle.run.specs.Heard.{HasHeard, HasNoted}
 
 -- ---- fronts of lists
@@ -47,7 +47,7 @@ module _ (scheme : Scheme) (n : Node) (held : StateView) (heard : List SeatView)
   within : IsSettled scheme n held heard → Contains heard seat → seat.confirmed ≤ held.committed
   within settled is = all_of (λ (s : SeatView). s.confirmed ≤ held.committed) heard seat settled.within is
 
-  noted : IsSettled scheme n held heard → Contains heard seat → (asked : Asked) (told : Told) → HasNoted seat asked told → IsDueWithin scheme n (committed_records held) asked told
+  noted : IsSettled scheme n held heard → Contains heard seat → (asked : Asked) (told : Told) → HasNoted seat asked told → IsExpectedWithin scheme n (committed_records held) asked told
   noted settled is asked told h =
       let note : Note = record { asked = asked; told = told; length = h.0 } in
       let all : All (Bears scheme n held.journal) seat.notes = all_of (λ (s : SeatView). All (Bears scheme n held.journal) s.notes) heard seat settled.borne is in

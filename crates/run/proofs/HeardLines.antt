@@ -49,7 +49,7 @@ heard_grown : (scheme : Scheme) (olds news : List SeatView) → AllGrow olds new
 heard_grown scheme olds news g l NotPossible h = h
 heard_grown scheme olds news g l (Answered told) h =
     let new = g h.1.at h.1.seat h.1.is in
-    (h.0, record { at = h.1.at; seat = new.0; place = h.1.place; is = new.1; heard = heard_on h.1.seat new.0 (asked_by l) told new.2 h.1.heard })
+    (h.0, record { at = h.1.at; seat = new.0; index = h.1.index; is = new.1; heard = heard_on h.1.seat new.0 (asked_by l) told new.2 h.1.heard })
 
 pub heard_none : (scheme : Scheme) (seats : List SeatView) → AreHeard scheme seats [] []
 heard_none scheme seats = record { count = refl; each = λ k l answer at_l at_a. absurd (cc (at_l)) }

@@ -3,7 +3,7 @@ pub mod Hearing
 pub mod Lines
 pub mod Noting
 pub mod Ordering
-pub mod Places
+pub mod Indices
 pub mod Wired
 pub mod WorkedNotes
 pub mod Borne

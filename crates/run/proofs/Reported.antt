@@ -69,10 +69,10 @@ module _ (scheme : Scheme) (helds : List StateView) (own : List SeatView) (seats
   is_answer l NotPossible h = h
   is_answer l (Answered told) h =
       let x = h.1 in
-      let low : x.at < length (nodes scheme) = index_within scheme (node_of l) x.at x.place in
+      let low : x.at < length (nodes scheme) = index_within scheme (node_of l) x.at x.index in
       let held = some_at helds x.at (omega (arith, low, all)) in
-      let s = seated (node_of l) x.at held.0 x.seat x.place held.1 x.is in
-      let journal = journal_at (node_of l) x.at held.0 x.place held.1 in
+      let s = seated (node_of l) x.at held.0 x.seat x.index held.1 x.is in
+      let journal = journal_at (node_of l) x.at held.0 x.index held.1 in
       (h.0, subst (λ (js : List Input). IsBorne scheme (node_of l) js (asked_by l) told) (sym journal) (borne scheme (node_of l) held.0 s.heard x.seat s.settled (among s.heard x.seat s.gathers) (asked_by l) told x.heard))
 
   -- an order that is answered as recorded is committed

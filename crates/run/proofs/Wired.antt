@@ -1,6 +1,6 @@
 -- Which nodes send to which; lists that grow by an element, seen by a part of each.
-use Rattle.std.proofs.Common.{◌≡◌, ℕ, zero, suc, ◌+◌, ◌<◌, List, [], ◌∷◌, ◌++◌, length, take, drop, map, get_or, refl, ap, subst, sym, ◌∙◌, arith, length-append, All, Vec, Global, Result, Ok, Err, vec_len}
-use Rattle.std.specs.Prelude.{slice_get, IfOk, Some}
+use Rattle.std.proofs.Common.{◌≡◌, ℕ, zero, suc, ◌+◌, ◌<◌, List, [], ◌∷◌, ◌++◌, length, take, drop, map, get_or, refl, ap, subst, sym, ◌∙◌, arith, length-append, append_assoc, append-nil, All, Vec, Global, Result, Ok}
+use Rattle.std.specs.Prelude.{slice_get, Some}
 use Rattle.std.proofs.lemmas.List.{length-map, map-append, take_all, take_more}
 use Rattle.std.proofs.lemmas.List.Elements.{All-push, All-weaker}
 use Rattle.std.proofs.lemmas.Option.{slice_get_within, get_or_from_slice_get}
@@ -34,6 +34,25 @@ part_more f xs x zs ys k more low same item =
 pub part_is : {Y : Type 0} (ys : List Y) (k : ℕ) (own given : Y) → own ≡ given → given ≡ get_or ys k given → own ≡ get_or ys k own
 part_is ys k own given same item = subst (λ y. y ≡ get_or ys k y) (sym same) item
 
+-- of two lists, one handed on to the other element by element: those that have arrived, and then those that are left
+pub handed_on : {X Y Z : Type 0} (f : X → Z) (g : Y → Z) (xs zs : List X) (x : X) (ys rest : List Y) (y : Y) (all : List Z) → zs ≡ xs ++ x ∷ [] → ys ≡ y ∷ rest → f x ≡ g y → map f xs ++ map g ys ≡ all → map f zs ++ map g rest ≡ all
+handed_on f g xs zs x ys rest y all more next same before =
+    ap (λ l. map f l ++ map g rest) more
+    ∙ ap (λ l. l ++ map g rest) (map-append f xs (x ∷ []))
+    ∙ append_assoc (map f xs) (f x ∷ []) (map g rest)
+    ∙ ap (λ z. map f xs ++ z ∷ map g rest) same
+    ∙ sym (ap (λ l. map f xs ++ map g l) next)
+    ∙ before
+
+pub all_handed : {X Y Z : Type 0} (f : X → Z) (g : Y → Z) (xs : List X) (ys : List Y) (all : List Z) → length ys ≡ 0 → map f xs ++ map g ys ≡ all → map f xs ≡ all
+all_handed f g xs [] all none same = sym (append-nil (map f xs)) ∙ same
+all_handed f g xs (y ∷ ys) all none same = absurd (omega (arith, none))
+
+-- a part of a part
+pub part_of_part : {X Y Z : Type 0} (f : Y → Z) (g : X → Y) (xs : List X) → map f (map g xs) ≡ map (λ x. f (g x)) xs
+part_of_part f g [] = refl
+part_of_part f g (x ∷ xs) = ap (λ l. f (g x) ∷ l) (part_of_part f g xs)
+
 -- as many
 pub pushed_count : {X : Type 0} (xs : List X) (x : X) (zs : List X) (k : ℕ) → zs ≡ xs ++ x ∷ [] → length xs ≡ k → length zs ≡ k + 1
 pushed_count xs x zs k more same = ap (λ l. length l) more ∙ length-append xs (x ∷ []) ∙ ap (λ n. n + 1) same
@@ -61,9 +80,3 @@ all_taken nodes IsAlike Of IsSuch same alike ends count each k seats at =
     let n = some_at nodes k (omega (arith, count, slice_get_within ends k (Ok seats) at)) in
     let is : IsAlike n.0 = subst IsAlike (get_or_from_slice_get nodes k n.0 n.0 n.1) (alike k n.0 (slice_get_within nodes k n.0 n.1)) in
     All-weaker (Of n.0) IsSuch (same n.0 is) seats.items (each k n.0 seats n.1 at)
-
-pub ends_taken : {N : Type 0} (nodes : List N) (IsAlike : N → Type 0) (Of : N → SeatView → Type 0) (IsSuch : SeatView → Type 0) → ((n : N) → IsAlike n → (s : SeatView) → Of n s → IsSuch s) → All IsAlike nodes → (count : ℕ) → count ≡ length nodes
-    → (ends : Result (Vec (Result (Vec SeatView Global) NoMemory) Global) NoMemory) → IfOk ends (λ v. vec_len v ≡ count)
-    → IfOk ends (λ v. (k : ℕ) (n : N) (seats : Vec SeatView Global) → slice_get nodes k ≡ Some n → slice_get v.items k ≡ Some (Ok seats) → All (Of n) seats.items) → IfOk ends (λ v. AreAll IsSuch v.items)
-ends_taken nodes IsAlike Of IsSuch same alike count all (Ok v) len each = all_taken nodes IsAlike Of IsSuch same alike v.items (sym v.ok.0 ∙ len ∙ all) each
-ends_taken nodes IsAlike Of IsSuch same alike count all (Err e) len each = tt

@@ -86,3 +86,7 @@ if_err (Err e) f h = f e h
 pub on_ok : {X E P Q : Type 0} (r : Result X E) → (P → Q) → OnOk r P → OnOk r Q
 on_ok (Ok x) f h = f h
 on_ok (Err e) f h = tt
+
+pub both_ok : {X E : Type 0} {P Q T : X → Type 0} (r : Result X E) → ((x : X) → P x → Q x → T x) → IfOk r P → IfOk r Q → IfOk r T
+both_ok (Ok x) f p q = f x p q
+both_ok (Err e) f p q = tt

@@ -61,9 +61,9 @@ answer_lines n (answer ∷ answers) = answer_line n answer ++ answer_lines (n + 
 
 -- ---- what journals bear
 
--- that was told after some of the first records of the journal, and is what is due then
-abbrev pub IsDueWithin : Scheme → Node → List Input → Asked → Told → Type 0
-IsDueWithin scheme n journal asked told = (len : ℕ) × Bears scheme n journal (record { asked = asked; told = told; length = len })
+-- that was told after some of the first records of the journal, and is what is expected then
+abbrev pub IsExpectedWithin : Scheme → Node → List Input → Asked → Told → Type 0
+IsExpectedWithin scheme n journal asked told = (len : ℕ) × Bears scheme n journal (record { asked = asked; told = told; length = len })
 
 -- the order is the journal's record at that place
 abbrev pub IsRecordAt : List Input → ℕ → Asked → Type 0
@@ -73,10 +73,10 @@ IsRecordAt journal place (Query id) = ⊥
 -- the node's journal bears what was told; where the node had stopped, or memory ran out, that says nothing of it
 abbrev pub IsBorne : Scheme → Node → List Input → Asked → Told → Type 0
 IsBorne scheme n journal asked (Step (Recorded place)) = IsRecordAt journal place asked
-IsBorne scheme n journal asked (Step Repeat) = IsDueWithin scheme n journal asked (Step Repeat)
-IsBorne scheme n journal asked (Step Late) = IsDueWithin scheme n journal asked (Step Late)
-IsBorne scheme n journal asked (Status status) = IsDueWithin scheme n journal asked (Status status)
-IsBorne scheme n journal asked (Refused refusal) = is_unjudged refusal.code ≡ false → IsDueWithin scheme n journal asked (Refused refusal)
+IsBorne scheme n journal asked (Step Repeat) = IsExpectedWithin scheme n journal asked (Step Repeat)
+IsBorne scheme n journal asked (Step Late) = IsExpectedWithin scheme n journal asked (Step Late)
+IsBorne scheme n journal asked (Status status) = IsExpectedWithin scheme n journal asked (Status status)
+IsBorne scheme n journal asked (Refused refusal) = is_unjudged refusal.code ≡ false → IsExpectedWithin scheme n journal asked (Refused refusal)
 
 -- the line wasn't possible; or it was, and the journal of its node bears the answer
 abbrev pub IsAnswer : Scheme → (Node → List Input) → ScriptLine → ScriptAnswer → Type 0

@@ -38,7 +38,7 @@ HasHeard seat asked (Refused refusal) = is_unjudged refusal.code ≡ false → H
 pub record IsHeardAt (scheme : Scheme) (seats : List SeatView) (l : ScriptLine) (told : Told) : Type 0 where
   pub at : ℕ
   pub seat : SeatView
-  pub place : index_of scheme (node_of l) ≡ Some at
+  pub index : index_of scheme (node_of l) ≡ Some at
   pub is : slice_get seats at ≡ Some seat
   pub heard : HasHeard seat (asked_by l) told
 

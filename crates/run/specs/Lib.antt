@@ -6,3 +6,4 @@ pub mod Wiring
 pub mod Gathered
 pub mod Settled
 pub mod Runs
+pub mod Ended

@@ -12,6 +12,7 @@ use desk::{Asked, Bell, Desk, Opening, Seat, Taken, Told};
 use input_lines::ScriptLine;
 use protocol::NodeCore;
 use protocol::wire::Input;
+use sessions::{NodeTypes, Station};
 use status::{Status, TransactionId};
 use std::rt::Clock as SystemClock;
 use std::sync::Wait;
@@ -19,6 +20,7 @@ use std::thread;
 use std::time::Duration;
 use units::Refusal;
 use units::refusal_code::{NODE_STOPPED, OUT_OF_MEMORY};
+use world::Core;
 
 /// How long a script waits before it asks again, in milliseconds.
 const TURN: u64 = 1;
@@ -128,50 +130,50 @@ struct Awaited {
 
 /// Asks where the transaction stands until it has that status, at most that many times, and returns what was told
 /// last. Where no journal judged it, since the node had stopped or memory ran out, it isn't asked again.
-fn question_until<O: Opening, C: NodeCore, S: NodeStore, B: Bell, P: Watch, R: Wait + SystemClock>(
+fn question_until<O: Opening, N: NodeTypes, P: Watch, R: Wait + SystemClock>(
     rt: &R,
-    desks: &[Desk<O, C, S, B>],
+    stations: &[Station<O, Core, N>],
     at: usize,
     seat: &mut Seat,
     awaited: Awaited,
     watch: &mut P,
 ) -> Told
-    requires { at < length desks.now }
+    requires { at < length stations.now }
     ensures heard { HasHeard seat.new (Asked.Query awaited.id) result }
     ensures grows { Grows seat.old seat.new }
     ensures adds { Adds (Asked.Query awaited.id) seat.old seat.new result }
     ensures notes { Notes (IsAwaited awaited.id awaited.status awaited.turns) seat.old seat.new result }
 {
-    let mut told = question(rt, &desks[at], seat, awaited.id);
+    let mut told = question(rt, &stations[at].desk, seat, awaited.id);
     for asked in 1..awaited.turns {
         if is_over(told, awaited.status) {
             break;
         }
-        tell_committed(rt, desks, watch);
+        tell_committed(rt, stations, watch);
         thread::sleep(rt, Duration::from_millis(TURN));
-        told = question(rt, &desks[at], seat, awaited.id);
+        told = question(rt, &stations[at].desk, seat, awaited.id);
     }
     told
 }
 
-/// What the node at that place tells of a line of a script.
-pub(crate) fn ask<O: Opening, C: NodeCore, S: NodeStore, B: Bell, P: Watch, R: Wait + SystemClock>(
+/// What the node with that index tells of a line of a script.
+pub(crate) fn ask<O: Opening, N: NodeTypes, P: Watch, R: Wait + SystemClock>(
     rt: &R,
-    desks: &[Desk<O, C, S, B>],
+    stations: &[Station<O, Core, N>],
     at: usize,
     seat: &mut Seat,
     line: &ScriptLine,
     watch: &mut P,
 ) -> Told
-    requires { at < length desks.now }
+    requires { at < length stations.now }
     ensures heard { HasHeard seat.new (asked_by line.now) result }
     ensures grows { Grows seat.old seat.new }
     ensures adds { Adds (asked_by line.now) seat.old seat.new result }
     ensures notes { Notes (IsNotedOf line.now) seat.old seat.new result }
 {
     match line {
-        ScriptLine::Order { input, .. } => order_copy(rt, &desks[at], seat, input),
-        ScriptLine::Status { id, .. } => question(rt, &desks[at], seat, *id),
+        ScriptLine::Order { input, .. } => order_copy(rt, &stations[at].desk, seat, input),
+        ScriptLine::Status { id, .. } => question(rt, &stations[at].desk, seat, *id),
         ScriptLine::Until {
             id,
             status,
@@ -183,7 +185,7 @@ pub(crate) fn ask<O: Opening, C: NodeCore, S: NodeStore, B: Bell, P: Watch, R: W
                 status: *status,
                 turns: *turns,
             };
-            question_until(rt, desks, at, seat, awaited, watch)
+            question_until(rt, stations, at, seat, awaited, watch)
         }
     }
 }

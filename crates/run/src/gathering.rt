@@ -1,9 +1,9 @@
-//! What a run leaves: of each node the state with its store, and the seats of all that were told something by its desk.
-ghost use Rattle.std.specs.Prelude.{◌≡◌, ◌+◌, ◌<◌, ◌++◌, ◌∷◌, [], All, Vec, length, map, vec_capacity, vec_len, IfErr, IfOk, IfSome, OnOk};
-ghost use Rattle.std.specs.Global.{Global};
+//! What a run leaves of each node: its state with its store, and the seats of all that its desk told something.
+ghost use Rattle.std.specs.Prelude.{◌≡◌, ◌++◌, ◌∷◌, [], All, Some, map, vec_len, IfErr, IfOk, IfSome, OnOk};
 ghost use Rattle.desk.specs.Views.{SeatView};
 ghost use Rattle.protocol.specs.Registries.{nodes};
 ghost use Rattle.sessions.specs.Orders.{AreAll, HasOnly};
+ghost use Rattle.run.specs.Ended.{seats_in, stored_in};
 ghost use Rattle.run.specs.Gathered.{AreGathered, IsGathered};
 ghost use Rattle.run.specs.Runs.{EndsWell, HaveEnded, IsLateFault};
 
@@ -11,68 +11,39 @@ use crate::taking::Taking;
 use command_faults::{OpFault, store_fault};
 use desk::stores::NodeStore;
 use desk::{Desk, Ended, Opening, RoomBell, Seat, Stored};
-use protocol::node_at;
-use protocol::scheme::Scheme;
+use sessions::{NodeTypes, Station};
 use std::alloc::Global;
 use units::{NoMemory, Node};
 use world::Core;
 
-/// Makes room for one list more, and for one seat more in the list that comes next.
-fn make_room(all: &mut Vec<Vec<Seat>>, next: &mut Vec<Seat>) -> Result<(), NoMemory>
-    ensures all { all.new.items ≡ all.old.items }
-    ensures next { next.new.items ≡ next.old.items }
-    ensures list { OnOk result (vec_len all.new < vec_capacity all.new) }
-    ensures seat { OnOk result (vec_len next.new < vec_capacity next.new) }
-{
-    next.reserve(1)?;
-    all.reserve(1)?;
-    Ok(())
+/// A node after a run: its state with its store, and the seats of all that its desk told something.
+#[derive(Drop)]
+pub struct EndedNode<S: NodeStore> {
+    pub stored: Stored<Core, S>,
+    pub seats: Vec<Seat>,
 }
 
-/// Adds the seats of a node's threads, with the script's seat at the node after them.
-fn add<T: Taking>(
-    all: &mut Vec<Vec<Seat>>,
-    end: Option<Result<Vec<Seat>, NoMemory>>,
-    seat: Seat,
-) -> Result<(), NoMemory>
-    requires { IfSome end (λ ended. IfOk ended (λ seats. All (HasOnly T.takes) seats.items)) }
-    ensures { OnOk result ((v : Vec SeatView Global) × (all.new.items ≡ all.old.items ++ v ∷ [])
-        × IsGathered T.takes v.items seat) }
+/// What the threads of a node were told: a seat for each thread, or `NoMemory` where memory ran out for them.
+pub(crate) type ThreadSeats = Result<Vec<Seat>, NoMemory>;
+
+/// The seats of a node's threads, and the script's seat at the node after them. Fails with `NoMemory` where memory ran
+/// out, also for the threads.
+fn all_seats<T: Taking>(
+    threads: Option<ThreadSeats>,
+    script: Option<Seat>,
+) -> Result<Vec<Seat>, NoMemory>
+    requires { IfSome threads (λ ended. IfOk ended (λ seats. All (HasOnly T.takes) seats.items)) }
+    ensures { IfOk result (λ all. (seat : SeatView) × (script ≡ Some seat) × IsGathered T.takes all.items seat) }
 {
-    let Some(Ok(mut seats)) = end else {
-        drop(seat);
+    let Some(Ok(mut seats)) = threads else {
         return Err(NoMemory);
     };
-    if let Err(NoMemory) = make_room(all, &mut seats) {
-        drop(seats);
-        drop(seat);
+    let Some(seat) = script else {
         return Err(NoMemory);
-    }
+    };
+    seats.reserve(1)?;
     seats.push_reserved(seat);
-    all.push_reserved(seats);
-    Ok(())
-}
-
-/// The seats of each node's threads with that of the script at its desk, in the order of the nodes. Fails with
-/// `NoMemory` where memory ran out, also for the threads of a node.
-pub(crate) fn gather<T: Taking>(
-    alloc: Global,
-    ends: Vec<Result<Vec<Seat>, NoMemory>>,
-    seats: Vec<Seat>,
-) -> Result<Vec<Vec<Seat>>, NoMemory>
-    requires { AreAll (HasOnly T.takes) ends.items }
-    ensures { IfOk result (λ all. AreGathered T.takes seats.items (map (λ v. v.items) all.items)) }
-{
-    let mut all = Vec::new(alloc);
-    let mut ends = ends.into_iter();
-    for seat in seats {
-        if let Err(NoMemory) = add::<T>(&mut all, ends.next(), seat) {
-            drop(ends);
-            drop(all);
-            return Err(NoMemory);
-        }
-    }
-    Ok(all)
+    Ok(seats)
 }
 
 /// The state with its store that the desk of that node leaves, which no thread shares any more. Fails with the fault
@@ -99,33 +70,65 @@ fn end_desk<O: Opening, S: NodeStore + Drop>(
     }
 }
 
-/// Adds what one more desk leaves.
-fn push<S: NodeStore + Drop>(
-    nodes: &mut Vec<Stored<Core, S>>,
-    stored: Stored<Core, S>,
-) -> Result<(), NoMemory>
-    ensures { OnOk result (nodes.new.items ≡ nodes.old.items ++ stored ∷ []) }
+/// What a run leaves of the node at that station. Fails as `end_desk` and `all_seats` do.
+fn end_node<O: Opening, T: Taking, N: NodeTypes>(
+    station: Station<O, Core, N>,
+    threads: Option<ThreadSeats>,
+    script: Option<Seat>,
+) -> Result<EndedNode<N::Store>, OpFault>
+    requires { IfSome threads (λ ended. IfOk ended (λ seats. All (HasOnly T.takes) seats.items)) }
+    ensures well { IfOk result (λ e. EndsWell N.Store.NodeStore O.opened e.stored) }
+    ensures node { IfOk result (λ e. e.stored.state.node ≡ station.node) }
+    ensures seats { IfOk result
+        (λ e. (seat : SeatView) × (script ≡ Some seat) × IsGathered T.takes e.seats.items seat) }
+    ensures err { (scheme : _) → IfErr result (IsLateFault N.Store.NodeStore O.opened scheme) }
 {
-    nodes.push(stored)?;
+    let Station {
+        node,
+        desk,
+        listener,
+    } = station;
+    drop(listener);
+    let stored = end_desk(node, desk)?;
+    match all_seats::<T>(threads, script) {
+        Ok(seats) => Ok(EndedNode { stored, seats }),
+        Err(NoMemory) => Err(OpFault::NoMemory),
+    }
+}
+
+/// Adds a node.
+fn push<S: NodeStore + Drop>(
+    nodes: &mut Vec<EndedNode<S>>,
+    node: EndedNode<S>,
+) -> Result<(), NoMemory>
+    ensures { OnOk result (nodes.new.items ≡ nodes.old.items ++ node ∷ []) }
+{
+    nodes.push(node)?;
     Ok(())
 }
 
-/// The states with their stores that the desks of all nodes leave, which no thread shares any more. Fails with the
-/// fault of the first node's store that failed, and with `NoMemory` where memory ran out.
-pub(crate) fn end_all<O: Opening, S: NodeStore + Drop>(
+/// What a run leaves of the nodes at these stations, whose desks no thread shares any more: with the seats of each
+/// node's threads, and then that of the script, in the order of the stations. Fails with the fault of the first node
+/// that has one, and with `NoMemory` where memory ran out, also for the threads of a node.
+pub(crate) fn end_all<O: Opening, T: Taking, N: NodeTypes>(
     alloc: Global,
-    scheme: &Scheme,
-    desks: Vec<Desk<O, Core, S, RoomBell>>,
-) -> Result<Vec<Stored<Core, S>>, OpFault>
-    requires { vec_len desks ≡ length (nodes scheme.now) }
-    ensures ended { IfOk result (λ v. HaveEnded S.NodeStore O.opened scheme.now v.items) }
-    ensures err { IfErr result (IsLateFault S.NodeStore O.opened scheme.now) }
+    stations: Vec<Station<O, Core, N>>,
+    threads: Vec<ThreadSeats>,
+    script: Vec<Seat>,
+) -> Result<Vec<EndedNode<N::Store>>, OpFault>
+    requires threads { AreAll (HasOnly T.takes) threads.items }
+    requires script { vec_len script ≡ vec_len stations }
+    ensures ended { (scheme : _) → map (λ s. s.node) stations.items ≡ nodes scheme
+        → IfOk result (λ v. HaveEnded N.Store.NodeStore O.opened scheme (stored_in v.items)) }
+    ensures seats { IfOk result (λ v. AreGathered T.takes script.items (seats_in v.items)) }
+    ensures err { (scheme : _) → IfErr result (IsLateFault N.Store.NodeStore O.opened scheme) }
 {
     let mut ended = Vec::new(alloc);
-    for desk in desks {
-        let node = node_at(scheme, ended.len());
-        match end_desk(node, desk) {
-            Ok(stored) => push(&mut ended, stored)?,
+    let mut threads = threads.into_iter();
+    let mut script = script.into_iter();
+    for station in stations {
+        match end_node::<O, T, N>(station, threads.next(), script.next()) {
+            Ok(node) => push(&mut ended, node)?,
             Err(fault) => return Err(fault),
         }
     }

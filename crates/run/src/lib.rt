@@ -14,10 +14,11 @@ mod watch;
 mod wiring;
 
 pub use answer::ScriptAnswer;
+pub use gathering::EndedNode;
 pub use reporting::report_run;
 pub use running::run_script;
 pub use watch::{Nobody, Watch};
-pub use wiring::Network;
+pub use wiring::LoadedNode;
 
 // A run is that of the nodes of a world.
 pub use world;

@@ -12,16 +12,17 @@ ghost use Rattle.input_lines.specs.declared.script_line.ScriptLine.{ScriptLine a
 use crate::answer::ScriptAnswer;
 use crate::asking::ask;
 use crate::watch::{Watch, tell_committed};
-use desk::stores::NodeStore;
-use desk::{Bell, Desk, Opening, Seat};
+use desk::{Opening, Seat};
 use input_lines::ScriptLine;
+use protocol::index_of;
 use protocol::scheme::Scheme;
 use protocol::wire::Input;
-use protocol::{NodeCore, index_of};
+use sessions::{NodeTypes, Station};
 use std::alloc::Global;
 use std::rt::Clock as SystemClock;
 use std::sync::Wait;
 use units::{NoMemory, Node};
+use world::Core;
 
 /// Whether a node of that kind takes the order.
 fn takes(node: Node, input: &Input) -> bool
@@ -35,8 +36,8 @@ fn takes(node: Node, input: &Input) -> bool
     }
 }
 
-/// The place of the line's node, where the line is possible.
-fn place_for(scheme: &Scheme, line: &ScriptLine) -> Option<usize>
+/// The index of the line's node, where the line is possible.
+fn index_for(scheme: &Scheme, line: &ScriptLine) -> Option<usize>
     ensures some { IfSome result (λ at. (index_of scheme.now (node_of line.now) ≡ Some at)
         × (at < length (nodes scheme.now)) × (is_possible scheme.now line.now ≡ true)) }
     ensures none { IfNone result (is_possible scheme.now line.now ≡ false) }
@@ -55,15 +56,15 @@ fn place_for(scheme: &Scheme, line: &ScriptLine) -> Option<usize>
 }
 
 /// What a line comes to.
-fn play<O: Opening, C: NodeCore, S: NodeStore, B: Bell, P: Watch, R: Wait + SystemClock>(
+fn play<O: Opening, N: NodeTypes, P: Watch, R: Wait + SystemClock>(
     rt: &R,
     scheme: &Scheme,
-    desks: &[Desk<O, C, S, B>],
+    stations: &[Station<O, Core, N>],
     seats: &mut [Seat],
     line: &ScriptLine,
     watch: &mut P,
 ) -> ScriptAnswer
-    requires desks { length desks.now ≡ length (nodes scheme.now) }
+    requires stations { length stations.now ≡ length (nodes scheme.now) }
     requires seats { length seats.old ≡ length (nodes scheme.now) }
     ensures heard { IsHeard scheme.now seats.new line.now result }
     ensures grow { AllGrow seats.old seats.new }
@@ -72,8 +73,8 @@ fn play<O: Opening, C: NodeCore, S: NodeStore, B: Bell, P: Watch, R: Wait + Syst
         → HaveOrders scheme.now (lines ++ line.now ∷ []) (answers ++ result ∷ []) seats.new }
     ensures count { length seats.new ≡ length seats.old }
 {
-    match place_for(scheme, line) {
-        Some(at) => ScriptAnswer::Told(ask(rt, desks, at, &mut seats[at], line, watch)),
+    match index_for(scheme, line) {
+        Some(at) => ScriptAnswer::Told(ask(rt, stations, at, &mut seats[at], line, watch)),
         None => ScriptAnswer::NotPossible,
     }
 }
@@ -88,23 +89,16 @@ fn push(answers: &mut Vec<ScriptAnswer>, answer: ScriptAnswer) -> Result<(), NoM
 /// Plays the lines one after another and returns what each of them was answered. Each seat is replaced by that after
 /// the last line, and the watch hears of each line after it was played. Fails with `NoMemory` if memory runs out for
 /// the answers, before the first line.
-pub(crate) fn play_all<
-    O: Opening,
-    C: NodeCore,
-    S: NodeStore,
-    B: Bell,
-    P: Watch,
-    R: Wait + SystemClock,
->(
+pub(crate) fn play_all<O: Opening, N: NodeTypes, P: Watch, R: Wait + SystemClock>(
     rt: &R,
     alloc: Global,
     scheme: &Scheme,
-    desks: &[Desk<O, C, S, B>],
+    stations: &[Station<O, Core, N>],
     seats: &mut [Seat],
     lines: &[ScriptLine],
     watch: &mut P,
 ) -> Result<Vec<ScriptAnswer>, NoMemory>
-    requires desks { length desks.now ≡ length (nodes scheme.now) }
+    requires stations { length stations.now ≡ length (nodes scheme.now) }
     requires seats { length seats.old ≡ length (nodes scheme.now) }
     requires none { All (λ s. (s.tickets ≡ []) × (s.notes ≡ [])) seats.old }
     ensures played { IfOk result (λ v. IsPlayed scheme.now lines.now v.items seats.new) }
@@ -112,9 +106,9 @@ pub(crate) fn play_all<
 {
     let mut answers = Vec::with_capacity(alloc, lines.len())?;
     for line in lines {
-        let answer = play(rt, scheme, desks, seats, line, watch);
+        let answer = play(rt, scheme, stations, seats, line, watch);
         push(&mut answers, answer)?;
-        tell_committed(rt, desks, watch);
+        tell_committed(rt, stations, watch);
         watch.answered();
     }
     Ok(answers)

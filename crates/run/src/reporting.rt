@@ -4,14 +4,16 @@ ghost use Rattle.std.specs.Io.KnownBytes.{Appends};
 ghost use Rattle.protocol.specs.Registries.{nodes};
 ghost use Rattle.desk.specs.Settling.{IsSettled};
 ghost use Rattle.desk.specs.Views.{committed_records};
-ghost use Rattle.run.specs.Runs.{FailsToReport, IsReported, IsTableFault, states_of};
+ghost use Rattle.run.specs.Ended.{seats_in, states_in};
+ghost use Rattle.run.specs.Runs.{FailsToReport, IsReported, IsTableFault};
 ghost use Rattle.run.specs.Settled.{AreSettled, FailsToSettle, FailsToSettleAt};
 ghost use Rattle.world.specs.Cores.{journal_of, node_of, scheme_of};
 
+use crate::gathering::EndedNode;
 use audit::table_of_cores;
 use command_faults::{OpFault, write_out};
 use desk::stores::NodeStore;
-use desk::{Seat, State, Stored, Unsettled, settle_with};
+use desk::{Seat, State, Unsettled, settle_with};
 use protocol::scheme::Scheme;
 use protocol::{NodeCore, nodes_of};
 use std::alloc::Global;
@@ -48,30 +50,29 @@ fn add_settled<S: NodeStore, P: Watch>(
     alloc: Global,
     scheme: &Scheme,
     names: &[Node],
-    stored: &[Stored<Core, S>],
-    seats: &[Vec<Seat>],
+    ended: &[EndedNode<S>],
     watch: &mut P,
 ) -> Result<(), OpFault>
     requires empty { cores.old.items ≡ [] }
     requires all { names.now ≡ nodes scheme.now }
-    requires states { length stored.now ≡ length (nodes scheme.now) }
-    requires seats { length seats.now ≡ length (nodes scheme.now) }
-    ensures ok { OnOk result (AreSettled scheme.now (states_of stored.now) (map (λ v. v.items) seats.now)) }
+    requires ended { length ended.now ≡ length (nodes scheme.now) }
+    ensures ok { OnOk result (AreSettled scheme.now (states_in ended.now) (seats_in ended.now)) }
     ensures nodes { OnOk result (map node_of cores.new.items ≡ nodes scheme.now) }
     ensures schemes { OnOk result (All (λ core. scheme_of core ≡ scheme.now) cores.new.items) }
-    ensures journals { OnOk result (map journal_of cores.new.items ≡ map committed_records (states_of stored.now)) }
-    ensures err { IfErr result (FailsToSettle scheme.now (states_of stored.now) (map (λ v. v.items) seats.now)) }
+    ensures journals { OnOk result (map journal_of cores.new.items ≡ map committed_records (states_in ended.now)) }
+    ensures err { IfErr result (FailsToSettle scheme.now (states_in ended.now) (seats_in ended.now)) }
 {
-    for at in 0..stored.len() {
+    for at in 0..ended.len() {
         if cores.reserve(1).is_err() {
             return Err(OpFault::NoMemory);
         }
+        let node = &ended[at];
         match settle_node(
             alloc,
             scheme,
             names[at],
-            stored[at].state(),
-            seats[at].as_slice(),
+            node.stored.state(),
+            node.seats.as_slice(),
         ) {
             Ok(core) => {
                 watch.read(core.records());
@@ -88,29 +89,19 @@ fn add_settled<S: NodeStore, P: Watch>(
 fn settle_all<S: NodeStore, P: Watch>(
     alloc: Global,
     scheme: &Scheme,
-    stored: &[Stored<Core, S>],
-    seats: &[Vec<Seat>],
+    ended: &[EndedNode<S>],
     watch: &mut P,
 ) -> Result<Vec<Core>, OpFault>
-    requires states { length stored.now ≡ length (nodes scheme.now) }
-    requires seats { length seats.now ≡ length (nodes scheme.now) }
-    ensures ok { OnOk result (AreSettled scheme.now (states_of stored.now) (map (λ v. v.items) seats.now)) }
+    requires ended { length ended.now ≡ length (nodes scheme.now) }
+    ensures ok { OnOk result (AreSettled scheme.now (states_in ended.now) (seats_in ended.now)) }
     ensures nodes { IfOk result (λ v. map node_of v.items ≡ nodes scheme.now) }
     ensures schemes { IfOk result (λ v. All (λ core. scheme_of core ≡ scheme.now) v.items) }
-    ensures journals { IfOk result (λ v. map journal_of v.items ≡ map committed_records (states_of stored.now)) }
-    ensures err { IfErr result (FailsToSettle scheme.now (states_of stored.now) (map (λ v. v.items) seats.now)) }
+    ensures journals { IfOk result (λ v. map journal_of v.items ≡ map committed_records (states_in ended.now)) }
+    ensures err { IfErr result (FailsToSettle scheme.now (states_in ended.now) (seats_in ended.now)) }
 {
     let names = nodes_of(alloc, scheme)?;
     let mut cores = Vec::new(alloc);
-    match add_settled(
-        &mut cores,
-        alloc,
-        scheme,
-        names.as_slice(),
-        stored,
-        seats,
-        watch,
-    ) {
+    match add_settled(&mut cores, alloc, scheme, names.as_slice(), ended, watch) {
         Ok(()) => Ok(cores),
         Err(fault) => {
             drop(cores);
@@ -123,17 +114,15 @@ fn settle_all<S: NodeStore, P: Watch>(
 pub(crate) fn report_of<S: NodeStore, P: Watch>(
     alloc: Global,
     scheme: &Scheme,
-    stored: &[Stored<Core, S>],
-    seats: &[Vec<Seat>],
+    ended: &[EndedNode<S>],
     watch: &mut P,
 ) -> Result<String, OpFault>
-    requires states { length stored.now ≡ length (nodes scheme.now) }
-    requires seats { length seats.now ≡ length (nodes scheme.now) }
-    ensures ok { IfOk result (λ s. IsReported scheme.now (states_of stored.now) (map (λ v. v.items) seats.now)
+    requires ended { length ended.now ≡ length (nodes scheme.now) }
+    ensures ok { IfOk result (λ s. IsReported scheme.now (states_in ended.now) (seats_in ended.now)
         (string_bytes s)) }
-    ensures err { IfErr result (IsTableFault scheme.now (states_of stored.now) (map (λ v. v.items) seats.now)) }
+    ensures err { IfErr result (IsTableFault scheme.now (states_in ended.now) (seats_in ended.now)) }
 {
-    match settle_all(alloc, scheme, stored, seats, watch) {
+    match settle_all(alloc, scheme, ended, watch) {
         Ok(cores) => table_of_cores(alloc, scheme, cores, watch),
         Err(fault) => Err(fault),
     }
@@ -143,8 +132,8 @@ pub(crate) fn report_of<S: NodeStore, P: Watch>(
 /// been told. Finds a run that leads to the committed records of all nodes and to no others, and writes the table of
 /// the world that it leads to.
 ///
-/// The states, each with its store, and the lists of seats are those of the log, and then of the registries in the
-/// scheme's order. A node is settled by its core under the scheme, whatever scheme its state has.
+/// The nodes, each with its state, its store and its seats, are the log, and then the registries in the scheme's order.
+/// A node is settled by its core under the scheme, whatever scheme its state has.
 ///
 /// # Errors
 ///
@@ -159,20 +148,18 @@ pub(crate) fn report_of<S: NodeStore, P: Watch>(
 pub fn report_run<S: NodeStore, W: Write>(
     alloc: Global,
     scheme: &Scheme,
-    stored: &[Stored<Core, S>],
-    seats: &[Vec<Seat>],
+    ended: &[EndedNode<S>],
     writer: &mut W,
 ) -> Result<(), OpFault>
-    requires states { length stored.now ≡ length (nodes scheme.now) }
-    requires seats { length seats.now ≡ length (nodes scheme.now) }
+    requires ended { length ended.now ≡ length (nodes scheme.now) }
     ensures ok { OnOk result ((table : List ℕ)
-        × IsReported scheme.now (states_of stored.now) (map (λ v. v.items) seats.now) table
+        × IsReported scheme.now (states_in ended.now) (seats_in ended.now) table
         × Appends (W.contents writer.old) (W.contents writer.new) table) }
     ensures err { IfErr result
-        (λ e. FailsToReport e scheme.now (states_of stored.now) (map (λ v. v.items) seats.now) (W.contents writer.old)
+        (λ e. FailsToReport e scheme.now (states_in ended.now) (seats_in ended.now) (W.contents writer.old)
         (W.contents writer.new)) }
 {
-    match report_of(alloc, scheme, stored, seats, &mut Nobody) {
+    match report_of(alloc, scheme, ended, &mut Nobody) {
         Ok(table) => write_out(writer, table.as_str()),
         Err(fault) => Err(fault),
     }

@@ -1,307 +1,278 @@
 //! The threads of all nodes, and the one that plays a script.
-ghost use Rattle.std.specs.Prelude.{◌≡◌, ℕ, All, length, slice_get, vec_len, IfOk, Ok, Some};
+ghost use Rattle.std.specs.Prelude.{◌≡◌, ℕ, All, length, map, slice_get, vec_len, IfOk, Ok, Some};
 ghost use Rattle.std.specs.Thread.{IsSync};
 ghost use Rattle.desk.specs.Keeping.{MayOpen};
-ghost use Rattle.protocol.specs.Registries.{nodes};
-ghost use Rattle.sessions.specs.Orders.{AreAll, HasOnly};
+ghost use Rattle.protocol.specs.Registries.{nodes as nodes_in};
+ghost use Rattle.sessions.specs.Orders.{AreAll};
 ghost use Rattle.sessions.specs.Threads.{AreOfThread};
 ghost use Rattle.run.specs.Orders.{IsPlayed};
 
 use crate::answer::ScriptAnswer;
+use crate::gathering::ThreadSeats;
 use crate::playing::play_all;
 use crate::watch::Watch;
-use crate::wiring::{Network, desks_of, nodes_to_run};
-use desk::stores::NodeStore;
-use desk::{Clock, Desk, Gate, Opening, RoomBell, Seat, Stored};
+use crate::wiring::{LoadedNode, nodes_to_run, stations_of};
+use desk::{Opening, Seat};
 use input_lines::ScriptLine;
 use protocol::nodes_of;
 use protocol::scheme::Scheme;
-use sessions::{Dial, LONGEST_MUSTER, Listen, Muster, Mustered, Threaded, new_seats, run_all};
+use sessions::{
+    LONGEST_MUSTER, Muster, Mustered, Network, NodeThreads, NodeTypes, Station, new_seats, run_all,
+};
 use std::alloc::Global;
 use std::rt::Clock as SystemClock;
 use std::sync::Wait;
 use std::thread;
 use std::thread::Threads;
 use std::time::Duration;
-use units::{NoMemory, Node};
+use units::NoMemory;
 use world::Core;
 
-/// The seats of each node's threads, in the order of the nodes, or `NoMemory` where memory ran out for its threads.
-/// `NoMemory` in place of the list where no thread was started.
-pub(crate) type Ends = Result<Vec<Result<Vec<Seat>, NoMemory>>, NoMemory>;
-
-/// What a script came to, an answer for each line, and the seats that it was told that with, one at each desk.
+/// What a script was told: an answer to each line, and the seats that it was told that with, one at each desk.
 #[derive(Drop)]
 pub(crate) struct Played {
     pub seats: Vec<Seat>,
     pub answers: Vec<ScriptAnswer>,
 }
 
-/// What a run left: the desks of all nodes, how their threads ended, and the script's answers and seats, or `NoMemory`
-/// where memory ran out for them or the system had no thread for a node.
+/// What was told at the desks of all nodes: to the threads of each node, and to the script.
 #[derive(Drop)]
-pub(crate) struct Run<O: Opening, S: NodeStore> {
-    pub desks: Vec<Desk<O, Core, S, RoomBell>>,
-    pub ends: Ends,
-    pub played: Result<Played, NoMemory>,
+pub(crate) struct Heard {
+    pub threads: Vec<ThreadSeats>,
+    pub script: Played,
 }
 
-/// All desks stop.
-fn stop_all<O: Opening, S: NodeStore, R: Wait>(rt: &R, desks: &[Desk<O, Core, S, RoomBell>]) {
-    for desk in desks {
-        desk.stop(rt);
+/// What a run leaves: the nodes at their stations, and what was told there.
+#[derive(Drop)]
+pub(crate) struct Run<O: Opening, N: NodeTypes> {
+    pub stations: Vec<Station<O, Core, N>>,
+    pub heard: Heard,
+}
+
+/// A script that is to be played: its lines, the scheme that they are about, and its nodes.
+#[derive(Drop)]
+struct Script<'a, O: Opening, N: NodeTypes> {
+    scheme: &'a Scheme,
+    lines: &'a [ScriptLine],
+    stations: &'a [Station<O, Core, N>],
+}
+
+impl<'a, O: Opening, N: NodeTypes> Script<'a, O, N> {
+    /// Plays the script with new seats.
+    fn play_with_seats<P: Watch, R: Wait + SystemClock>(
+        &self,
+        rt: &R,
+        alloc: Global,
+        watch: &mut P,
+    ) -> Result<Played, NoMemory>
+        requires { length self.now.stations.now ≡ length (nodes_in self.now.scheme.now) }
+        ensures played { IfOk result
+            (λ p. IsPlayed self.now.scheme.now self.now.lines.now p.answers.items p.seats.items) }
+        ensures seats { IfOk result (λ p. vec_len p.seats ≡ length (nodes_in self.now.scheme.now)) }
+    {
+        let mut seats = new_seats(alloc, self.stations.len())?;
+        let answers = play_all(
+            rt,
+            alloc,
+            self.scheme,
+            self.stations,
+            seats.as_mut_slice(),
+            self.lines,
+            watch,
+        )?;
+        Ok(Played { seats, answers })
     }
-}
 
-/// Runs the nodes. Where no thread was started, all desks stop, so that nobody waits for a commit.
-fn run_or_stop<N, O, S, R>(
-    rt: &R,
-    alloc: Global,
-    desks: &[Desk<O, Core, S, RoomBell>],
-    threaded: Vec<N>,
-) -> Ends
-where
-    N: Threaded + Send + Sync + Drop,
-    O: Opening,
-    S: NodeStore,
-    R: Threads + Wait + SystemClock + Sync,
-    ensures len { IfOk result (λ v. vec_len v ≡ vec_len threaded) }
-    ensures taken { IfOk result
-        (λ v. (k : ℕ) (node : _) (seats : _) → slice_get threaded.items k ≡ Some node
-        → slice_get v.items k ≡ Some (Ok seats)
-        → All (HasOnly (N.takes node)) seats.items) }
-{
-    let ends = run_all(rt, alloc, threaded);
-    if ends.is_err() {
-        stop_all(rt, desks);
+    /// Plays the script with new seats once that many threads have reported at that muster. Fails with `NoMemory` where
+    /// one is missing: then no order was given and nothing asked.
+    fn play_mustered<P: Watch, R: Wait + SystemClock>(
+        &self,
+        rt: &R,
+        alloc: Global,
+        muster: &Muster,
+        threads: usize,
+        watch: &mut P,
+    ) -> Result<Played, NoMemory>
+        requires { length self.now.stations.now ≡ length (nodes_in self.now.scheme.now) }
+        ensures played { IfOk result
+            (λ p. IsPlayed self.now.scheme.now self.now.lines.now p.answers.items p.seats.items) }
+        ensures seats { IfOk result (λ p. vec_len p.seats ≡ length (nodes_in self.now.scheme.now)) }
+    {
+        let longest = Duration::from_secs(LONGEST_MUSTER);
+        match muster.wait_for(rt, threads, longest) {
+            Mustered::All => self.play_with_seats(rt, alloc, watch),
+            Mustered::Missing => Err(NoMemory),
+        }
     }
-    ends
-}
 
-/// Plays the script with new seats.
-fn play_with_seats<O: Opening, S: NodeStore, P: Watch, R: Wait + SystemClock>(
-    rt: &R,
-    alloc: Global,
-    scheme: &Scheme,
-    desks: &[Desk<O, Core, S, RoomBell>],
-    lines: &[ScriptLine],
-    watch: &mut P,
-) -> Result<Played, NoMemory>
-    requires { length desks.now ≡ length (nodes scheme.now) }
-    ensures played { IfOk result (λ p. IsPlayed scheme.now lines.now p.answers.items p.seats.items) }
-    ensures seats { IfOk result (λ p. vec_len p.seats ≡ length (nodes scheme.now)) }
-{
-    let mut seats = new_seats(alloc, desks.len())?;
-    let answers = play_all(rt, alloc, scheme, desks, seats.as_mut_slice(), lines, watch)?;
-    Ok(Played { seats, answers })
+    /// Plays the script as `play_mustered` does, and then stops all nodes.
+    fn play_and_stop<P: Watch, R: Wait + SystemClock>(
+        &self,
+        rt: &R,
+        alloc: Global,
+        muster: &Muster,
+        threads: usize,
+        watch: &mut P,
+    ) -> Result<Played, NoMemory>
+        requires { length self.now.stations.now ≡ length (nodes_in self.now.scheme.now) }
+        ensures played { IfOk result
+            (λ p. IsPlayed self.now.scheme.now self.now.lines.now p.answers.items p.seats.items) }
+        ensures seats { IfOk result (λ p. vec_len p.seats ≡ length (nodes_in self.now.scheme.now)) }
+    {
+        let played = self.play_mustered(rt, alloc, muster, threads, watch);
+        for station in self.stations {
+            station.desk.stop(rt);
+        }
+        played
+    }
 }
 
 /// How many threads those nodes have.
-fn threads_of_all<N: Threaded>(threaded: &[N]) -> usize {
+fn count_threads<O: Opening, N: NodeTypes>(nodes: &[NodeThreads<'_, O, Core, N>]) -> usize {
     let mut threads: usize = 0;
-    for node in threaded {
-        threads = threads.saturating_add(node.threads());
+    for node in nodes {
+        threads = threads.saturating_add(node.count());
     }
     threads
 }
 
-/// Plays the script with new seats once that many threads of the nodes have reported. Fails with `NoMemory` where one
-/// is missing: then no order was given and nothing asked.
-fn play_mustered<O: Opening, S: NodeStore, P: Watch, R: Wait + SystemClock>(
-    rt: &R,
-    alloc: Global,
-    scheme: &Scheme,
-    desks: &[Desk<O, Core, S, RoomBell>],
-    lines: &[ScriptLine],
-    muster: &Muster,
-    threads: usize,
-    watch: &mut P,
-) -> Result<Played, NoMemory>
-    requires { length desks.now ≡ length (nodes scheme.now) }
-    ensures played { IfOk result (λ p. IsPlayed scheme.now lines.now p.answers.items p.seats.items) }
-    ensures seats { IfOk result (λ p. vec_len p.seats ≡ length (nodes scheme.now)) }
-{
-    match muster.wait_for(rt, threads, Duration::from_secs(LONGEST_MUSTER)) {
-        Mustered::All => play_with_seats(rt, alloc, scheme, desks, lines, watch),
-        Mustered::Missing => Err(NoMemory),
-    }
-}
-
-/// Plays the script once all threads have reported, and then stops all nodes.
-fn play_and_stop<O: Opening, S: NodeStore, P: Watch, R: Wait + SystemClock>(
-    rt: &R,
-    alloc: Global,
-    scheme: &Scheme,
-    desks: &[Desk<O, Core, S, RoomBell>],
-    lines: &[ScriptLine],
-    muster: &Muster,
-    threads: usize,
-    watch: &mut P,
-) -> Result<Played, NoMemory>
-    requires { length desks.now ≡ length (nodes scheme.now) }
-    ensures played { IfOk result (λ p. IsPlayed scheme.now lines.now p.answers.items p.seats.items) }
-    ensures seats { IfOk result (λ p. vec_len p.seats ≡ length (nodes scheme.now)) }
-{
-    let played = play_mustered(rt, alloc, scheme, desks, lines, muster, threads, watch);
-    stop_all(rt, desks);
-    played
-}
-
-/// Runs the nodes in threads of their own, which report at that muster, while the script is played, and then stops all
-/// nodes. The first result is `NoMemory` where memory for the threads ran out, and the second where memory for the
-/// answers did, or a thread didn't report.
+/// Runs the nodes in threads of their own while the script is played, which begins once they have reported at that
+/// muster, and then stops all nodes. Fails with `NoMemory` where memory for the threads or for the answers ran out, or
+/// where a thread didn't report.
 ///
 /// Where the system has no thread for the nodes, they begin when the script has ended: it was not played, since no
 /// thread reported, and all desks have stopped, so that they end at once.
-fn run_beside_script<N, O, S, P, R>(
+fn run_beside<O, N, P, R>(
     rt: &R,
     alloc: Global,
-    scheme: &Scheme,
-    desks: &[Desk<O, Core, S, RoomBell>],
-    lines: &[ScriptLine],
+    nodes: Vec<NodeThreads<'_, O, Core, N>>,
+    script: &Script<'_, O, N>,
     muster: &Muster,
-    threaded: Vec<N>,
     watch: &mut P,
-) -> (Ends, Result<Played, NoMemory>)
+) -> Result<Heard, NoMemory>
 where
-    N: Threaded + Send + Sync + Drop,
     O: Opening + Send,
-    S: NodeStore + Send,
+    N: NodeTypes,
     P: Watch,
     R: Threads + Wait + SystemClock + Sync,
-    requires { length desks.now ≡ length (nodes scheme.now) }
-    ensures ends { IfOk result.0 (λ v. vec_len v ≡ vec_len threaded) }
-    ensures taken { IfOk result.0
-        (λ v. (k : ℕ) (node : _) (seats : _) → slice_get threaded.items k ≡ Some node
-        → slice_get v.items k ≡ Some (Ok seats)
-        → All (HasOnly (N.takes node)) seats.items) }
-    ensures played { IfOk result.1 (λ p. IsPlayed scheme.now lines.now p.answers.items p.seats.items) }
-    ensures seats { IfOk result.1 (λ p. vec_len p.seats ≡ length (nodes scheme.now)) }
+    requires { length script.now.stations.now ≡ length (nodes_in script.now.scheme.now) }
+    ensures len { IfOk result (λ heard. vec_len heard.threads ≡ vec_len nodes.entry) }
+    ensures taken { IfOk result
+        (λ heard. (k : ℕ) (node : _) (seats : _) → slice_get nodes.entry.items k ≡ Some node
+        → slice_get heard.threads.items k ≡ Some (Ok seats)
+        → All (AreOfThread
+        (N.Dialer.leads node.network.now.dialer) N.Dialer.Reader.remaining N.Dialer.Writer.contents
+        N.Store.NodeStore O.opened (N.Clock.tells node.network.now.clock)) seats.items) }
+    ensures played { IfOk result
+        (λ heard. IsPlayed script.now.scheme.now script.now.lines.now heard.script.answers.items
+        heard.script.seats.items) }
+    ensures seats { IfOk result (λ heard. vec_len heard.script.seats ≡ length (nodes_in script.now.scheme.now)) }
 {
-    let threads = threads_of_all(threaded.as_slice());
-    thread::join(
+    let count = count_threads(nodes.as_slice());
+    let (threads, script) = thread::join(
         rt,
-        move || -> Ends
+        move || -> Result<Vec<ThreadSeats>, NoMemory>
             requires { IsSync R.row }
-            ensures len { IfOk result (λ v. vec_len v ≡ vec_len threaded) }
+            ensures len { IfOk result (λ v. vec_len v ≡ vec_len nodes.entry) }
             ensures taken { IfOk result
-                (λ v. (k : ℕ) (node : _) (seats : _) → slice_get threaded.items k ≡ Some node
+                (λ v. (k : ℕ) (node : _) (seats : _) → slice_get nodes.entry.items k ≡ Some node
                 → slice_get v.items k ≡ Some (Ok seats)
-                → All (HasOnly (N.takes node)) seats.items) }
-        { run_or_stop(rt, alloc, desks, threaded) },
+                → All (AreOfThread
+                (N.Dialer.leads node.network.now.dialer) N.Dialer.Reader.remaining N.Dialer.Writer.contents
+                N.Store.NodeStore O.opened (N.Clock.tells node.network.now.clock)) seats.items) }
+        { run_all(rt, alloc, nodes) },
         move || -> Result<Played, NoMemory>
-            requires { length desks.now ≡ length (nodes scheme.now) }
+            requires { length script.now.stations.now ≡ length (nodes_in script.now.scheme.now) }
             ensures played { IfOk result
-                (λ p. IsPlayed scheme.entry.now lines.entry.now p.answers.items p.seats.items) }
-            ensures seats { IfOk result (λ p. vec_len p.seats ≡ length (nodes scheme.entry.now)) }
-        { play_and_stop(rt, alloc, scheme, desks, lines, muster, threads, watch) },
-    )
+                (λ p. IsPlayed script.entry.now.scheme.now script.entry.now.lines.now p.answers.items p.seats.items) }
+            ensures seats { IfOk result (λ p. vec_len p.seats ≡ length (nodes_in script.entry.now.scheme.now)) }
+        { script.play_and_stop(rt, alloc, muster, count, watch) },
+    );
+    Ok(Heard {
+        threads: threads?,
+        script: script?,
+    })
 }
 
-/// All nodes, the log and then the registries in the scheme's order, the desk of each, and where the threads of all
-/// report.
-#[derive(Drop)]
-struct NodesAtDesks<O: Opening, S: NodeStore> {
-    nodes: Vec<Node>,
-    desks: Vec<Desk<O, Core, S, RoomBell>>,
-    muster: Muster,
-}
-
-/// Runs the nodes in threads of their own while the script is played, as `run_beside_script` does.
-fn run_wired<O, S, L, D, K, G, P, R>(
+/// Runs the nodes at these stations over that network while the script is played, as `run_beside` does.
+fn run_stations<'a, O, N, P, R>(
     rt: &R,
     alloc: Global,
-    scheme: &Scheme,
-    lines: &[ScriptLine],
-    all: &NodesAtDesks<O, S>,
-    network: &Network<'_, L, D, K, G>,
+    scheme: &'a Scheme,
+    lines: &'a [ScriptLine],
+    stations: &'a [Station<O, Core, N>],
+    network: &'a Network<N>,
     watch: &mut P,
-) -> Result<(Ends, Result<Played, NoMemory>), NoMemory>
+) -> Result<Heard, NoMemory>
 where
     O: Opening + Send,
-    S: NodeStore + Send + Drop,
-    L: Listen + Sync,
-    L::Reader: Send,
-    L::Writer: Send,
-    D: Dial + Sync,
-    D::Reader: Send,
-    D::Writer: Send,
-    K: Clock + Sync,
-    G: Gate + Sync,
+    N: NodeTypes,
     P: Watch,
     R: Threads + Wait + SystemClock + Sync,
-    requires names { all.now.nodes.items ≡ nodes scheme.now }
-    requires desks { vec_len all.now.desks ≡ length (nodes scheme.now) }
-    requires listeners { length network.now.listeners.now ≡ length (nodes scheme.now) }
-    ensures ends { IfOk result (λ r. IfOk r.0 (λ v. vec_len v ≡ length (nodes scheme.now))) }
+    requires { length stations.now ≡ length (nodes_in scheme.now) }
     ensures taken { IfOk result
-        (λ r. IfOk r.0 (λ v. AreAll (AreOfThread
-        (D.leads network.now.dial.now) D.Reader.remaining D.Writer.contents S.NodeStore O.opened
-        (K.tells network.now.clock.now)) v.items)) }
-    ensures played { IfOk result (λ r. IfOk r.1 (λ p. IsPlayed scheme.now lines.now p.answers.items p.seats.items)) }
-    ensures seats { IfOk result (λ r. IfOk r.1 (λ p. vec_len p.seats ≡ length (nodes scheme.now))) }
+        (λ heard. AreAll (AreOfThread
+        (N.Dialer.leads network.now.dialer) N.Dialer.Reader.remaining N.Dialer.Writer.contents N.Store.NodeStore
+        O.opened (N.Clock.tells network.now.clock)) heard.threads.items) }
+    ensures played { IfOk result
+        (λ heard. IsPlayed scheme.now lines.now heard.script.answers.items heard.script.seats.items) }
+    ensures seats { IfOk result (λ heard. vec_len heard.script.seats ≡ length (nodes_in scheme.now)) }
 {
-    let desks = all.desks.as_slice();
-    let names = all.nodes.as_slice();
-    let nodes = nodes_to_run(alloc, names, desks, network, &all.muster)?;
-    Ok(run_beside_script(rt, alloc, scheme, desks, lines, &all.muster, nodes, watch))
+    let names = nodes_of(alloc, scheme)?;
+    let muster = Muster::new();
+    let nodes = nodes_to_run(alloc, names.as_slice(), stations, network, &muster)?;
+    let script = Script {
+        scheme,
+        lines,
+        stations,
+    };
+    run_beside(rt, alloc, nodes, &script, &muster, watch)
 }
 
-/// Makes a desk of each node's state and its store, and runs the nodes in threads of their own while the script's lines
-/// are ordered and asked one after another; then stops all nodes, and returns once their threads have ended. The first
-/// line waits for all threads to begin. The watch is told of each line. Each order and each question is answered once
-/// all records are committed that the node's journal had then.
+/// Makes a desk of each node's state, and runs the nodes in threads of their own while the script's lines are ordered
+/// and asked one after another; then stops all nodes, and returns once their threads have ended. The first line waits
+/// for all threads to begin. The watch is told of each line. Each order and each question is answered once all records
+/// are committed that the node's journal had then.
 ///
 /// # Errors
 ///
-/// Fails with `NoMemory` where memory ran out before a thread was started. In what it returns `ends` is `NoMemory`
-/// where memory for the threads ran out, and `played` where memory for the answers did. `played` is `NoMemory` also
-/// where the system had too few threads: some were missing, and for `LONGEST_MUSTER` seconds no further one began. Then
-/// no line was ordered or asked. All nodes have stopped in any case.
-pub(crate) fn run_and_play<O, S, L, D, K, G, P, R>(
+/// Fails with `NoMemory` where memory ran out before a thread was started, for the threads or for the answers. It fails
+/// so also where the system had too few threads: some were missing, and for `LONGEST_MUSTER` seconds no further one
+/// began. Then no line was ordered or asked. All nodes have stopped in any case.
+pub(crate) fn run_and_play<O, N, P, R>(
     rt: &R,
     alloc: Global,
     scheme: &Scheme,
     lines: &[ScriptLine],
-    loaded: Vec<Stored<Core, S>>,
-    network: &Network<'_, L, D, K, G>,
+    loaded: Vec<LoadedNode<N>>,
+    network: &Network<N>,
     watch: &mut P,
-) -> Result<Run<O, S>, NoMemory>
+) -> Result<Run<O, N>, NoMemory>
 where
     O: Opening + Send,
-    S: NodeStore + Send + Drop,
-    L: Listen + Sync,
-    L::Reader: Send,
-    L::Writer: Send,
-    D: Dial + Sync,
-    D::Reader: Send,
-    D::Writer: Send,
-    K: Clock + Sync,
-    G: Gate + Sync,
+    N: NodeTypes,
     P: Watch,
     R: Threads + Wait + SystemClock + Sync,
-    requires count { vec_len loaded ≡ length (nodes scheme.now) }
-    requires may_open { All (MayOpen S.NodeStore O.opened) loaded.items }
-    requires listeners { length network.now.listeners.now ≡ length (nodes scheme.now) }
-    ensures desks { IfOk result (λ r. vec_len r.desks ≡ length (nodes scheme.now)) }
-    ensures ends { IfOk result (λ r. IfOk r.ends (λ v. vec_len v ≡ length (nodes scheme.now))) }
+    requires nodes { map (λ n. n.stored.state.node) loaded.items ≡ nodes_in scheme.now }
+    requires may_open { All (MayOpen N.Store.NodeStore O.opened) (map (λ n. n.stored) loaded.items) }
+    ensures stations { IfOk result (λ run. map (λ s. s.node) run.stations.items ≡ nodes_in scheme.now) }
     ensures taken { IfOk result
-        (λ r. IfOk r.ends (λ v. AreAll (AreOfThread
-        (D.leads network.now.dial.now) D.Reader.remaining D.Writer.contents S.NodeStore O.opened
-        (K.tells network.now.clock.now)) v.items)) }
+        (λ run. AreAll (AreOfThread
+        (N.Dialer.leads network.now.dialer) N.Dialer.Reader.remaining N.Dialer.Writer.contents N.Store.NodeStore
+        O.opened (N.Clock.tells network.now.clock)) run.heard.threads.items) }
     ensures played { IfOk result
-        (λ r. IfOk r.played (λ p. IsPlayed scheme.now lines.now p.answers.items p.seats.items)) }
-    ensures seats { IfOk result (λ r. IfOk r.played (λ p. vec_len p.seats ≡ length (nodes scheme.now))) }
+        (λ run. IsPlayed scheme.now lines.now run.heard.script.answers.items run.heard.script.seats.items) }
+    ensures seats { IfOk result (λ run. vec_len run.heard.script.seats ≡ length (nodes_in scheme.now)) }
 {
-    let all = NodesAtDesks {
-        nodes: nodes_of(alloc, scheme)?,
-        desks: desks_of(alloc, loaded)?,
-        muster: Muster::new(),
-    };
-    let (ends, played) = run_wired(rt, alloc, scheme, lines, &all, network, watch)?;
-    Ok(Run {
-        desks: all.desks,
-        ends,
-        played,
-    })
+    let stations = stations_of(alloc, loaded)?;
+    let heard = run_stations(
+        rt,
+        alloc,
+        scheme,
+        lines,
+        stations.as_slice(),
+        network,
+        watch,
+    )?;
+    Ok(Run { stations, heard })
 }

@@ -1,9 +1,9 @@
 //! Who is told how far a script has come.
 
-use desk::stores::NodeStore;
-use desk::{Bell, Desk, Opening};
-use protocol::NodeCore;
+use desk::Opening;
+use sessions::{NodeTypes, Station};
 use std::sync::Wait;
+use world::Core;
 
 /// What is told while a script is played. It changes nothing of what comes of the script.
 pub trait Watch {
@@ -12,24 +12,24 @@ pub trait Watch {
 
     /// Whether it wants to be told of committed records now. It is asked at each line, and again and again while one
     /// waits for its answer.
-    fn is_due(&mut self) -> bool;
+    fn wants_count(&mut self) -> bool;
 
     /// All nodes together have committed this many records, those of the opening included.
     fn committed(&mut self, records: usize);
 }
 
-/// Tells how many records the nodes have committed, where that is due.
-pub(crate) fn tell_committed<O: Opening, C: NodeCore, S: NodeStore, B: Bell, P: Watch, R: Wait>(
+/// Tells how many records the nodes have committed, where the watch wants to know.
+pub(crate) fn tell_committed<O: Opening, N: NodeTypes, P: Watch, R: Wait>(
     rt: &R,
-    desks: &[Desk<O, C, S, B>],
+    stations: &[Station<O, Core, N>],
     watch: &mut P,
 ) {
-    if !watch.is_due() {
+    if !watch.wants_count() {
         return;
     }
     let mut records: usize = 0;
-    for desk in desks {
-        records = records.saturating_add(desk.committed_count(rt));
+    for station in stations {
+        records = records.saturating_add(station.desk.committed_count(rt));
     }
     watch.committed(records);
 }
@@ -41,7 +41,7 @@ pub struct Nobody;
 impl Watch for Nobody {
     fn answered(&mut self) {}
 
-    fn is_due(&mut self) -> bool {
+    fn wants_count(&mut self) -> bool {
         false
     }
 

@@ -1,51 +1,58 @@
 //! The nodes of a run, each with its desk and its connections.
-ghost use Rattle.std.specs.Prelude.{◌≡◌, ◌<◌, ◌+◌, All, length, map, slice_get, vec_len, IfOk, OnOk};
+ghost use Rattle.std.specs.Prelude.{◌≡◌, ◌++◌, ◌∷◌, [], ◌<◌, All, length, map, slice_get, vec_len, IfOk, OnOk};
 ghost use Rattle.desk.specs.Keeping.{MayOpen};
 ghost use Rattle.run.specs.Wiring.{peers_of};
 
-use desk::stores::NodeStore;
 use desk::{Desk, Opening, RoomBell, Stored};
-use sessions::{Muster, NodeParts, NodeThreads};
+use sessions::{Muster, Network, NodeThreads, NodeTypes, Station};
 use std::alloc::Global;
 use units::{NoMemory, Node};
 use world::Core;
 
-/// How the nodes of a run meet: what accepts each node's connections, in the order of the nodes; what makes
-/// connections; the clock of all; and the gate that their job workers pass.
-#[derive(Clone, Copy)]
-pub struct Network<'a, L, D, K, G> {
-    pub listeners: &'a [L],
-    pub dial: &'a D,
-    pub clock: &'a K,
-    pub gate: &'a G,
+/// A node that a run begins with: its state with its store, and what accepts its connections.
+#[derive(Drop)]
+pub struct LoadedNode<N: NodeTypes> {
+    pub stored: Stored<Core, N::Store>,
+    pub listener: N::Listener,
 }
 
-fn push_desk<O: Opening, S: NodeStore + Drop>(
-    desks: &mut Vec<Desk<O, Core, S, RoomBell>>,
-    desk: Desk<O, Core, S, RoomBell>,
+/// Adds a station.
+fn push<O: Opening, N: NodeTypes>(
+    stations: &mut Vec<Station<O, Core, N>>,
+    station: Station<O, Core, N>,
 ) -> Result<(), NoMemory>
-    ensures { OnOk result (length desks.new.items ≡ length desks.old.items + 1) }
+    ensures { OnOk result (stations.new.items ≡ stations.old.items ++ station ∷ []) }
 {
-    desks.push(desk)?;
+    stations.push(station)?;
     Ok(())
 }
 
-/// A desk for each state with its store.
-pub(crate) fn desks_of<O: Opening, S: NodeStore + Drop>(
+/// A station for each node, with a desk of its state.
+pub(crate) fn stations_of<O: Opening, N: NodeTypes>(
     alloc: Global,
-    nodes: Vec<Stored<Core, S>>,
-) -> Result<Vec<Desk<O, Core, S, RoomBell>>, NoMemory>
-    requires { All (MayOpen S.NodeStore O.opened) nodes.items }
-    ensures { IfOk result (λ v. vec_len v ≡ vec_len nodes) }
+    loaded: Vec<LoadedNode<N>>,
+) -> Result<Vec<Station<O, Core, N>>, NoMemory>
+    requires { All (MayOpen N.Store.NodeStore O.opened) (map (λ n. n.stored) loaded.items) }
+    ensures { IfOk result (λ v. map (λ s. s.node) v.items ≡ map (λ n. n.stored.state.node) loaded.items) }
 {
-    let mut desks = Vec::new(alloc);
-    for stored in nodes {
-        push_desk(&mut desks, Desk::new(stored, RoomBell::new()))?;
+    let mut stations = Vec::new(alloc);
+    for node in loaded {
+        let LoadedNode { stored, listener } = node;
+        let node = stored.state().node();
+        let desk = Desk::new(stored, RoomBell::new());
+        push(
+            &mut stations,
+            Station {
+                node,
+                desk,
+                listener,
+            },
+        )?;
     }
-    Ok(desks)
+    Ok(stations)
 }
 
-/// The nodes that the node at that place sends to: the log sends to all registries, and a registry to the log.
+/// The nodes that the node with that index sends to: the log sends to all registries, and a registry to the log.
 fn peers_at(names: &[Node], at: usize) -> &[Node]
     requires { at < length names.now }
     ensures { slice_get (peers_of names.now) at ≡ Some result.now }
@@ -53,42 +60,25 @@ fn peers_at(names: &[Node], at: usize) -> &[Node]
     if at == 0 { &names[1..] } else { &names[..1] }
 }
 
-/// The nodes to run: each with the desk and the listener at its place, and with the nodes that it sends to. The threads
-/// of all report at that muster.
-pub(crate) fn nodes_to_run<'a, O, S, L, D, K, G>(
+/// The threads of each node: at its station, over that network, to the nodes that it sends to. All report at that
+/// muster.
+pub(crate) fn nodes_to_run<'a, O: Opening, N: NodeTypes>(
     alloc: Global,
     names: &'a [Node],
-    desks: &'a [Desk<O, Core, S, RoomBell>],
-    network: &Network<'a, L, D, K, G>,
+    stations: &'a [Station<O, Core, N>],
+    network: &'a Network<N>,
     muster: &'a Muster,
-) -> Result<Vec<NodeThreads<'a, O, Core, S, RoomBell, L, D, K, G>>, NoMemory>
-where
-    O: Opening,
-    S: NodeStore,
-    requires desks { length desks.now ≡ length names.now }
-    requires listeners { length network.now.listeners.now ≡ length names.now }
+) -> Result<Vec<NodeThreads<'a, O, Core, N>>, NoMemory>
+    requires { length stations.now ≡ length names.now }
     ensures count { IfOk result (λ v. vec_len v ≡ length names.now) }
-    ensures names { IfOk result (λ v. map (λ n. n.parts.node) v.items ≡ names.now) }
-    ensures desks { IfOk result (λ v. map (λ n. n.parts.desk.now) v.items ≡ desks.now) }
-    ensures listeners { IfOk result (λ v. map (λ n. n.parts.listen.now) v.items ≡ network.now.listeners.now) }
-    ensures peers { IfOk result (λ v. map (λ n. n.parts.peers.now) v.items ≡ peers_of names.now) }
-    ensures alike { IfOk result
-        (λ v. All (λ n. (n.parts.dial.now ≡ network.now.dial.now)
-        × (n.parts.clock.now ≡ network.now.clock.now)) v.items) }
+    ensures stations { IfOk result (λ v. map (λ n. n.station.now) v.items ≡ stations.now) }
+    ensures peers { IfOk result (λ v. map (λ n. n.peers.now) v.items ≡ peers_of names.now) }
+    ensures network { IfOk result (λ v. All (λ n. n.network.now ≡ network.now) v.items) }
 {
     let mut nodes = Vec::with_capacity(alloc, names.len())?;
     for at in 0..names.len() {
-        let parts = NodeParts {
-            node: names[at],
-            desk: &desks[at],
-            listen: &network.listeners[at],
-            dial: network.dial,
-            peers: peers_at(names, at),
-            clock: network.clock,
-            gate: network.gate,
-            muster,
-        };
-        nodes.push(NodeThreads::new(alloc, parts)?)?;
+        let peers = peers_at(names, at);
+        nodes.push(NodeThreads::new(alloc, &stations[at], network, peers, muster)?)?;
     }
     Ok(nodes)
 }

@@ -1,4 +1,4 @@
--- What comes of a message that was due.
+-- What comes of a message that was unacknowledged.
 use Rattle.std.proofs.Common.{◌≡◌, ℕ, List, [], ◌∷◌, ◌++◌, Option, Some, sym, subst}
 use Rattle.units.specs.declared.code.Node.{Node}
 use Rattle.wire.specs.Messages.{message_text}
@@ -35,8 +35,8 @@ module _ {R W : Type 0} (leads : Node → R → W → Type 0) (remaining : R →
     pub tries_send :
         (peer : Node) (from : ℕ) (old new : SeatView) (key : ℕ) (m : Message) (sent : Sent) → IsToSend g opened peer from (Some (key, m)) → Tries leads remaining contents peer m old new key sent
         → Sends leads remaining contents g opened peer from old new sent
-    tries_send peer from old new key m Nothing due t = absurd t
-    tries_send peer from old new key m (Received k) due t =
-        ((m, subst (λ (n : ℕ). IsToSend g opened peer from (Some (n, m))) (sym t.0) due, t.1), subst (λ (n : ℕ). Acknowledges old new n) (sym t.0) t.2)
-    tries_send peer from old new key m (NotReceived k) due t = ((m, subst (λ (n : ℕ). IsToSend g opened peer from (Some (n, m))) (sym t.0) due), t.1)
-    tries_send peer from old new key m NoMemory due t = t
+    tries_send peer from old new key m Nothing to_send t = absurd t
+    tries_send peer from old new key m (Received k) to_send t =
+        ((m, subst (λ (n : ℕ). IsToSend g opened peer from (Some (n, m))) (sym t.0) to_send, t.1), subst (λ (n : ℕ). Acknowledges old new n) (sym t.0) t.2)
+    tries_send peer from old new key m (NotReceived k) to_send t = ((m, subst (λ (n : ℕ). IsToSend g opened peer from (Some (n, m))) (sym t.0) to_send), t.1)
+    tries_send peer from old new key m NoMemory to_send t = t

@@ -1,5 +1,5 @@
--- What a node's threads have its desk record: messages that come, and acknowledgements of those that were delivered.
-use Rattle.std.specs.Prelude.{ℕ, List, Option, Some}
+-- How many threads a node has, and what they have its desk record: messages that come, and acknowledgements of those that were delivered.
+use Rattle.std.specs.Prelude.{◌+◌, ℕ, List, Option, Some}
 use Rattle.units.specs.declared.code.Node.{Node}
 use Rattle.protocol.specs.Moment.{Moment}
 use Rattle.wire.specs.declared.input.Input.{Input}
@@ -11,6 +11,12 @@ use Rattle.desk.specs.Keeping.{IsToSend}
 use Rattle.desk.specs.Views.{SeatView}
 use Rattle.sessions.specs.Orders.{HasOnly}
 use Rattle.sessions.specs.Sending.{IsReceivedBy}
+use Rattle.sessions.specs.declared.node_threads.TheConstants.{WORKERS}
+use Rattle.sessions.specs.declared.session_threads.TheConstants.{SESSION_THREADS}
+
+-- of a node that sends to so many others: one commits, and one sends to each of them
+abbrev pub thread_count : ℕ → ℕ
+thread_count peers = 1 + SESSION_THREADS + WORKERS + peers
 
 -- which connections lead to a node, what a reader has left, and what a writer holds; a store's calls, and what is known of
 -- the nodes of the run when their desks open
@@ -36,6 +42,6 @@ module _ {R W S : Type 0} (leads : Node → R → W → Type 0) (remaining : R �
     IsOfThread (Ack number) = IsDelivered number.value
     IsOfThread (Received m moment) = tells moment
 
-    -- what a thread's seat has; no public contract cites it
+    -- each input of the thread's desk at that seat is of that kind
     abbrev pub AreOfThread : SeatView → Type 0
     AreOfThread = HasOnly IsOfThread

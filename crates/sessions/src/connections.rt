@@ -19,9 +19,9 @@ pub enum Accepted<R, W> {
 /// What accepts the connections that others make with a node.
 pub trait Listen {
     /// The bytes that the other end sends.
-    type Reader: Read + Drop;
+    type Reader: Read + Send + Drop;
     /// The bytes that go to the other end.
-    type Writer: Write + Drop;
+    type Writer: Write + Send + Drop;
 
     /// Waits for a connection, for a limited time, and returns its two directions where there is one. A listener that
     /// waits without a limit would keep a node's threads from ending.
@@ -31,9 +31,9 @@ pub trait Listen {
 /// What makes connections with nodes.
 pub trait Dial {
     /// The bytes that the other end sends.
-    type Reader: Read + Drop;
+    type Reader: Read + Send + Drop;
     /// The bytes that go to the other end.
-    type Writer: Write + Drop;
+    type Writer: Write + Send + Drop;
 
     /// They are the two directions of a connection that it made with that node.
     ghost leads: { Self → Node → Self.Reader → Self.Writer → Type 0 };

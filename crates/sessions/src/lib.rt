@@ -4,19 +4,24 @@
 mod connections;
 mod delivery;
 mod mustering;
-mod node_parts;
+mod network;
 mod node_threads;
+mod running;
 mod senders;
 mod sending;
 mod session_threads;
-mod threaded;
+mod station;
 mod watched_reader;
 mod workers;
 
 pub use connections::{Accepted, Dial, Listen};
 pub use mustering::{LONGEST_MUSTER, Muster, Mustered};
-pub use node_parts::NodeParts;
+pub use network::{Network, NodeTypes};
 pub use node_threads::{NodeThreads, WORKERS};
+pub use running::{new_seats, run_all, run_node};
 pub use sending::{Sent, send_next};
 pub use session_threads::SESSION_THREADS;
-pub use threaded::{Threaded, new_seats, run_all, run_node};
+pub use station::Station;
+
+// A node stands at a desk.
+pub use desk;

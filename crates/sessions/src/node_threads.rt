@@ -1,21 +1,22 @@
 //! The threads of a node.
-ghost use Rattle.std.specs.Prelude.{◌≡◌, ◌+◌, length, IfOk};
-ghost use Rattle.sessions.specs.Threads.{IsOfThread};
+ghost use Rattle.std.specs.Prelude.{◌≡◌, length, IfOk};
+ghost use Rattle.sessions.specs.Orders.{HasNoOrder};
+ghost use Rattle.sessions.specs.Threads.{AreOfThread, thread_count};
 
-use crate::connections::{Dial, Listen};
-use crate::node_parts::NodeParts;
+use crate::mustering::Muster;
+use crate::network::{Network, NodeTypes};
 use crate::senders::send_all;
 use crate::session_threads::{SESSION_THREADS, serve_all};
-use crate::threaded::Threaded;
+use crate::station::Station;
 use crate::workers::{Errand, work};
 use crossbeam_channel::{Receiver, Sender};
 use desk::stores::NodeStore;
-use desk::{Bell, Clock, Desk, Gate, Opening, Seat};
+use desk::{Bell, Desk, Opening, Seat};
 use protocol::NodeCore;
 use std::alloc::Global;
 use std::rt::Clock as SystemClock;
 use std::sync::{Mutex, Wait};
-use units::NoMemory;
+use units::{NoMemory, Node};
 
 /// How many threads of a node have its desk take jobs.
 pub const WORKERS: usize = 2;
@@ -35,18 +36,18 @@ enum Post {
     Serve(usize),
     /// It has the desk take jobs.
     Work,
-    /// It sends messages to the peer at that place.
+    /// It sends messages to the peer with that index.
     Send(usize),
 }
 
-/// What the thread at that place does: the first commits, then `SESSION_THREADS` serve sessions, then come `WORKERS`
+/// What the thread with that index does: the first commits, then `SESSION_THREADS` serve sessions, then come `WORKERS`
 /// workers, and then a sender for each peer.
-fn post_at(place: usize) -> Post {
-    match place {
+fn post_at(index: usize) -> Post {
+    match index {
         0 => Post::Commit,
-        _ if place <= SESSION_THREADS => Post::Serve(place - 1),
-        _ if place <= SESSION_THREADS + WORKERS => Post::Work,
-        _ => Post::Send(place - (1 + SESSION_THREADS + WORKERS)),
+        _ if index <= SESSION_THREADS => Post::Serve(index - 1),
+        _ if index <= SESSION_THREADS + WORKERS => Post::Work,
+        _ => Post::Send(index - (1 + SESSION_THREADS + WORKERS)),
     }
 }
 
@@ -92,17 +93,22 @@ fn take_handing<R: Wait>(rt: &R, handings: &[Handing], number: usize) -> Option<
 /// A node's threads: what they share, and how sessions hand jobs to workers.
 ///
 /// One commits the desk's records to its store, `SESSION_THREADS` serve the connections that others make, `WORKERS`
-/// have the desk take their jobs, of which `MOST_JOBS` wait at most, and one for each peer sends it the messages that
-/// are due, again every `LONGEST_QUIET` seconds while they aren't received. What their seats were told are messages, at
-/// moments that the clock told, and acknowledgements of messages that their peers received, and no orders.
+/// have the desk take their jobs, of which `MOST_JOBS` wait at most, and one for each peer sends it the unacknowledged
+/// messages, again every `LONGEST_QUIET` seconds while they aren't received. What their seats were told are messages,
+/// at moments that the clock told, and acknowledgements of messages that their peers received, and no orders.
 ///
 /// The desk stops when it is told to, where the store has a fault, and where 100 accepts in a row failed. Then each
 /// thread ends by itself: one that waits at the bell, for a worker or for a connection looks at the desk again after a
 /// limited time, a session ends at its next read, and the workers end once all session threads have, or once no job has
 /// come for a while.
 #[derive(Drop)]
-pub struct NodeThreads<'a, O: Opening, C: NodeCore, S: NodeStore, B: Bell, L, D, K, G> {
-    pub parts: NodeParts<'a, O, C, S, B, L, D, K, G>,
+pub struct NodeThreads<'a, O: Opening, C: NodeCore, N: NodeTypes> {
+    pub station: &'a Station<O, C, N>,
+    pub network: &'a Network<N>,
+    /// The nodes that it sends to.
+    pub peers: &'a [Node],
+    /// Where each thread reports once when it begins.
+    muster: &'a Muster,
     alloc: Global,
     handings: Vec<Handing>,
     errands: Receiver<Errand>,
@@ -110,81 +116,71 @@ pub struct NodeThreads<'a, O: Opening, C: NodeCore, S: NodeStore, B: Bell, L, D,
     failures: Mutex<u32>,
 }
 
-impl<'a, O: Opening, C: NodeCore, S: NodeStore, B: Bell, L, D, K, G> NodeThreads<
-    'a,
-    O,
-    C,
-    S,
-    B,
-    L,
-    D,
-    K,
-    G,
-> {
-    /// The threads that share these parts, none of which has begun. Fails with `NoMemory` where memory ran out.
+impl<'a, O: Opening, C: NodeCore, N: NodeTypes> NodeThreads<'a, O, C, N> {
+    /// The threads of the node at that station, which sends to these peers over that network. None has begun, and each
+    /// reports at the muster when it does. Fails with `NoMemory` where memory ran out.
     pub fn new(
         alloc: Global,
-        parts: NodeParts<'a, O, C, S, B, L, D, K, G>,
-    ) -> Result<NodeThreads<'a, O, C, S, B, L, D, K, G>, NoMemory>
-        ensures { IfOk result (λ node. node.parts ≡ parts.entry) }
+        station: &'a Station<O, C, N>,
+        network: &'a Network<N>,
+        peers: &'a [Node],
+        muster: &'a Muster,
+    ) -> Result<NodeThreads<'a, O, C, N>, NoMemory>
+        ensures station { IfOk result (λ node. node.station ≡ station.entry) }
+        ensures network { IfOk result (λ node. node.network ≡ network.entry) }
+        ensures peers { IfOk result (λ node. node.peers ≡ peers.entry) }
     {
         let (sender, errands) = crossbeam_channel::bounded(alloc, MOST_JOBS)?;
         let handings = handings_of(alloc, &sender)?;
         Ok(NodeThreads {
-            parts,
+            station,
+            network,
+            peers,
+            muster,
             alloc,
             handings,
             errands,
             failures: Mutex::new(0),
         })
     }
-}
 
-impl<'a, O, C, S, B, L, D, K, G> Threaded for NodeThreads<'a, O, C, S, B, L, D, K, G>
-where
-    O: Opening,
-    C: NodeCore,
-    S: NodeStore,
-    B: Bell,
-    L: Listen,
-    D: Dial,
-    K: Clock,
-    G: Gate,
-{
-    ghost use Rattle.sessions.specs.declared.node_threads.TheConstants.{WORKERS};
-    ghost use Rattle.sessions.specs.declared.session_threads.TheConstants.{SESSION_THREADS};
-
-    ghost takes = { λ node. IsOfThread
-        (D.leads node.parts.dial.now) D.Reader.remaining D.Writer.contents S.NodeStore O.opened
-        (K.tells node.parts.clock.now) };
-
-    ghost thread_count = { λ node. 1 + SESSION_THREADS + WORKERS + length node.parts.peers.now };
-
-    fn threads(&self) -> usize {
-        1 + SESSION_THREADS + WORKERS + self.parts.peers.len()
+    /// How many threads the node has.
+    pub fn count(&self) -> usize
+        ensures { result ≡ thread_count (length self.now.peers.now) }
+    {
+        1 + SESSION_THREADS + WORKERS + self.peers.len()
     }
 
-    /// It reports at the muster first.
-    fn run_thread<R: Wait + SystemClock>(&self, rt: &R, place: usize, seat: &mut Seat) {
-        self.parts.muster.report(rt);
-        match post_at(place) {
-            Post::Commit => commit_all(rt, self.parts.desk),
+    /// Runs the thread with that index to its end, with a seat of its own at the node's desk. It reports at the muster
+    /// first, and ends soon after the desk stops, also where other threads of the node haven't begun.
+    pub(crate) fn run_thread<R: Wait + SystemClock>(&self, rt: &R, index: usize, seat: &mut Seat)
+        requires { AreOfThread
+            (N.Dialer.leads self.now.network.now.dialer) N.Dialer.Reader.remaining N.Dialer.Writer.contents
+            N.Store.NodeStore O.opened (N.Clock.tells self.now.network.now.clock) seat.old }
+        ensures taken { AreOfThread
+            (N.Dialer.leads self.now.network.now.dialer) N.Dialer.Reader.remaining N.Dialer.Writer.contents
+            N.Store.NodeStore O.opened (N.Clock.tells self.now.network.now.clock) seat.new }
+        ensures none { HasNoOrder seat.new }
+    {
+        self.muster.report(rt);
+        match post_at(index) {
+            Post::Commit => commit_all(rt, &self.station.desk),
             Post::Serve(number) => {
                 if let Some(errands) = take_handing(rt, self.handings.as_slice(), number) {
-                    let (desk, listen) = (self.parts.desk, self.parts.listen);
-                    serve_all(rt, self.alloc, desk, listen, &self.failures, &errands);
+                    serve_all(rt, self.alloc, self.station, &self.failures, &errands);
                 }
             }
-            Post::Work => work(rt, &self.parts, &self.errands, seat),
+            Post::Work => work(rt, self.station, self.network, &self.errands, seat),
             Post::Send(at) => {
-                if let Some(peer) = self.parts.peers.get(at) {
-                    send_all(rt, self.alloc, &self.parts, *peer, seat);
+                if let Some(peer) = self.peers.get(at) {
+                    send_all(rt, self.alloc, self.station, self.network, *peer, seat);
                 }
             }
         }
     }
 
-    fn give_up<R: Wait>(&self, rt: &R) {
-        self.parts.desk.stop(rt);
+    /// Stops the node, none of whose threads was started, so that nobody waits for a commit.
+    pub(crate) fn give_up<R: Wait>(&self, rt: &R) {
+        self.station.desk.stop(rt);
     }
 }

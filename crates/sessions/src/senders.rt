@@ -1,41 +1,33 @@
 //! A thread that sends a node's messages to one peer.
 ghost use Rattle.sessions.specs.Threads.{AreOfThread};
 
-use crate::connections::Dial;
-use crate::node_parts::NodeParts;
+use crate::network::{Network, NodeTypes};
 use crate::sending::{Sent, send_next};
-use desk::stores::NodeStore;
-use desk::{Bell, Clock, Opening, Seat};
+use crate::station::Station;
+use desk::{Bell, Opening, Seat};
 use protocol::NodeCore;
 use std::alloc::Global;
 use std::rt::Clock as SystemClock;
 use std::sync::Wait;
 use units::Node;
 
-/// Sends what is due to a peer: the message with the least key, and then those with higher keys, each once.
-fn send_round<O, C, S, B, L, D, K, G, R>(
+/// Sends the unacknowledged messages to a peer: the one with the least key, and then those with higher keys, each once.
+fn send_round<O: Opening, C: NodeCore, N: NodeTypes, R: Wait>(
     rt: &R,
     alloc: Global,
-    parts: &NodeParts<'_, O, C, S, B, L, D, K, G>,
+    station: &Station<O, C, N>,
+    network: &Network<N>,
     peer: Node,
     seat: &mut Seat,
 )
-where
-    O: Opening,
-    C: NodeCore,
-    S: NodeStore,
-    B: Bell,
-    D: Dial,
-    K: Clock,
-    R: Wait,
-    requires { AreOfThread (D.leads parts.now.dial.now) D.Reader.remaining D.Writer.contents S.NodeStore O.opened
-        (K.tells parts.now.clock.now) seat.old }
-    ensures { AreOfThread (D.leads parts.now.dial.now) D.Reader.remaining D.Writer.contents S.NodeStore O.opened
-        (K.tells parts.now.clock.now) seat.new }
+    requires { AreOfThread (N.Dialer.leads network.now.dialer) N.Dialer.Reader.remaining N.Dialer.Writer.contents
+        N.Store.NodeStore O.opened (N.Clock.tells network.now.clock) seat.old }
+    ensures { AreOfThread (N.Dialer.leads network.now.dialer) N.Dialer.Reader.remaining N.Dialer.Writer.contents
+        N.Store.NodeStore O.opened (N.Clock.tells network.now.clock) seat.new }
 {
     let mut from: usize = 0;
     for _ in rt.forever() {
-        match send_next(rt, alloc, parts.desk, seat, parts.dial, peer, from) {
+        match send_next(rt, alloc, &station.desk, seat, &network.dialer, peer, from) {
             Sent::Received(key) | Sent::NotReceived(key) => match key.checked_add(1) {
                 Some(next) => from = next,
                 None => break,
@@ -45,34 +37,28 @@ where
     }
 }
 
-/// Sends what is due to a peer, until the desk stops: again whenever the bell has rung, and every `LONGEST_QUIET`
-/// seconds, so that a message that wasn't received is sent again also where nothing happens at the node.
-pub(crate) fn send_all<O, C, S, B, L, D, K, G, R>(
+/// Sends the unacknowledged messages to a peer, until the desk stops: again whenever the bell has rung, and every
+/// `LONGEST_QUIET` seconds, so that a message that wasn't received is sent again also where nothing happens at the
+/// node.
+pub(crate) fn send_all<O: Opening, C: NodeCore, N: NodeTypes, R: Wait + SystemClock>(
     rt: &R,
     alloc: Global,
-    parts: &NodeParts<'_, O, C, S, B, L, D, K, G>,
+    station: &Station<O, C, N>,
+    network: &Network<N>,
     peer: Node,
     seat: &mut Seat,
 )
-where
-    O: Opening,
-    C: NodeCore,
-    S: NodeStore,
-    B: Bell,
-    D: Dial,
-    K: Clock,
-    R: Wait + SystemClock,
-    requires { AreOfThread (D.leads parts.now.dial.now) D.Reader.remaining D.Writer.contents S.NodeStore O.opened
-        (K.tells parts.now.clock.now) seat.old }
-    ensures { AreOfThread (D.leads parts.now.dial.now) D.Reader.remaining D.Writer.contents S.NodeStore O.opened
-        (K.tells parts.now.clock.now) seat.new }
+    requires { AreOfThread (N.Dialer.leads network.now.dialer) N.Dialer.Reader.remaining N.Dialer.Writer.contents
+        N.Store.NodeStore O.opened (N.Clock.tells network.now.clock) seat.old }
+    ensures { AreOfThread (N.Dialer.leads network.now.dialer) N.Dialer.Reader.remaining N.Dialer.Writer.contents
+        N.Store.NodeStore O.opened (N.Clock.tells network.now.clock) seat.new }
 {
     for _ in rt.forever() {
-        let rings = parts.desk.bell().rings(rt);
-        if !parts.desk.is_running(rt) {
+        let rings = station.desk.bell().rings(rt);
+        if !station.desk.is_running(rt) {
             break;
         }
-        send_round(rt, alloc, parts, peer, seat);
-        parts.desk.bell().wait(rt, rings);
+        send_round(rt, alloc, station, network, peer, seat);
+        station.desk.bell().wait(rt, rings);
     }
 }

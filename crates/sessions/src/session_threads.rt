@@ -1,6 +1,8 @@
 //! The threads of a node that serve sessions.
 
 use crate::connections::{Accepted, Listen};
+use crate::network::NodeTypes;
+use crate::station::Station;
 use crate::watched_reader::WatchedReader;
 use crate::workers::{Errand, WorkersAnswerer};
 use crossbeam_channel::Sender;
@@ -85,32 +87,24 @@ fn serve_one<
 ///
 /// A node has `SESSION_THREADS` threads that do so. Where the system has no thread for some of them, fewer sessions are
 /// served at a time, or none.
-pub(crate) fn serve_all<
-    O: Opening,
-    C: NodeCore,
-    S: NodeStore,
-    B: Bell,
-    L: Listen,
-    R: Wait + SystemClock,
->(
+pub(crate) fn serve_all<O: Opening, C: NodeCore, N: NodeTypes, R: Wait + SystemClock>(
     rt: &R,
     alloc: Global,
-    desk: &Desk<O, C, S, B>,
-    listen: &L,
+    station: &Station<O, C, N>,
     failures: &Mutex<u32>,
     errands: &Sender<Errand>,
 ) {
     for _ in rt.forever() {
-        if !desk.is_running(rt) {
+        if !station.desk.is_running(rt) {
             break;
         }
-        match listen.accept() {
+        match station.listener.accept() {
             Accepted::Connection(reader, writer) => {
                 *failures.lock(rt) = 0;
-                serve_one(rt, alloc, desk, reader, writer, errands);
+                serve_one(rt, alloc, &station.desk, reader, writer, errands);
             }
             Accepted::Nobody => {}
-            Accepted::Failed => stop_or_pause(rt, desk, failures),
+            Accepted::Failed => stop_or_pause(rt, &station.desk, failures),
         }
     }
 }

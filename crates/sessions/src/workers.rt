@@ -5,11 +5,11 @@ ghost use Rattle.replies.specs.Answers.{IsRefusedBy};
 ghost use Rattle.replies.specs.Lines.{IsNoLine};
 ghost use Rattle.sessions.specs.Threads.{AreOfThread};
 
-use crate::connections::Dial;
-use crate::node_parts::NodeParts;
+use crate::network::{Network, NodeTypes};
+use crate::station::Station;
 use crossbeam_channel::{Receiver, RecvTimeoutError, Sender};
 use desk::stores::NodeStore;
-use desk::{Bell, Clock, Desk, Gate, LONGEST_QUIET, Opening, Seat};
+use desk::{Bell, Desk, LONGEST_QUIET, Opening, Seat};
 use exchanges::Answerer;
 use protocol::NodeCore;
 use replies::{Answer, Job, answer_job};
@@ -160,32 +160,24 @@ impl<'a, O: Opening, C: NodeCore, S: NodeStore, B: Bell, R: Wait + SystemClock> 
 
 /// Has the desk take the jobs of errands with this seat, and hands their answers back, until no session thread is left.
 /// It ends also where the desk has stopped and no job comes, since a session thread may not have begun yet.
-pub(crate) fn work<O, C, S, B, L, D, K, G, R>(
+pub(crate) fn work<O: Opening, C: NodeCore, N: NodeTypes, R: Wait + SystemClock>(
     rt: &R,
-    parts: &NodeParts<'_, O, C, S, B, L, D, K, G>,
+    station: &Station<O, C, N>,
+    network: &Network<N>,
     errands: &Receiver<Errand>,
     seat: &mut Seat,
 )
-where
-    O: Opening,
-    C: NodeCore,
-    S: NodeStore,
-    B: Bell,
-    D: Dial,
-    K: Clock,
-    G: Gate,
-    R: Wait + SystemClock,
-    requires { AreOfThread (D.leads parts.now.dial.now) D.Reader.remaining D.Writer.contents S.NodeStore O.opened
-        (K.tells parts.now.clock.now) seat.old }
-    ensures { AreOfThread (D.leads parts.now.dial.now) D.Reader.remaining D.Writer.contents S.NodeStore O.opened
-        (K.tells parts.now.clock.now) seat.new }
+    requires { AreOfThread (N.Dialer.leads network.now.dialer) N.Dialer.Reader.remaining N.Dialer.Writer.contents
+        N.Store.NodeStore O.opened (N.Clock.tells network.now.clock) seat.old }
+    ensures { AreOfThread (N.Dialer.leads network.now.dialer) N.Dialer.Reader.remaining N.Dialer.Writer.contents
+        N.Store.NodeStore O.opened (N.Clock.tells network.now.clock) seat.new }
 {
     for _ in rt.forever() {
-        let Some(errand) = receive(rt, parts.desk, errands) else {
+        let Some(errand) = receive(rt, &station.desk, errands) else {
             break;
         };
         let Errand { job, back } = errand;
-        let answer = answer_job(rt, parts.desk, seat, parts.clock, parts.gate, job);
+        let answer = answer_job(rt, &station.desk, seat, &network.clock, &network.gate, job);
         drop(back.send(rt, answer));
         drop(back);
     }

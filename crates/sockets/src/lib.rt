@@ -5,7 +5,9 @@ mod dialled;
 mod loopback;
 mod port;
 mod ports;
+mod socket_nodes;
 
 pub use dialled::Dialled;
-pub use port::{Port, open_ports};
+pub use port::Port;
 pub use ports::Ports;
+pub use socket_nodes::SocketNodes;

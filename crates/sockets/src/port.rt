@@ -1,10 +1,9 @@
 //! Where one node accepts connections.
-ghost use Rattle.std.specs.Prelude.{◌≡◌, IfOk, vec_len};
+ghost use Rattle.std.specs.Prelude.{◌≡◌, IfOk};
 ghost use Rattle.sockets.specs.Loopback.{IsOfLoopback};
 
 use crate::loopback::{at_loopback, directions};
 use sessions::{Accepted, Listen};
-use std::alloc::Global;
 use std::io::{self, ErrorKind};
 use std::marker::Model;
 use std::net::{Net, SocketAddr, TcpListener, TcpStream};
@@ -84,24 +83,4 @@ impl Listen for Port {
             Err(_) => Accepted::Failed,
         }
     }
-}
-
-/// That many listeners, each at a port of its own.
-///
-/// # Errors
-///
-/// Fails as `Port::open` does, and with `OutOfMemory` where memory ran out. None is open then.
-pub fn open_ports<R: Net<Listener = TcpListener, Stream = TcpStream>>(
-    net: &R,
-    alloc: Global,
-    count: usize,
-) -> io::Result<Vec<Port>>
-    ensures { IfOk result (λ v. vec_len v ≡ count) }
-{
-    let mut ports = Vec::new(alloc);
-    for opened in 0..count {
-        let port = Port::open(net)?;
-        ports.push(port)?;
-    }
-    Ok(ports)
 }

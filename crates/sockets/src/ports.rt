@@ -1,5 +1,5 @@
 //! Where all nodes accept connections, and what connects to them there.
-ghost use Rattle.std.specs.Prelude.{◌≡◌, ◌++◌, ◌∷◌, [], Some, IfOk, zip, OnErr, OnOk};
+ghost use Rattle.std.specs.Prelude.{◌≡◌, ◌++◌, ◌∷◌, [], Some, OnErr, OnOk};
 ghost use Rattle.std.specs.Io.Buffered.{reader_inner};
 ghost use Rattle.sockets.specs.Addresses.{address_of};
 
@@ -17,13 +17,13 @@ const READ_AT_ONCE: usize = 256;
 
 /// Where each of some nodes accepts connections.
 #[derive(Drop)]
-pub struct Ports<'a, R: Net> {
-    net: &'a R,
+pub struct Ports<R> {
+    net: R,
     alloc: Global,
     addresses: Vec<(Node, SocketAddr)>,
 }
 
-impl<'a, R: Net> Model for Ports<'a, R> {
+impl<R> Model for Ports<R> {
     ghost use Rattle.std.specs.Prelude.{List};
     ghost use Rattle.sockets.specs.Addresses.{NodeAddress};
 
@@ -32,9 +32,9 @@ impl<'a, R: Net> Model for Ports<'a, R> {
     ghost view = { λ p. p.addresses.items };
 }
 
-impl<'a, R: Net> Ports<'a, R> {
+impl<R: Net> Ports<R> {
     /// What connects over that network. No node has an address yet.
-    pub fn new(net: &'a R, alloc: Global) -> Ports<'a, R>
+    pub fn new(net: R, alloc: Global) -> Ports<R>
         ensures { result ≡ [] }
     {
         Ports {
@@ -57,26 +57,6 @@ impl<'a, R: Net> Ports<'a, R> {
         Ok(())
     }
 
-    /// What connects to these nodes over that network, each at its port.
-    ///
-    /// # Errors
-    ///
-    /// Fails with `NoMemory` where memory ran out.
-    pub fn of(
-        net: &'a R,
-        alloc: Global,
-        nodes: &[Node],
-        listeners: &[Port],
-    ) -> Result<Ports<'a, R>, NoMemory>
-        ensures { IfOk result (λ p. p ≡ zip nodes.now listeners.now) }
-    {
-        let mut ports = Ports::new(net, alloc);
-        for (node, port) in nodes.iter().zip(listeners) {
-            ports.add(*node, port)?;
-        }
-        Ok(ports)
-    }
-
     /// Where the node accepts connections. `None` where no port was added for it.
     pub fn address_of(&self, node: Node) -> Option<SocketAddr>
         ensures { result ≡ address_of self.now node }
@@ -86,7 +66,7 @@ impl<'a, R: Net> Ports<'a, R> {
     }
 }
 
-impl<'a, R: Net<Stream = TcpStream>> Dial for Ports<'a, R> {
+impl<R: Net<Stream = TcpStream>> Dial for Ports<R> {
     // One exchange reads a byte at a time, up to its newline.
     type Reader = BufReader<Dialled>;
 
@@ -98,7 +78,7 @@ impl<'a, R: Net<Stream = TcpStream>> Dial for Ports<'a, R> {
 
     fn connect(&self, peer: Node) -> Option<(BufReader<Dialled>, Dialled)> {
         let address = self.address_of(peer)?;
-        let (reader, writer) = dial_at(self.net, address)?;
+        let (reader, writer) = dial_at(&self.net, address)?;
         let reader = BufReader::with_capacity(self.alloc, READ_AT_ONCE, reader).ok()?;
         Some((reader, writer))
     }

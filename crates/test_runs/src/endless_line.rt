@@ -1,8 +1,9 @@
 use crate::one_node::run_alone;
 use crate::registries::registry;
 use crate::same::assert_same;
-use crate::stations::{Ended, Station, add_port, open_station, records_of};
-use sessions::Dial;
+use crate::stations::{Ended, TestNode, TestTypes, add_port, network_of, open_node, records_of};
+use desk::OpenGate;
+use sessions::{Dial, Network};
 use sockets::Ports;
 use std::alloc::Global;
 use std::io::Write;
@@ -31,7 +32,12 @@ fn drip<W: Write, R: Clock>(rt: &R, writer: &mut W, count: u32) -> bool {
 
 /// Sends the node a line that doesn't end, and stops the node meanwhile. Returns whether it took the bytes until then,
 /// and not all of those after.
-fn drip_and_stop<D: Dial, R: Wait + Clock>(rt: &R, station: &Station, dial: &D) -> bool {
+fn drip_and_stop<D, R>(rt: &R, node: &TestNode<D, OpenGate>, dial: &D) -> bool
+where
+    D: Dial + Send + Sync + Drop,
+    R: Wait + Clock,
+{
+    let station = &node.station;
     let connection = dial.connect(station.node);
     let Some((reader, mut writer)) = connection else {
         station.desk.stop(rt);
@@ -45,20 +51,16 @@ fn drip_and_stop<D: Dial, R: Wait + Clock>(rt: &R, station: &Station, dial: &D) 
 }
 
 /// A node and its client.
-fn run_and_drip<D: Dial + Sync, R: Threads + Wait + Clock + Sync>(
+fn run_and_drip<D: Dial + Send + Sync + Drop, R: Threads + Wait + Clock + Sync>(
     rt: &R,
     alloc: Global,
-    station: &Station,
-    dial: &D,
-) -> (Ended, bool)
-where
-    D::Reader: Send,
-    D::Writer: Send,
-{
+    node: &TestNode<D, OpenGate>,
+    network: &Network<TestTypes<D, OpenGate>>,
+) -> (Ended, bool) {
     thread::join(
         rt,
-        move || run_alone(rt, alloc, station, dial),
-        move || drip_and_stop(rt, station, dial),
+        move || run_alone(rt, alloc, node, network),
+        move || drip_and_stop(rt, node, &network.dialer),
     )
 }
 
@@ -66,11 +68,12 @@ where
 #[test]
 fn a_line_without_an_end(rt: HostRuntime) {
     let alloc = rt.alloc();
-    let nz = open_station(&rt, alloc, registry(&rt, "NZ"), 0);
+    let nz = open_node(&rt, alloc, registry(&rt, "NZ"), 0);
     let mut ports = Ports::new(&rt, alloc);
     add_port(&rt, &mut ports, &nz);
-    let (ended, is_cut_off) = run_and_drip(&rt, alloc, &nz, &ports);
+    let network = network_of(ports, OpenGate);
+    let (ended, is_cut_off) = run_and_drip(&rt, alloc, &nz, &network);
     assert!(rt; is_cut_off);
-    drop(ports);
+    drop(network);
     assert_same(&rt, records_of(&rt, nz, ended, None), (0, 0));
 }

@@ -3,8 +3,8 @@ use crate::given::input_of;
 use crate::registries::registry;
 use crate::same::assert_same;
 use crate::stations::{
-    COMPLETED, Ended, NodeDesk, Station, UNKNOWN, add_port, call, message, open_station,
-    records_of, refused, run_both,
+    COMPLETED, Ended, NodeDesk, TestNode, TestTypes, UNKNOWN, add_port, call, message, network_of,
+    open_node, records_of, refused, run_both,
 };
 use crate::waits::TURNS;
 use desk::{OpenGate, Seat, Told};
@@ -12,7 +12,7 @@ use exchanges::Exchange;
 use protocol::Stepped;
 use protocol::units::NoMemory;
 use protocol::wire::{Input, Message};
-use sessions::Dial;
+use sessions::{Dial, Network};
 use sockets::Ports;
 use std::alloc::Global;
 use std::process::Abort;
@@ -65,20 +65,20 @@ fn order_at<R: Wait + Clock>(
 }
 
 /// An exchange with NZ and an order to it, once JP has stopped. Then NZ stops.
-fn call_after_stop<D: Dial, R: Wait + Clock>(
+fn call_after_stop<D: Dial + Send + Sync + Drop, R: Wait + Clock>(
     rt: &R,
     alloc: Global,
-    nz: &Station,
-    jp: &Station,
+    nz: &TestNode<D, OpenGate>,
+    jp: &TestNode<D, OpenGate>,
     dial: &D,
     message: &Message,
     order: Input,
 ) -> After {
-    let stopped = wait_for_stop(rt, &jp.desk);
-    let exchanged = call(alloc, dial, nz.node, message);
-    let (told, confirmed, seat) = order_at(rt, alloc, &nz.desk, order);
-    nz.desk.stop(rt);
-    jp.desk.stop(rt);
+    let stopped = wait_for_stop(rt, &jp.station.desk);
+    let exchanged = call(alloc, dial, nz.station.node, message);
+    let (told, confirmed, seat) = order_at(rt, alloc, &nz.station.desk, order);
+    nz.station.desk.stop(rt);
+    jp.station.desk.stop(rt);
     After {
         stopped,
         exchanged,
@@ -92,29 +92,27 @@ fn call_after_stop<D: Dial, R: Wait + Clock>(
 fn run_and_stop<D, R>(
     rt: &R,
     alloc: Global,
-    nz: &Station,
-    jp: &Station,
-    dial: &D,
+    nz: &TestNode<D, OpenGate>,
+    jp: &TestNode<D, OpenGate>,
+    network: &Network<TestTypes<D, OpenGate>>,
     message: &Message,
     order: Input,
 ) -> (Result<Vec<Ended>, NoMemory>, After)
 where
-    D: Dial + Sync,
-    D::Reader: Send,
-    D::Writer: Send,
+    D: Dial + Send + Sync + Drop,
     R: Threads + Wait + Clock + Sync,
 {
     thread::join(
         rt,
-        move || run_both(rt, alloc, nz, jp, dial, &OpenGate),
-        move || call_after_stop(rt, alloc, nz, jp, dial, message, order),
+        move || run_both(rt, alloc, nz, jp, network),
+        move || call_after_stop(rt, alloc, nz, jp, &network.dialer, message, order),
     )
 }
 
 /// Asserts that NZ has the record of the order, which that seat was told of, and JP none.
-fn assert_records(
+fn assert_records<D: Dial + Send + Sync + Drop>(
     rt: &impl Abort,
-    (nz, jp): (Station, Station),
+    (nz, jp): (TestNode<D, OpenGate>, TestNode<D, OpenGate>),
     ran: Result<Vec<Ended>, NoMemory>,
     seat: Seat,
 ) {
@@ -130,14 +128,15 @@ fn assert_records(
 #[test]
 fn hundred_accepts(rt: HostRuntime) {
     let alloc = rt.alloc();
-    let nz = open_station(&rt, alloc, registry(&rt, "NZ"), MOST_FAILING);
-    let jp = open_station(&rt, alloc, registry(&rt, "JP"), u64::MAX);
+    let nz = open_node(&rt, alloc, registry(&rt, "NZ"), MOST_FAILING);
+    let jp = open_node(&rt, alloc, registry(&rt, "JP"), u64::MAX);
     let mut ports = Ports::new(&rt, alloc);
     add_port(&rt, &mut ports, &nz);
     add_port(&rt, &mut ports, &jp);
     let completed = message(&rt, alloc, COMPLETED);
     let order = input_of(&rt, alloc, CLOSE);
-    let (ran, after) = run_and_stop(&rt, alloc, &nz, &jp, &ports, &completed, order);
+    let network = network_of(ports, OpenGate);
+    let (ran, after) = run_and_stop(&rt, alloc, &nz, &jp, &network, &completed, order);
     assert!(rt; after.stopped && after.confirmed);
     assert_same(
         &rt,
@@ -146,6 +145,6 @@ fn hundred_accepts(rt: HostRuntime) {
     );
     assert_same(&rt, after.told, Told::Step(Stepped::Recorded(0)));
     drop(completed);
-    drop(ports);
+    drop(network);
     assert_records(&rt, (nz, jp), ran, after.seat);
 }

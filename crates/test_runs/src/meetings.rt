@@ -1,15 +1,15 @@
 use crate::registries::registry;
 use crate::same::assert_same;
 use crate::stations::{
-    ACCEPTED, CANCELLED, Ended, PROPOSAL, Station, UNKNOWN, add_port, call, exchange_over, message,
-    open_station, records_of, refused, run_both,
+    ACCEPTED, CANCELLED, Ended, PROPOSAL, TestNode, TestTypes, UNKNOWN, add_port, call,
+    exchange_over, message, network_of, open_node, records_of, refused, run_both,
 };
 use crate::waits::{HeldGate, Signals};
 use desk::{Gate, OpenGate};
 use exchanges::Exchange;
 use protocol::units::{NoMemory, Node};
 use protocol::wire::{Message, Reply};
-use sessions::Dial;
+use sessions::{Dial, Network};
 use sockets::Ports;
 use std::alloc::Global;
 use std::io::{self, ErrorKind, Write};
@@ -73,9 +73,9 @@ impl<'a, W: Write, R: Clock> Write for Halved<'a, W, R> {
 
 /// Two nodes that run.
 #[derive(Drop)]
-struct Pair {
-    one: Station,
-    other: Station,
+struct Pair<D: Dial + Send + Sync + Drop, G: Gate + Send + Sync + Drop> {
+    one: TestNode<D, G>,
+    other: TestNode<D, G>,
 }
 
 /// One exchange with that node over a connection of its own, in which the line is sent in two parts.
@@ -127,25 +127,26 @@ fn send_second<D: Dial, R: Clock>(
 }
 
 /// Two clients at the same time. Then both nodes stop.
-fn meet<D: Dial + Sync, R: Threads + Wait + Clock + Sync>(
+fn meet<D, G, R>(
     rt: &R,
     alloc: Global,
     dial: &D,
-    pair: &Pair,
+    pair: &Pair<D, G>,
     plan: &Plan,
     signals: &Signals,
 ) -> (bool, Option<Exchange>)
 where
-    D::Reader: Send,
-    D::Writer: Send,
+    D: Dial + Send + Sync + Drop,
+    G: Gate + Send + Sync + Drop,
+    R: Threads + Wait + Clock + Sync,
 {
     let both = thread::join(
         rt,
         move || send_first(rt, alloc, dial, plan, signals),
         move || send_second(rt, alloc, dial, plan, signals),
     );
-    pair.one.desk.stop(rt);
-    pair.other.desk.stop(rt);
+    pair.one.station.desk.stop(rt);
+    pair.other.station.desk.stop(rt);
     both
 }
 
@@ -153,30 +154,27 @@ where
 fn run_and_meet<D, G, R>(
     rt: &R,
     alloc: Global,
-    dial: &D,
-    gate: &G,
-    pair: &Pair,
+    network: &Network<TestTypes<D, G>>,
+    pair: &Pair<D, G>,
     plan: &Plan,
     signals: &Signals,
 ) -> (Result<Vec<Ended>, NoMemory>, (bool, Option<Exchange>))
 where
-    D: Dial + Sync,
-    D::Reader: Send,
-    D::Writer: Send,
-    G: Gate + Sync,
+    D: Dial + Send + Sync + Drop,
+    G: Gate + Send + Sync + Drop,
     R: Threads + Wait + Clock + Sync,
 {
     thread::join(
         rt,
-        move || run_both(rt, alloc, &pair.one, &pair.other, dial, gate),
-        move || meet(rt, alloc, dial, pair, plan, signals),
+        move || run_both(rt, alloc, &pair.one, &pair.other, network),
+        move || meet(rt, alloc, &network.dialer, pair, plan, signals),
     )
 }
 
 /// How many records the two nodes have.
-fn records_of_both(
+fn records_of_both<D: Dial + Send + Sync + Drop, G: Gate + Send + Sync + Drop>(
     rt: &impl Abort,
-    pair: Pair,
+    pair: Pair<D, G>,
     ended: Result<Vec<Ended>, NoMemory>,
 ) -> (usize, usize) {
     let Pair { one, other } = pair;
@@ -196,8 +194,8 @@ fn records_of_both(
 fn two_sessions_meet(rt: HostRuntime) {
     let alloc = rt.alloc();
     let pair = Pair {
-        one: open_station(&rt, alloc, Node::Itl, 0),
-        other: open_station(&rt, alloc, registry(&rt, "NZ"), 0),
+        one: open_node(&rt, alloc, Node::Itl, 0),
+        other: open_node(&rt, alloc, registry(&rt, "NZ"), 0),
     };
     let mut ports = Ports::new(&rt, alloc);
     add_port(&rt, &mut ports, &pair.one);
@@ -211,9 +209,10 @@ fn two_sessions_meet(rt: HostRuntime) {
         second_to: Node::Itl,
     };
     let signals = Signals::new();
-    let (ended, met) = run_and_meet(&rt, alloc, &ports, &OpenGate, &pair, &plan, &signals);
+    let network = network_of(ports, OpenGate);
+    let (ended, met) = run_and_meet(&rt, alloc, &network, &pair, &plan, &signals);
     assert_same(&rt, met, (true, Some(Exchange::Answered(Reply::Received))));
-    drop(ports);
+    drop(network);
     drop(plan);
     assert_same(&rt, records_of_both(&rt, pair, ended), (1, 0));
 }
@@ -224,8 +223,8 @@ fn nodes_apart(rt: HostRuntime) {
     let alloc = rt.alloc();
     let (nz, jp) = (registry(&rt, "NZ"), registry(&rt, "JP"));
     let pair = Pair {
-        one: open_station(&rt, alloc, nz, 0),
-        other: open_station(&rt, alloc, jp, 0),
+        one: open_node(&rt, alloc, nz, 0),
+        other: open_node(&rt, alloc, jp, 0),
     };
     let mut ports = Ports::new(&rt, alloc);
     add_port(&rt, &mut ports, &pair.one);
@@ -239,11 +238,11 @@ fn nodes_apart(rt: HostRuntime) {
         second_to: jp,
     };
     let signals = Signals::new();
-    let gate = HeldGate::new(&rt, nz, &signals);
-    let (ended, met) = run_and_meet(&rt, alloc, &ports, &gate, &pair, &plan, &signals);
+    let network = network_of(ports, HeldGate::new(&rt, nz, &signals));
+    let (ended, met) = run_and_meet(&rt, alloc, &network, &pair, &plan, &signals);
     assert_same(&rt, met, (true, Some(Exchange::Answered(Reply::Received))));
-    assert!(rt; !gate.given_up.is_set());
-    drop(ports);
+    assert!(rt; !network.gate.given_up.is_set());
+    drop(network);
     drop(plan);
     assert_same(&rt, records_of_both(&rt, pair, ended), (0, 1));
 }

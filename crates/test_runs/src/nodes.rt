@@ -6,12 +6,13 @@ use crate::registries::worked_scheme;
 use audit::load_run;
 use command_faults::OpFault;
 use desk::stores::{Kept, MemoryStore};
-use desk::{OpenGate, WallClock};
+use desk::{OpenGate, Stored, WallClock};
 use input_lines::{ScriptLine, read_script};
 use protocol::nodes_of;
 use protocol::units::Node;
-use run::{Network, run_script};
-use sockets::{Ports, open_ports};
+use run::{LoadedNode, run_script};
+use sessions::{Network, NodeTypes};
+use sockets::{Port, Ports, SocketNodes};
 use std::alloc::Global;
 use std::net::{Net, TcpListener, TcpStream};
 use std::process::Abort;
@@ -19,8 +20,9 @@ use std::rt::Clock as SystemClock;
 use std::sync::Wait;
 use std::thread::Threads;
 use weave::Nobody;
+use world::Core;
 
-/// The place of NZ among the nodes.
+/// The index of NZ among the nodes.
 const NZ: usize = 2;
 
 /// An empty store of the node, which takes that many batches before one fails, where a number is given.
@@ -38,6 +40,15 @@ fn push(rt: &impl Abort, stores: &mut Vec<MemoryStore>, store: MemoryStore)
     ensures { stores.new.items ≡ stores.old.items ++ store ∷ [] }
 {
     if stores.push(store).is_err() {
+        rt.abort();
+    }
+}
+
+/// Adds a node.
+fn push_node<N: NodeTypes>(rt: &impl Abort, nodes: &mut Vec<LoadedNode<N>>, node: LoadedNode<N>)
+    ensures { nodes.new.items ≡ nodes.old.items ++ node ∷ [] }
+{
+    if nodes.push(node).is_err() {
         rt.abort();
     }
 }
@@ -62,6 +73,31 @@ fn stores_of(
 fn lines_of(rt: &impl Abort, alloc: Global, script: &str) -> Vec<ScriptLine> {
     let mut reader = script.as_bytes();
     read_script(alloc, &mut reader).expect(rt, "a script")
+}
+
+/// The nodes, each with a listener of its own, and what connects to them there.
+fn opened<'a, R>(
+    rt: &'a R,
+    alloc: Global,
+    loaded: Vec<Stored<Core, MemoryStore>>,
+) -> (
+    Vec<LoadedNode<SocketNodes<MemoryStore, &'a R>>>,
+    Ports<&'a R>,
+)
+where
+    R: SystemClock + Net<Listener = TcpListener, Stream = TcpStream> + Abort + Sync,
+    ensures { map (λ n. n.stored) result.0.items ≡ loaded.items }
+{
+    let mut nodes = Vec::new(alloc);
+    let mut ports = Ports::new(rt, alloc);
+    for stored in loaded {
+        let listener = Port::open(rt).expect(rt, "a free port");
+        ports
+            .add(stored.state().node(), &listener)
+            .expect(rt, "memory");
+        push_node(rt, &mut nodes, LoadedNode { stored, listener });
+    }
+    (nodes, ports)
 }
 
 /// What a run of the script over empty stores of the log, of JP and of NZ returns, and what it writes. NZ's takes `passes`
@@ -105,13 +141,11 @@ where
     let nodes = nodes_of(alloc, &scheme).expect(rt, "memory");
     let stores = stores_of(rt, alloc, nodes.as_slice(), passes);
     let loaded = load_run(alloc, &scheme, stores, &mut Nobody).expect(rt, "a run");
-    let listeners = open_ports(rt, alloc, nodes.len()).expect(rt, "free ports");
-    let dial = Ports::of(rt, alloc, nodes.as_slice(), listeners.as_slice()).expect(rt, "memory");
+    let (nodes, ports) = opened(rt, alloc, loaded);
     let network = Network {
-        listeners: listeners.as_slice(),
-        dial: &dial,
-        clock: &WallClock::new(rt),
-        gate: &OpenGate,
+        dialer: ports,
+        clock: WallClock::new(rt),
+        gate: OpenGate,
     };
     let mut written = Vec::new(alloc);
     let done = run_script(
@@ -119,14 +153,12 @@ where
         alloc,
         &scheme,
         lines.as_slice(),
-        loaded,
+        nodes,
         &network,
         &mut written,
         watch,
     );
-    drop(dial);
-    drop(listeners);
-    drop(nodes);
+    drop(network);
     drop(lines);
     drop(scheme);
     match done {

@@ -10,7 +10,7 @@ use desk::stores::MemoryStore;
 use desk::{Seat, Stored};
 use protocol::scheme::Scheme;
 use protocol::units::Node;
-use run::report_run;
+use run::{EndedNode, report_run};
 use std::alloc::Global;
 use std::process::Abort;
 use world::Core;
@@ -88,22 +88,20 @@ fn told_seat(
     seat
 }
 
-/// The seats of the log, of JP and of NZ, one each, which were told of these records.
-fn seats_of(
+/// A node with these records, one of whose threads was told of those.
+fn ended_node(
     rt: &impl Abort,
     alloc: Global,
     scheme: &Scheme,
-    told: [&[Given]; 3],
-) -> [Vec<Seat>; 3] {
-    let [log, jp, nz] = told;
-    let log = told_seat(rt, alloc, scheme, Node::Itl, log);
-    let jp = told_seat(rt, alloc, scheme, registry(rt, "JP"), jp);
-    let nz = told_seat(rt, alloc, scheme, registry(rt, "NZ"), nz);
-    [
-        Vec::from_array(alloc, [log]).expect(rt, "memory"),
-        Vec::from_array(alloc, [jp]).expect(rt, "memory"),
-        Vec::from_array(alloc, [nz]).expect(rt, "memory"),
-    ]
+    node: Node,
+    row: Row<'_>,
+    told: &[Given],
+) -> EndedNode<MemoryStore> {
+    let seat = told_seat(rt, alloc, scheme, node, told);
+    EndedNode {
+        stored: state_of(rt, alloc, scheme, node, row),
+        seats: Vec::from_array(alloc, [seat]).expect(rt, "memory"),
+    }
 }
 
 /// What `report_run` returns of states with these records, and what it writes, where a thread of each was told of all
@@ -116,16 +114,14 @@ fn reported(
 ) -> (Result<(), OpFault>, Vec<u8>) {
     let scheme = worked_scheme(rt, alloc);
     let [log, jp, nz] = rows;
-    let states = [
-        state_of(rt, alloc, &scheme, Node::Itl, log),
-        state_of(rt, alloc, &scheme, registry(rt, "JP"), jp),
-        state_of(rt, alloc, &scheme, registry(rt, "NZ"), nz),
+    let ended = [
+        ended_node(rt, alloc, &scheme, Node::Itl, log, log.0),
+        ended_node(rt, alloc, &scheme, registry(rt, "JP"), jp, jp.0),
+        ended_node(rt, alloc, &scheme, registry(rt, "NZ"), nz, told),
     ];
-    let seats = seats_of(rt, alloc, &scheme, [log.0, jp.0, told]);
     let mut written = Vec::new(alloc);
-    let done = report_run(alloc, &scheme, &states, &seats, &mut written);
-    drop(seats);
-    drop(states);
+    let done = report_run(alloc, &scheme, &ended, &mut written);
+    drop(ended);
     drop(scheme);
     (done, written)
 }

@@ -7,11 +7,13 @@ use crate::given::input_of;
 use crate::nz_desk::{TEN, TEN_MORE};
 use crate::registries::registry;
 use crate::same::assert_same;
-use crate::stations::{Ended, NodeDesk, Station, StillClock, desk_of, open_station, records_of};
+use crate::stations::{
+    Ended, NodeDesk, TestNode, TestTypes, desk_of, network_of, open_node, records_of, threads_of,
+};
 use crate::waits::TURNS;
 use desk::{OpenGate, Seat};
 use protocol::units::Node;
-use sessions::{Dial, NodeParts, NodeThreads, Sent, run_node, send_next};
+use sessions::{Dial, Network, Sent, run_node, send_next};
 use std::alloc::Global;
 use std::net::{Net, TcpListener, TcpStream};
 use std::process::Abort;
@@ -46,32 +48,28 @@ impl Dial for FailingDial {
     }
 }
 
+/// Nodes that send over such connections.
+type SendingTypes = TestTypes<FailingDial, OpenGate>;
+
+/// One of them.
+type SendingNode = TestNode<FailingDial, OpenGate>;
+
 /// Runs a node that sends to those nodes.
 fn run_sending<R: Threads + Wait + Clock + Sync>(
     rt: &R,
     alloc: Global,
-    station: &Station,
-    dial: &FailingDial,
+    node: &SendingNode,
+    network: &Network<SendingTypes>,
     peers: &[Node],
 ) -> Ended {
-    let parts = NodeParts {
-        node: station.node,
-        desk: &station.desk,
-        listen: &station.listen,
-        dial,
-        peers,
-        clock: &StillClock,
-        gate: &OpenGate,
-        muster: &station.muster,
-    };
-    run_node(rt, alloc, &NodeThreads::new(alloc, parts)?)
+    run_node(rt, alloc, &threads_of(alloc, node, network, peers)?)
 }
 
 /// Waits until that many connections were asked for, at most `TURNS` turns of one millisecond, and stops the node.
 /// Returns whether they were.
 fn wait_and_stop<R: Wait + Clock>(
     rt: &R,
-    station: &Station,
+    node: &SendingNode,
     dial: &FailingDial,
     connects: u64,
 ) -> bool {
@@ -83,7 +81,7 @@ fn wait_and_stop<R: Wait + Clock>(
         }
         thread::sleep(rt, Duration::from_millis(1));
     }
-    station.desk.stop(rt);
+    node.station.desk.stop(rt);
     are_asked
 }
 
@@ -91,15 +89,15 @@ fn wait_and_stop<R: Wait + Clock>(
 fn run_and_wait<R: Threads + Wait + Clock + Sync>(
     rt: &R,
     alloc: Global,
-    station: &Station,
-    dial: &FailingDial,
+    node: &SendingNode,
+    network: &Network<SendingTypes>,
     peers: &[Node],
     connects: u64,
 ) -> (Ended, bool) {
     thread::join(
         rt,
-        move || run_sending(rt, alloc, station, dial, peers),
-        move || wait_and_stop(rt, station, dial, connects),
+        move || run_sending(rt, alloc, node, network, peers),
+        move || wait_and_stop(rt, node, &network.dialer, connects),
     )
 }
 
@@ -118,15 +116,16 @@ fn sends_both<R>(rt: &R, alloc: Global, failing: u64) -> bool
 where
     R: Threads + Wait + Clock + Net<Listener = TcpListener, Stream = TcpStream> + Abort + Sync,
 {
-    let nz = open_station(rt, alloc, registry(rt, "NZ"), 0);
-    let seat = seat_of_two(rt, alloc, &nz.desk);
-    let dial = FailingDial {
+    let nz: SendingNode = open_node(rt, alloc, registry(rt, "NZ"), 0);
+    let seat = seat_of_two(rt, alloc, &nz.station.desk);
+    let dialer = FailingDial {
         peer: Node::Itl,
         failing,
         connects: AtomicU64::new(0),
     };
+    let network = network_of(dialer, OpenGate);
     let connects = failing.saturating_add(2);
-    let (ended, are_sent) = run_and_wait(rt, alloc, &nz, &dial, &[Node::Itl], connects);
+    let (ended, are_sent) = run_and_wait(rt, alloc, &nz, &network, &[Node::Itl], connects);
     let (records, _) = records_of(rt, nz, ended, Some(seat));
     are_sent && records >= 3
 }

@@ -10,11 +10,11 @@ use protocol::NodeCore;
 use protocol::status::Moment;
 use protocol::units::{NoMemory, Node};
 use protocol::wire::{Message, Reply, ReplyCode, decode};
-use sessions::{Accepted, Dial, Listen, Muster, NodeParts, NodeThreads, run_all};
+use sessions::{Accepted, Dial, Listen, Muster, Network, NodeThreads, NodeTypes, Station, run_all};
 use sockets::{Port, Ports};
 use std::alloc::Global;
 use std::io::{Read, Write};
-use std::marker::Brand;
+use std::marker::{Brand, PhantomData};
 use std::net::{Net, TcpListener, TcpStream};
 use std::process::Abort;
 use std::rt::Clock as SystemClock;
@@ -96,12 +96,41 @@ impl Listen for FailingPort {
     }
 }
 
-/// A node, its desk, what accepts its connections, and where its threads report.
+/// Of what types the nodes of these tests are: with stores in memory and a clock that stands still.
+pub struct TestTypes<D, G> {
+    dialer: PhantomData<D>,
+    gate: PhantomData<G>,
+}
+
+impl<D: Dial + Send + Sync + Drop, G: Gate + Send + Sync + Drop> NodeTypes for TestTypes<D, G> {
+    type Store = MemoryStore;
+
+    type Listener = FailingPort;
+
+    type Dialer = D;
+
+    type Clock = StillClock;
+
+    type Gate = G;
+}
+
+/// How nodes of the tests meet.
+pub fn network_of<D, G>(dialer: D, gate: G) -> Network<TestTypes<D, G>>
+where
+    D: Dial + Send + Sync + Drop,
+    G: Gate + Send + Sync + Drop,
+{
+    Network {
+        dialer,
+        clock: StillClock,
+        gate,
+    }
+}
+
+/// A node, and where its threads report.
 #[derive(Drop)]
-pub struct Station {
-    pub node: Node,
-    pub desk: NodeDesk,
-    pub listen: FailingPort,
+pub struct TestNode<D: Dial + Send + Sync + Drop, G: Gate + Send + Sync + Drop> {
+    pub station: Station<Brand, Core, TestTypes<D, G>>,
     pub muster: Muster,
 }
 
@@ -119,22 +148,31 @@ pub fn desk_of(rt: &impl Abort, alloc: Global, node: Node) -> NodeDesk {
     }
 }
 
-/// A node's station, at whose port the first `failing` accepts fail.
-pub fn open_station<R>(rt: &R, alloc: Global, node: Node, failing: u64) -> Station
+/// A node, at whose port the first `failing` accepts fail.
+pub fn open_node<D, G, R>(rt: &R, alloc: Global, node: Node, failing: u64) -> TestNode<D, G>
 where
+    D: Dial + Send + Sync + Drop,
+    G: Gate + Send + Sync + Drop,
     R: Net<Listener = TcpListener, Stream = TcpStream> + Abort,
 {
-    Station {
-        node,
-        desk: desk_of(rt, alloc, node),
-        listen: FailingPort::open(rt, failing),
+    TestNode {
+        station: Station {
+            node,
+            desk: desk_of(rt, alloc, node),
+            listener: FailingPort::open(rt, failing),
+        },
         muster: Muster::new(),
     }
 }
 
-/// The node's connections are accepted at its station's port.
-pub fn add_port<R: Net>(rt: &impl Abort, ports: &mut Ports<'_, R>, station: &Station) {
-    let added = ports.add(station.node, &station.listen.port);
+/// The node's connections are accepted at its port.
+pub fn add_port<D, G, R>(rt: &impl Abort, ports: &mut Ports<R>, node: &TestNode<D, G>)
+where
+    D: Dial + Send + Sync + Drop,
+    G: Gate + Send + Sync + Drop,
+    R: Net,
+{
+    let added = ports.add(node.station.node, &node.station.listener.port);
     added.expect(rt, "memory");
 }
 
@@ -165,48 +203,36 @@ pub fn call<D: Dial>(alloc: Global, dial: &D, peer: Node, message: &Message) -> 
     Some(exchange_over(alloc, reader, writer, message))
 }
 
-/// The threads of a node that sends to none.
+/// The threads of a node that sends to those nodes.
 pub fn threads_of<'a, D, G>(
     alloc: Global,
-    station: &'a Station,
-    dial: &'a D,
-    gate: &'a G,
-) -> Result<
-    NodeThreads<'a, Brand, Core, MemoryStore, RoomBell, FailingPort, D, StillClock, G>,
-    NoMemory,
-> {
-    let parts = NodeParts {
-        node: station.node,
-        desk: &station.desk,
-        listen: &station.listen,
-        dial,
-        peers: &[],
-        clock: &StillClock,
-        gate,
-        muster: &station.muster,
-    };
-    NodeThreads::new(alloc, parts)
+    node: &'a TestNode<D, G>,
+    network: &'a Network<TestTypes<D, G>>,
+    peers: &'a [Node],
+) -> Result<NodeThreads<'a, Brand, Core, TestTypes<D, G>>, NoMemory>
+where
+    D: Dial + Send + Sync + Drop,
+    G: Gate + Send + Sync + Drop,
+{
+    NodeThreads::new(alloc, &node.station, network, peers, &node.muster)
 }
 
 /// Runs two nodes that send to none.
 pub fn run_both<D, G, R>(
     rt: &R,
     alloc: Global,
-    one: &Station,
-    other: &Station,
-    dial: &D,
-    gate: &G,
+    one: &TestNode<D, G>,
+    other: &TestNode<D, G>,
+    network: &Network<TestTypes<D, G>>,
 ) -> Result<Vec<Ended>, NoMemory>
 where
-    D: Dial + Sync,
-    D::Reader: Send,
-    D::Writer: Send,
-    G: Gate + Sync,
+    D: Dial + Send + Sync + Drop,
+    G: Gate + Send + Sync + Drop,
     R: Threads + Wait + SystemClock + Sync,
 {
     let mut nodes = Vec::new(alloc);
-    nodes.push(threads_of(alloc, one, dial, gate)?)?;
-    nodes.push(threads_of(alloc, other, dial, gate)?)?;
+    nodes.push(threads_of(alloc, one, network, &[])?)?;
+    nodes.push(threads_of(alloc, other, network, &[])?)?;
     run_all(rt, alloc, nodes)
 }
 
@@ -230,15 +256,15 @@ fn state_left(rt: &impl Abort, desk: NodeDesk) -> State<Core> {
 
 /// How many records the node has and how many it has committed, as its threads were told, and whoever has that other
 /// seat.
-pub fn records_of(
+pub fn records_of<D: Dial + Send + Sync + Drop, G: Gate + Send + Sync + Drop>(
     rt: &impl Abort,
-    station: Station,
+    node: TestNode<D, G>,
     end: Ended,
     other: Option<Seat>,
 ) -> (usize, usize) {
     let seats = seats_of(rt, end, other);
-    drop(station.listen);
-    let state = state_left(rt, station.desk);
+    drop(node.station.listener);
+    let state = state_left(rt, node.station.desk);
     let life = settle(&state, seats.as_slice()).expect(rt, "a life");
     drop(state);
     drop(seats);

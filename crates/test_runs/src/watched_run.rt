@@ -17,7 +17,7 @@ impl run::Watch for Told {
         self.answered = self.answered.saturating_add(1);
     }
 
-    fn is_due(&mut self) -> bool {
+    fn wants_count(&mut self) -> bool {
         true
     }
 

@@ -8,13 +8,13 @@ use Rattle.run.proofs.playing.play.Goals as goal
 
 pub returns-in-Some-clause-heard : goal.returns-in-Some-clause-heard
 returns-in-Some-clause-heard g c =
-    let place = c.in-Some.ensures.some in
-    let low : c.in-Some.at < length c.args.seats.now = omega (arith, place.1, c.requires.seats) in (
-      place.2,
+    let index = c.in-Some.ensures.some in
+    let low : c.in-Some.at < length c.args.seats.now = omega (arith, index.1, c.requires.seats) in (
+      index.2,
       record {
         at = c.in-Some.at;
         seat = c.ask.new.seat;
-        place = place.0;
+        index = index.0;
         is =
             slice_get_read (set c.args.seats.now c.in-Some.at c.ask.new.seat) (length c.args.seats.now) c.in-Some.at c.ask.new.seat (sym (length-set c.args.seats.now c.in-Some.at c.ask.new.seat)) low
             (sym (get_or-set_same c.args.seats.now c.in-Some.at c.ask.new.seat c.ask.new.seat low));
@@ -24,16 +24,16 @@ returns-in-Some-clause-heard g c =
 
 pub returns-in-Some-clause-grow : goal.returns-in-Some-clause-grow
 returns-in-Some-clause-grow g c =
-    let place = c.in-Some.ensures.some in
-    let low : c.in-Some.at < length c.args.seats.now = omega (arith, place.1, c.requires.seats) in
+    let index = c.in-Some.ensures.some in
+    let low : c.in-Some.at < length c.args.seats.now = omega (arith, index.1, c.requires.seats) in
     grow_at c.args.seats.now c.in-Some.at _ c.ask.new.seat (slice_get-get_or c.args.seats.now c.in-Some.at _ low) c.ask.ensures.grows
 
 pub returns-in-Some-clause-orders : goal.returns-in-Some-clause-orders
 returns-in-Some-clause-orders g c =
-    let place = c.in-Some.ensures.some in
-    let low : c.in-Some.at < length c.args.seats.now = omega (arith, place.1, c.requires.seats) in
+    let index = c.in-Some.ensures.some in
+    let low : c.in-Some.at < length c.args.seats.now = omega (arith, index.1, c.requires.seats) in
     λ lines answers len have. orders_asked c.args.scheme.now lines answers c.args.seats.now c.args.line.now len have c.ask.result c.in-Some.at _ c.ask.new.seat
-    (slice_get-get_or c.args.seats.now c.in-Some.at _ low) place.0 place.2 c.ask.ensures.adds c.ask.ensures.notes
+    (slice_get-get_or c.args.seats.now c.in-Some.at _ low) index.0 index.2 c.ask.ensures.adds c.ask.ensures.notes
 
 pub returns-in-None-clause-orders : goal.returns-in-None-clause-orders
 returns-in-None-clause-orders g c = λ lines answers len have. orders_impossible c.args.scheme.now lines answers c.args.seats.now c.args.line.now len have

@@ -3,14 +3,14 @@ use Rattle.std.specs.Prelude.{All}
 use Rattle.protocol.specs.Registries.{nodes}
 use Rattle.desk.specs.Views.{committed_records}
 use Rattle.world.specs.Cores.{journal_of, node_of, scheme_of}
-use Rattle.run.specs.Runs.{states_of}
+use Rattle.run.specs.Ended.{seats_in, states_in}
 use Rattle.run.specs.Settled.{AreSettledTo}
 use Rattle.run.proofs.reporting.add_settled.Given as goal
 
 abbrev pub invariant-loop-at : goal.invariant-loop-at
 invariant-loop-at g l = record {
-  settled : AreSettledTo l.at l.scheme (states_of l.stored) (map (λ v. v.items) l.seats);
+  settled : AreSettledTo l.at l.scheme (states_in l.ended) (seats_in l.ended);
   nodes_are : map node_of l.cores.items ≡ take l.at (nodes l.scheme);
   schemes : All (λ core. scheme_of core ≡ l.scheme) l.cores.items;
-  journals : map journal_of l.cores.items ≡ map committed_records (take l.at (states_of l.stored));
+  journals : map journal_of l.cores.items ≡ map committed_records (take l.at (states_in l.ended));
 }

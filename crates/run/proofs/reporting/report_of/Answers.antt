@@ -1,9 +1,9 @@
-use Rattle.std.proofs.Common.{List, map, string_bytes, subst}
+use Rattle.std.proofs.Common.{List, string_bytes, subst}
 use Rattle.protocol.specs.Input.{Input}
 use Rattle.audit.specs.Audits.{FailsToWeave, IsAuditTable}
 use Rattle.run.proofs.Settling.{of_settling, of_weaving}
 use Rattle.run.proofs.Written.{if_err, if_ok}
-use Rattle.run.specs.Runs.{states_of}
+use Rattle.run.specs.Ended.{seats_in, states_in}
 use Rattle.run.proofs.reporting.report_of.Goals as goal
 
 pub returns-in-Ok-clause-ok : goal.returns-in-Ok-clause-ok
@@ -17,8 +17,8 @@ pub returns-in-Ok-clause-err : goal.returns-in-Ok-clause-err
 returns-in-Ok-clause-err g c =
     let committed = c.in-Ok.ensures.journals in
     if_err c.table_of_cores.result
-    (λ e h. of_weaving c.args.scheme.now (states_of c.args.stored.now) (map (λ v. v.items) c.args.seats.now) e c.in-Ok.ensures.ok (subst (λ (js : List (List Input)). FailsToWeave c.args.scheme.now js e) committed h))
+    (λ e h. of_weaving c.args.scheme.now (states_in c.args.ended.now) (seats_in c.args.ended.now) e c.in-Ok.ensures.ok (subst (λ (js : List (List Input)). FailsToWeave c.args.scheme.now js e) committed h))
     c.table_of_cores.ensures.err
 
 pub returns-in-Err-clause-err : goal.returns-in-Err-clause-err
-returns-in-Err-clause-err g c = of_settling c.args.scheme.now (states_of c.args.stored.now) (map (λ v. v.items) c.args.seats.now) c.in-Err.fault c.in-Err.ensures.err
+returns-in-Err-clause-err g c = of_settling c.args.scheme.now (states_in c.args.ended.now) (seats_in c.args.ended.now) c.in-Err.fault c.in-Err.ensures.err

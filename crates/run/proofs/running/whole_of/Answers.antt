@@ -1,31 +1,46 @@
-use Rattle.std.proofs.Common.{◌≡◌, ◌∙◌, List, length, map, string_bytes, sym, ap, subst}
+use Rattle.std.proofs.Common.{◌≡◌, ◌∙◌, List, length, string_bytes, sym, ap, subst}
 use Rattle.std.proofs.lemmas.List.{length-map}
+use Rattle.std.proofs.lemmas.Result.{err_from_is_err_and}
 use Rattle.units.specs.declared.code.Node.{Node}
-use Rattle.desk.specs.Keeping.{StoredView}
+use Rattle.protocol.specs.Registries.{nodes}
+use Rattle.run.specs.Ended.{seats_in, states_in, stored_in}
 use Rattle.run.specs.Gathered.{AreGathered}
-use Rattle.run.specs.Runs.{HaveEnded, HaveOthers, IsRunReport, states_of}
+use Rattle.run.specs.Runs.{HaveEnded, HaveOthers, IsRunReport}
+use Rattle.run.specs.declared.gathering.EndedNode.{EndedNode}
 use Rattle.run.proofs.Written.{late_fault}
 use Rattle.run.proofs.running.whole_of.Goals as goal
 
-pub with_table-text-requires-clause-states : goal.with_table-text-requires-clause-states
-with_table-text-requires-clause-states g c =
-    let value : c.as_slice.result.now ≡ c.in_ok-nodes.field-0.nodes.items = c.as_slice.ensures.value in
-    let ended = c.in_ok-nodes.ensures.ended in
-    ap (λ (l : List (StoredView g.row.S.Denot)). length l) value ∙ (sym (length-map c.in_ok-nodes.field-0.nodes.items (λ e. e.state.node)) ∙ ap (λ (l : List Node). length l) ended.nodes_are)
+pub end_all-requires-clause-script : goal.end_all-requires-clause-script
+end_all-requires-clause-script g c = λ lifetimes live.
+    let stations = c.args.stations in
+    c.requires.seats ∙ sym (stations.ok.0 ∙ sym (length-map stations.items (λ s. s.node)) ∙ ap (λ (l : List Node). length l) c.requires.stations)
+
+pub with_table-text-requires-clause-ended : goal.with_table-text-requires-clause-ended
+with_table-text-requires-clause-ended g c =
+    let ended = c.in_ok-ended.ended.items in
+    let value : c.as_slice.result.now ≡ ended = c.as_slice.ensures.value in
+    ap (λ (l : List (EndedNode g.row.N-Store.Denot)). length l) value ∙ (sym (length-map (stored_in ended) (λ e. e.state.node) ∙ length-map ended (λ e. e.stored)) ∙ ap (λ (l : List Node). length l) (c.in_ok-ended.ensures.ended c.args.scheme.now c.requires.stations).nodes_are)
 
 pub returns-in-Ok-clause-ok : goal.returns-in-Ok-clause-ok
 returns-in-Ok-clause-ok g c =
     let scheme = c.args.scheme.now in
-    let value : c.as_slice.result.now ≡ c.in_ok-nodes.field-0.nodes.items = c.as_slice.ensures.value in
-    let seats : c.as_slice-2.result.now ≡ c.in_ok-nodes.field-0.seats.items = c.as_slice-2.ensures.value in
-    let gathered : AreGathered g.T.Taking.takes c.args.seats.items (map (λ v. v.items) c.as_slice-2.result.now) = rw seats c.in_ok-nodes.ensures.seats in
-    let each : length c.args.seats.items ≡ _ = sym c.args.seats.ok.0 ∙ c.requires.seats in
-    λ lines told played answers. subst (λ (ns : List (StoredView g.row.S.Denot)). IsRunReport scheme lines (states_of ns) (string_bytes c.in-Ok.text) × HaveOthers g.T.Taking.takes scheme (states_of ns)) value
+    let value : c.as_slice.result.now ≡ c.in_ok-ended.ended.items = c.as_slice.ensures.value in
+    let gathered : AreGathered g.T.Taking.takes c.args.seats.items (seats_in c.as_slice.result.now) = rw value c.in_ok-ended.ensures.seats in
+    let each : length c.args.seats.items ≡ length (nodes scheme) = sym c.args.seats.ok.0 ∙ c.requires.seats in
+    λ lines told played answers. subst (λ (ns : List (EndedNode g.row.N-Store.Denot)). IsRunReport scheme lines (states_in ns) (string_bytes c.in-Ok.text) × HaveOthers g.T.Taking.takes scheme (states_in ns)) value
     (c.in-Ok.ensures.ok c.args.seats.items each gathered lines told played answers)
+
+pub returns-in_err-ended-clause-err : goal.returns-in_err-ended-clause-err
+returns-in_err-ended-clause-err g c =
+    let p = err_from_is_err_and c.from_residual.result c.from_residual.ensures.1 in
+    rw (p.1, p.2) (c.in_err-ended.ensures.err c.args.scheme.now)
+
+pub returns-in-Ok-clause-ended : goal.returns-in-Ok-clause-ended
+returns-in-Ok-clause-ended g c = c.in_ok-ended.ensures.ended c.args.scheme.now c.requires.stations
 
 pub returns-in-Err-clause-err : goal.returns-in-Err-clause-err
 returns-in-Err-clause-err g c =
     let scheme = c.args.scheme.now in
-    let value : c.as_slice.result.now ≡ c.in_ok-nodes.field-0.nodes.items = c.as_slice.ensures.value in
-    late_fault g.S.NodeStore g.O.Opening.opened scheme c.in-Err.fault c.as_slice.result.now (map (λ v. v.items) c.as_slice-2.result.now)
-    (subst (HaveEnded g.S.NodeStore g.O.Opening.opened scheme) (sym value) c.in_ok-nodes.ensures.ended) c.in-Err.ensures.err
+    let value : c.as_slice.result.now ≡ c.in_ok-ended.ended.items = c.as_slice.ensures.value in
+    late_fault g.N.Store.NodeStore g.O.Opening.opened scheme c.in-Err.fault (stored_in c.as_slice.result.now) (seats_in c.as_slice.result.now)
+    (subst (λ (ns : List (EndedNode g.row.N-Store.Denot)). HaveEnded g.N.Store.NodeStore g.O.Opening.opened scheme (stored_in ns)) (sym value) (c.in_ok-ended.ensures.ended scheme c.requires.stations)) c.in-Err.ensures.err

@@ -2,4 +2,4 @@ use Rattle.sessions.specs.Threads.{AreOfThread}
 use Rattle.sessions.proofs.senders.send_all.Given as goal
 
 abbrev pub invariant-loop : goal.invariant-loop
-invariant-loop g l = AreOfThread (g.D.Dial.leads l.fn.parts.dial.now) g.D.Reader.Read.remaining g.D.Writer.Write.contents g.S.NodeStore g.O.Opening.opened (g.K.Clock.tells l.fn.parts.clock.now) l.seat
+invariant-loop g l = AreOfThread (g.N.Dialer.Dial.leads l.fn.network.dialer) g.N.Dialer.Reader.Read.remaining g.N.Dialer.Writer.Write.contents g.N.Store.NodeStore g.O.Opening.opened (g.N.Clock.Clock.tells l.fn.network.clock) l.seat

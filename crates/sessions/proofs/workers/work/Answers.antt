@@ -3,4 +3,4 @@ use Rattle.sessions.proofs.workers.work.Goals as goal
 
 pub loop-preserved : goal.loop-preserved
 loop-preserved g c =
-    after_answer (g.D.Dial.leads c.args.parts.now.dial.now) g.D.Reader.Read.remaining g.D.Writer.Write.contents g.S.NodeStore g.O.Opening.opened (g.K.Clock.tells c.args.parts.now.clock.now) c.loop.seat c.answer_job-answer.new.seat _ _ c.answer_job-answer.ensures.asks c.loop.invariant
+    after_answer (g.N.Dialer.Dial.leads c.args.network.now.dialer) g.N.Dialer.Reader.Read.remaining g.N.Dialer.Writer.Write.contents g.N.Store.NodeStore g.O.Opening.opened (g.N.Clock.Clock.tells c.args.network.now.clock) c.loop.seat c.answer_job-answer.new.seat _ _ c.answer_job-answer.ensures.asks c.loop.invariant

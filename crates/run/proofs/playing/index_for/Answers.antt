@@ -1,7 +1,7 @@
 use Rattle.std.proofs.Common.{◌∙◌, ap, sym}
 use Rattle.run.specs.Answers.{is_possible, node_of}
-use Rattle.run.proofs.Places.{order_nowhere, order_placed, question_nowhere, question_placed}
-use Rattle.run.proofs.playing.place_for.Goals as goal
+use Rattle.run.proofs.Indices.{order_nowhere, order_placed, question_nowhere, question_placed}
+use Rattle.run.proofs.playing.index_for.Goals as goal
 
 pub returns-then-takes-clause-some : goal.returns-then-takes-clause-some
 returns-then-takes-clause-some c =

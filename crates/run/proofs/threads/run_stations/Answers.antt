@@ -1,0 +1,17 @@
+use Rattle.std.proofs.Common.{◌≡◌, ◌∙◌, sym, subst}
+use Rattle.sessions.specs.Threads.{AreOfThread}
+use Rattle.run.proofs.Wired.{all_taken}
+use Rattle.run.proofs.Written.{both_ok}
+use Rattle.run.proofs.threads.run_stations.Goals as goal
+
+pub returns-clause-taken : goal.returns-clause-taken
+returns-clause-taken g c =
+    let network = c.args.network.now in
+    let nodes = c.in_ok-nodes.nodes in
+    both_ok c.run_beside.result
+    (λ heard len each. all_taken nodes.items (λ n. n.network.now ≡ network)
+    (λ n. AreOfThread (g.N.Dialer.Dial.leads n.network.now.dialer) g.N.Dialer.Reader.Read.remaining g.N.Dialer.Writer.Write.contents g.N.Store.NodeStore g.O.Opening.opened (g.N.Clock.Clock.tells n.network.now.clock))
+    (AreOfThread (g.N.Dialer.Dial.leads network.dialer) g.N.Dialer.Reader.Read.remaining g.N.Dialer.Writer.Write.contents g.N.Store.NodeStore g.O.Opening.opened (g.N.Clock.Clock.tells network.clock))
+    (λ n alike s of. subst (λ net. AreOfThread (g.N.Dialer.Dial.leads net.dialer) g.N.Dialer.Reader.Read.remaining g.N.Dialer.Writer.Write.contents g.N.Store.NodeStore g.O.Opening.opened (g.N.Clock.Clock.tells net.clock) s) alike of)
+    c.in_ok-nodes.ensures.network heard.threads.items (sym heard.threads.ok.0 ∙ len ∙ nodes.ok.0) each)
+    c.run_beside.ensures.len c.run_beside.ensures.taken

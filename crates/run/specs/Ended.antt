@@ -1,0 +1,17 @@
+-- What a run leaves of its nodes, seen by a part of each.
+use Rattle.std.specs.Prelude.{List, map}
+use Rattle.desk.specs.Keeping.{StoredView}
+use Rattle.desk.specs.Views.{StateView, SeatView}
+use Rattle.run.specs.Runs.{states_of}
+use Rattle.run.specs.declared.gathering.EndedNode.{EndedNode}
+
+-- the state of each with its store
+abbrev pub stored_in : {S : Type 0} → List (EndedNode S) → List (StoredView S)
+stored_in ended = map (λ e. e.stored) ended
+
+abbrev pub states_in : {S : Type 0} → List (EndedNode S) → List StateView
+states_in ended = states_of (stored_in ended)
+
+-- the seats of all that each one's desk told something
+abbrev pub seats_in : {S : Type 0} → List (EndedNode S) → List (List SeatView)
+seats_in ended = map (λ e. e.seats.items) ended

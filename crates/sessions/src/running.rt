@@ -1,0 +1,136 @@
+//! Nodes that run in threads.
+ghost use Rattle.std.specs.Prelude.{◌≡◌, [], ℕ, All, length, vec_len, slice_get, IfOk, Ok, Some};
+ghost use Rattle.std.specs.Thread.{IsSync};
+ghost use Rattle.sessions.specs.Orders.{HasNoOrder, HaveNoOrders};
+ghost use Rattle.sessions.specs.Threads.{AreOfThread, thread_count};
+
+use crate::network::NodeTypes;
+use crate::node_threads::NodeThreads;
+use desk::{Opening, Seat};
+use protocol::NodeCore;
+use std::alloc::Global;
+use std::rt::Clock as SystemClock;
+use std::sync::Wait;
+use std::thread;
+use std::thread::Threads;
+use units::NoMemory;
+
+/// That many seats that were told nothing. Fails with `NoMemory` if memory runs out.
+pub fn new_seats(alloc: Global, count: usize) -> Result<Vec<Seat>, NoMemory>
+    ensures len { IfOk result (λ seats. vec_len seats ≡ count) }
+    ensures none { IfOk result (λ seats. All (λ s. (s.tickets ≡ []) × (s.notes ≡ [])) seats.items) }
+{
+    let mut seats = Vec::new(alloc);
+    for made in 0..count {
+        seats.push(Seat::new(alloc))?;
+    }
+    Ok(seats)
+}
+
+/// Runs a node's threads until all have ended, and returns the seat of each, in the order of their indices. Fails with
+/// `NoMemory` where memory ran out, and no thread was started.
+///
+/// Where the system has no thread for one of them, another runs it once it has ended its own, and until then it hasn't
+/// begun. Whoever gives orders at the node's desk waits until all have begun, and stops the desk where one is missing.
+pub fn run_node<O, C, N, R>(
+    rt: &R,
+    alloc: Global,
+    node: &NodeThreads<'_, O, C, N>,
+) -> Result<Vec<Seat>, NoMemory>
+where
+    O: Opening + Send,
+    C: NodeCore + Send,
+    N: NodeTypes,
+    R: Threads + Wait + SystemClock + Sync,
+    ensures len { IfOk result (λ seats. vec_len seats ≡ thread_count (length node.now.peers.now)) }
+    ensures taken { IfOk result (λ seats. All (AreOfThread
+        (N.Dialer.leads node.now.network.now.dialer) N.Dialer.Reader.remaining N.Dialer.Writer.contents
+        N.Store.NodeStore O.opened (N.Clock.tells node.now.network.now.clock)) seats.items) }
+    ensures none { IfOk result (λ seats. All HasNoOrder seats.items) }
+{
+    let mut seats = new_seats(alloc, node.count())?;
+    let threads = seats.len().max(1);
+    thread::for_each_mut(
+        rt,
+        seats.as_mut_slice(),
+        threads,
+        // That `rt` may be shared isn't inferred here.
+        &|index: usize, seat: &mut Seat|
+            requires sync { IsSync R.row }
+            requires taken { AreOfThread
+                (N.Dialer.leads node.now.network.now.dialer) N.Dialer.Reader.remaining N.Dialer.Writer.contents
+                N.Store.NodeStore O.opened (N.Clock.tells node.now.network.now.clock) seat.old }
+            ensures taken { AreOfThread
+                (N.Dialer.leads node.entry.now.network.now.dialer) N.Dialer.Reader.remaining N.Dialer.Writer.contents
+                N.Store.NodeStore O.opened (N.Clock.tells node.entry.now.network.now.clock) seat.new }
+            ensures none { HasNoOrder seat.new }
+        { node.run_thread(rt, index, seat) },
+    );
+    Ok(seats)
+}
+
+/// As `run_node`. Where memory ran out, the node has stopped.
+fn run_one<O, C, N, R>(
+    rt: &R,
+    alloc: Global,
+    node: &NodeThreads<'_, O, C, N>,
+) -> Result<Vec<Seat>, NoMemory>
+where
+    O: Opening + Send,
+    C: NodeCore + Send,
+    N: NodeTypes,
+    R: Threads + Wait + SystemClock + Sync,
+    ensures len { IfOk result (λ seats. vec_len seats ≡ thread_count (length node.now.peers.now)) }
+    ensures taken { IfOk result (λ seats. All (AreOfThread
+        (N.Dialer.leads node.now.network.now.dialer) N.Dialer.Reader.remaining N.Dialer.Writer.contents
+        N.Store.NodeStore O.opened (N.Clock.tells node.now.network.now.clock)) seats.items) }
+    ensures none { IfOk result (λ seats. All HasNoOrder seats.items) }
+{
+    let seats = run_node(rt, alloc, node);
+    if seats.is_err() {
+        node.give_up(rt);
+    }
+    seats
+}
+
+/// Runs several nodes, each as `run_node` does, until the threads of all have ended, and returns the seats of each in
+/// the order of the nodes. What happens at one node stops no other one; where memory ran out for a node's threads, it
+/// has `NoMemory` in place of seats, and has stopped. Fails with `NoMemory` where memory ran out: then nothing is told
+/// of what the threads did.
+pub fn run_all<O, C, N, R>(
+    rt: &R,
+    alloc: Global,
+    nodes: Vec<NodeThreads<'_, O, C, N>>,
+) -> Result<Vec<Result<Vec<Seat>, NoMemory>>, NoMemory>
+where
+    O: Opening + Send,
+    C: NodeCore + Send,
+    N: NodeTypes,
+    R: Threads + Wait + SystemClock + Sync,
+    ensures count { IfOk result (λ ends. vec_len ends ≡ vec_len nodes.entry) }
+    ensures seats { IfOk result
+        (λ ends. (k : ℕ) (node : _) (seats : _) → slice_get nodes.entry.items k ≡ Some node
+        → slice_get ends.items k ≡ Some (Ok seats)
+        → vec_len seats ≡ thread_count (length node.peers.now)) }
+    ensures taken { IfOk result
+        (λ ends. (k : ℕ) (node : _) (seats : _) → slice_get nodes.entry.items k ≡ Some node
+        → slice_get ends.items k ≡ Some (Ok seats)
+        → All (AreOfThread
+        (N.Dialer.leads node.network.now.dialer) N.Dialer.Reader.remaining N.Dialer.Writer.contents
+        N.Store.NodeStore O.opened (N.Clock.tells node.network.now.clock)) seats.items) }
+    ensures none { IfOk result (λ ends. HaveNoOrders ends.items) }
+{
+    let ends = thread::map_vec(
+        rt,
+        nodes,
+        &|node: NodeThreads<'_, O, C, N>| -> Result<Vec<Seat>, NoMemory>
+            requires { IsSync R.row }
+            ensures len { IfOk result (λ seats. vec_len seats ≡ thread_count (length node.entry.peers.now)) }
+            ensures taken { IfOk result (λ seats. All (AreOfThread
+                (N.Dialer.leads node.entry.network.now.dialer) N.Dialer.Reader.remaining N.Dialer.Writer.contents
+                N.Store.NodeStore O.opened (N.Clock.tells node.entry.network.now.clock)) seats.items) }
+            ensures none { IfOk result (λ seats. All HasNoOrder seats.items) }
+        { run_one(rt, alloc, &node) },
+    )?;
+    Ok(ends)
+}

@@ -1,0 +1,14 @@
+//! A node where its threads find it.
+
+use crate::network::NodeTypes;
+use desk::{Desk, Opening, RoomBell};
+use protocol::NodeCore;
+use units::Node;
+
+/// A node where its threads find it: its name, its desk, and what accepts its connections.
+#[derive(Drop)]
+pub struct Station<O: Opening, C: NodeCore, N: NodeTypes> {
+    pub node: Node,
+    pub desk: Desk<O, C, N::Store, RoomBell>,
+    pub listener: N::Listener,
+}

@@ -1,12 +1,14 @@
 use crate::one_node::run_alone;
 use crate::registries::registry;
 use crate::same::assert_same;
-use crate::stations::{Ended, TestNode, TestTypes, add_port, network_of, open_node, records_of};
+use crate::stations::{Ended, TestNode, TestTypes, add_port, network_of, node_of, records_of};
 use desk::OpenGate;
 use sessions::{Dial, Network};
 use sockets::Ports;
 use std::alloc::Global;
 use std::io::Write;
+use std::net::{Net, TcpListener, TcpStream};
+use std::process::Abort;
 use std::rt::Clock;
 use std::sync::Wait;
 use std::thread;
@@ -64,16 +66,39 @@ fn run_and_drip<D: Dial + Send + Sync + Drop, R: Threads + Wait + Clock + Sync>(
     )
 }
 
+/// Whether the node cuts its client off, and how many records it has then and has committed.
+fn dripped_on<D, R>(
+    rt: &R,
+    alloc: Global,
+    node: TestNode<D, OpenGate>,
+    dialer: D,
+) -> (bool, (usize, usize))
+where
+    D: Dial + Send + Sync + Drop,
+    R: Threads + Wait + Clock + Abort + Sync,
+{
+    let network = network_of(dialer, OpenGate);
+    let (ended, is_cut_off) = run_and_drip(rt, alloc, &node, &network);
+    drop(network);
+    (is_cut_off, records_of(rt, node, ended, None))
+}
+
+/// The same of NZ, over a socket.
+fn dripped_on_nz<'a, R>(rt: &'a R, alloc: Global) -> (bool, (usize, usize))
+where
+    R: Threads + Wait + Clock + Net<Listener = TcpListener, Stream = TcpStream> + Abort + Sync,
+{
+    let nz = registry(rt, "NZ");
+    let mut ports = Ports::new(rt, alloc);
+    let listener = add_port(rt, &mut ports, nz, 0);
+    let node = node_of::<Ports<&'a R>, OpenGate>(rt, alloc, nz, listener);
+    dripped_on::<Ports<&'a R>, R>(rt, alloc, node, ports)
+}
+
 /// A session ends with its node, also where its client never lets a read wait for long.
 #[test]
 fn a_line_without_an_end(rt: HostRuntime) {
-    let alloc = rt.alloc();
-    let nz = open_node(&rt, alloc, registry(&rt, "NZ"), 0);
-    let mut ports = Ports::new(&rt, alloc);
-    add_port(&rt, &mut ports, &nz);
-    let network = network_of(ports, OpenGate);
-    let (ended, is_cut_off) = run_and_drip(&rt, alloc, &nz, &network);
+    let (is_cut_off, records) = dripped_on_nz(&rt, rt.alloc());
     assert!(rt; is_cut_off);
-    drop(network);
-    assert_same(&rt, records_of(&rt, nz, ended, None), (0, 0));
+    assert_same(&rt, records, (0, 0));
 }

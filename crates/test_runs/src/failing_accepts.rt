@@ -4,7 +4,7 @@ use crate::registries::registry;
 use crate::same::assert_same;
 use crate::stations::{
     COMPLETED, Ended, NodeDesk, TestNode, TestTypes, UNKNOWN, add_port, call, message, network_of,
-    open_node, records_of, refused, run_both,
+    node_of, records_of, refused, run_both,
 };
 use crate::waits::TURNS;
 use desk::{OpenGate, Seat, Told};
@@ -15,6 +15,7 @@ use protocol::wire::{Input, Message};
 use sessions::{Dial, Network};
 use sockets::Ports;
 use std::alloc::Global;
+use std::net::{Net, TcpListener, TcpStream};
 use std::process::Abort;
 use std::rt::Clock;
 use std::sync::Wait;
@@ -104,7 +105,7 @@ where
 {
     thread::join(
         rt,
-        move || run_both(rt, alloc, nz, jp, network),
+        move || run_both(rt, alloc, nz, jp, network, &[]),
         move || call_after_stop(rt, alloc, nz, jp, &network.dialer, message, order),
     )
 }
@@ -124,27 +125,49 @@ fn assert_records<D: Dial + Send + Sync + Drop>(
     assert_same(rt, records_of(rt, jp, at_jp, None), (0, 0));
 }
 
-/// At NZ all accepts fail but the last that may, and it replies; at JP all fail, and it stops, and no other node does.
-#[test]
-fn hundred_accepts(rt: HostRuntime) {
-    let alloc = rt.alloc();
-    let nz = open_node(&rt, alloc, registry(&rt, "NZ"), MOST_FAILING);
-    let jp = open_node(&rt, alloc, registry(&rt, "JP"), u64::MAX);
-    let mut ports = Ports::new(&rt, alloc);
-    add_port(&rt, &mut ports, &nz);
-    add_port(&rt, &mut ports, &jp);
-    let completed = message(&rt, alloc, COMPLETED);
-    let order = input_of(&rt, alloc, CLOSE);
-    let network = network_of(ports, OpenGate);
-    let (ran, after) = run_and_stop(&rt, alloc, &nz, &jp, &network, &completed, order);
+/// Asserts what becomes of a client of NZ and of an order there, once JP has stopped.
+fn assert_goes_on<D, R>(
+    rt: &R,
+    alloc: Global,
+    (nz, jp): (TestNode<D, OpenGate>, TestNode<D, OpenGate>),
+    dialer: D,
+)
+where
+    D: Dial + Send + Sync + Drop,
+    R: Threads + Wait + Clock + Abort + Sync,
+{
+    let completed = message(rt, alloc, COMPLETED);
+    let order = input_of(rt, alloc, CLOSE);
+    let network = network_of(dialer, OpenGate);
+    let (ran, after) = run_and_stop(rt, alloc, &nz, &jp, &network, &completed, order);
+    drop(network);
+    drop(completed);
     assert!(rt; after.stopped && after.confirmed);
     assert_same(
-        &rt,
+        rt,
         after.exchanged,
-        Some(Exchange::Answered(refused(&rt, UNKNOWN))),
+        Some(Exchange::Answered(refused(rt, UNKNOWN))),
     );
-    assert_same(&rt, after.told, Told::Step(Stepped::Recorded(0)));
-    drop(completed);
-    drop(network);
-    assert_records(&rt, (nz, jp), ran, after.seat);
+    assert_same(rt, after.told, Told::Step(Stepped::Recorded(0)));
+    assert_records(rt, (nz, jp), ran, after.seat);
+}
+
+/// At NZ all accepts fail but the last that may, and at JP all.
+fn assert_accepts<'a, R>(rt: &'a R, alloc: Global)
+where
+    R: Threads + Wait + Clock + Net<Listener = TcpListener, Stream = TcpStream> + Abort + Sync,
+{
+    let (nz, jp) = (registry(rt, "NZ"), registry(rt, "JP"));
+    let mut ports = Ports::new(rt, alloc);
+    let at_nz = add_port(rt, &mut ports, nz, MOST_FAILING);
+    let at_jp = add_port(rt, &mut ports, jp, u64::MAX);
+    let nz = node_of::<Ports<&'a R>, OpenGate>(rt, alloc, nz, at_nz);
+    let jp = node_of::<Ports<&'a R>, OpenGate>(rt, alloc, jp, at_jp);
+    assert_goes_on::<Ports<&'a R>, R>(rt, alloc, (nz, jp), ports);
+}
+
+/// NZ replies, and JP stops, and no other node does.
+#[test]
+fn hundred_accepts(rt: HostRuntime) {
+    assert_accepts(&rt, rt.alloc());
 }

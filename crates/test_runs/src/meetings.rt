@@ -2,7 +2,7 @@ use crate::registries::registry;
 use crate::same::assert_same;
 use crate::stations::{
     ACCEPTED, CANCELLED, Ended, PROPOSAL, TestNode, TestTypes, UNKNOWN, add_port, call,
-    exchange_over, message, network_of, open_node, records_of, refused, run_both,
+    exchange_over, message, network_of, node_of, records_of, refused, run_both,
 };
 use crate::waits::{HeldGate, Signals};
 use desk::{Gate, OpenGate};
@@ -13,6 +13,7 @@ use sessions::{Dial, Network};
 use sockets::Ports;
 use std::alloc::Global;
 use std::io::{self, ErrorKind, Write};
+use std::net::{Net, TcpListener, TcpStream};
 use std::process::Abort;
 use std::rt::Clock;
 use std::sync::Wait;
@@ -166,7 +167,7 @@ where
 {
     thread::join(
         rt,
-        move || run_both(rt, alloc, &pair.one, &pair.other, network),
+        move || run_both(rt, alloc, &pair.one, &pair.other, network, &[]),
         move || meet(rt, alloc, &network.dialer, pair, plan, signals),
     )
 }
@@ -187,19 +188,60 @@ fn records_of_both<D: Dial + Send + Sync + Drop, G: Gate + Send + Sync + Drop>(
     (first, second)
 }
 
+/// What comes of two clients of two nodes: whether the first one has the reply that it should have, how the exchange of
+/// the second one ends, and how many records the two nodes have.
+type Meeting = ((bool, Option<Exchange>), (usize, usize));
+
+/// What comes of that plan at these nodes. Gives the gate back.
+fn met_at<D, G, R>(
+    rt: &R,
+    alloc: Global,
+    pair: Pair<D, G>,
+    (dialer, gate): (D, G),
+    plan: &Plan,
+    signals: &Signals,
+) -> (Meeting, G)
+where
+    D: Dial + Send + Sync + Drop,
+    G: Gate + Send + Sync + Drop,
+    R: Threads + Wait + Clock + Abort + Sync,
+{
+    let network = network_of(dialer, gate);
+    let (ended, met) = run_and_meet(rt, alloc, &network, &pair, plan, signals);
+    let Network {
+        dialer,
+        clock: _,
+        gate,
+    } = network;
+    drop(dialer);
+    ((met, records_of_both(rt, pair, ended)), gate)
+}
+
+/// What comes of that plan at the log and at NZ.
+fn met_at_log<'a, R>(rt: &'a R, alloc: Global, plan: &Plan) -> Meeting
+where
+    R: Threads + Wait + Clock + Net<Listener = TcpListener, Stream = TcpStream> + Abort + Sync,
+{
+    let nz = registry(rt, "NZ");
+    let mut ports = Ports::new(rt, alloc);
+    let at_log = add_port(rt, &mut ports, Node::Itl, 0);
+    let at_nz = add_port(rt, &mut ports, nz, 0);
+    let pair = Pair {
+        one: node_of::<Ports<&'a R>, OpenGate>(rt, alloc, Node::Itl, at_log),
+        other: node_of::<Ports<&'a R>, OpenGate>(rt, alloc, nz, at_nz),
+    };
+    let signals = Signals::new();
+    let parts = (ports, OpenGate);
+    let (meeting, _) = met_at::<Ports<&'a R>, OpenGate, R>(rt, alloc, pair, parts, plan, &signals);
+    meeting
+}
+
 /// While one client has sent a part of a line, the log replies to another one, and then to the whole line. So it serves
 /// two sessions at a time: one thread alone would come to the other client once it has given up the first one's
 /// connection, and would reply to at most one of them.
 #[test]
 fn two_sessions_meet(rt: HostRuntime) {
     let alloc = rt.alloc();
-    let pair = Pair {
-        one: open_node(&rt, alloc, Node::Itl, 0),
-        other: open_node(&rt, alloc, registry(&rt, "NZ"), 0),
-    };
-    let mut ports = Ports::new(&rt, alloc);
-    add_port(&rt, &mut ports, &pair.one);
-    add_port(&rt, &mut ports, &pair.other);
     let plan = Plan {
         way: Way::InParts,
         first: message(&rt, alloc, PROPOSAL),
@@ -208,13 +250,29 @@ fn two_sessions_meet(rt: HostRuntime) {
         second: message(&rt, alloc, PROPOSAL),
         second_to: Node::Itl,
     };
-    let signals = Signals::new();
-    let network = network_of(ports, OpenGate);
-    let (ended, met) = run_and_meet(&rt, alloc, &network, &pair, &plan, &signals);
+    let (met, records) = met_at_log(&rt, alloc, &plan);
     assert_same(&rt, met, (true, Some(Exchange::Answered(Reply::Received))));
-    drop(network);
+    assert_same(&rt, records, (1, 0));
     drop(plan);
-    assert_same(&rt, records_of_both(&rt, pair, ended), (1, 0));
+}
+
+/// What comes of that plan at NZ, which a gate holds, and at JP.
+fn met_apart<'a, R>(rt: &'a R, alloc: Global, (nz, jp): (Node, Node), plan: &Plan) -> Meeting
+where
+    R: Threads + Wait + Clock + Net<Listener = TcpListener, Stream = TcpStream> + Abort + Sync,
+{
+    let mut ports = Ports::new(rt, alloc);
+    let at_nz = add_port(rt, &mut ports, nz, 0);
+    let at_jp = add_port(rt, &mut ports, jp, 0);
+    let signals = Signals::new();
+    let pair = Pair {
+        one: node_of(rt, alloc, nz, at_nz),
+        other: node_of(rt, alloc, jp, at_jp),
+    };
+    let parts = (ports, HeldGate::new(rt, nz, &signals));
+    let (meeting, gate) = met_at(rt, alloc, pair, parts, plan, &signals);
+    assert!(rt; !gate.given_up.is_set());
+    meeting
 }
 
 /// While a gate holds one node, another node replies.
@@ -222,13 +280,6 @@ fn two_sessions_meet(rt: HostRuntime) {
 fn nodes_apart(rt: HostRuntime) {
     let alloc = rt.alloc();
     let (nz, jp) = (registry(&rt, "NZ"), registry(&rt, "JP"));
-    let pair = Pair {
-        one: open_node(&rt, alloc, nz, 0),
-        other: open_node(&rt, alloc, jp, 0),
-    };
-    let mut ports = Ports::new(&rt, alloc);
-    add_port(&rt, &mut ports, &pair.one);
-    add_port(&rt, &mut ports, &pair.other);
     let plan = Plan {
         way: Way::Whole,
         first: message(&rt, alloc, ACCEPTED),
@@ -237,12 +288,8 @@ fn nodes_apart(rt: HostRuntime) {
         second: message(&rt, alloc, CANCELLED),
         second_to: jp,
     };
-    let signals = Signals::new();
-    let network = network_of(ports, HeldGate::new(&rt, nz, &signals));
-    let (ended, met) = run_and_meet(&rt, alloc, &network, &pair, &plan, &signals);
+    let (met, records) = met_apart(&rt, alloc, (nz, jp), &plan);
     assert_same(&rt, met, (true, Some(Exchange::Answered(Reply::Received))));
-    assert!(rt; !network.gate.given_up.is_set());
-    drop(network);
+    assert_same(&rt, records, (0, 1));
     drop(plan);
-    assert_same(&rt, records_of_both(&rt, pair, ended), (0, 1));
 }

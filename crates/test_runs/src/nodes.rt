@@ -1,6 +1,8 @@
 //! The nodes of the worked scheme, and what a script comes to at them.
 
-ghost use Rattle.std.specs.Prelude.{◌≡◌, ◌++◌, ◌∷◌, [], map};
+ghost use Rattle.std.specs.Prelude.{◌≡◌, ◌++◌, ◌∷◌, [], All, map};
+ghost use Rattle.desk.specs.Views.{opened_with};
+ghost use Rattle.protocol.specs.Registries.{nodes};
 
 use crate::registries::worked_scheme;
 use audit::load_run;
@@ -9,6 +11,7 @@ use desk::stores::{Kept, MemoryStore};
 use desk::{OpenGate, Stored, WallClock};
 use input_lines::{ScriptLine, read_script};
 use protocol::nodes_of;
+use protocol::scheme::Scheme;
 use protocol::units::Node;
 use run::{LoadedNode, run_script};
 use sessions::{Network, NodeTypes};
@@ -44,11 +47,23 @@ fn push(rt: &impl Abort, stores: &mut Vec<MemoryStore>, store: MemoryStore)
     }
 }
 
-/// Adds a node.
-fn push_node<N: NodeTypes>(rt: &impl Abort, nodes: &mut Vec<LoadedNode<N>>, node: LoadedNode<N>)
-    ensures { nodes.new.items ≡ nodes.old.items ++ node ∷ [] }
+/// Adds a node, and where it accepts connections.
+fn push_node<R>(
+    rt: &impl Abort,
+    nodes: &mut Vec<LoadedNode<SocketNodes<MemoryStore, R>>>,
+    ports: &mut Ports<R>,
+    stored: Stored<Core, MemoryStore>,
+    listener: Port,
+)
+where
+    R: Net<Listener = TcpListener, Stream = TcpStream> + SystemClock + Send + Sync + Drop,
+    ensures { map (λ n. n.stored) nodes.new.items ≡ map (λ n. n.stored) nodes.old.items ++ stored ∷ [] }
 {
-    if nodes.push(node).is_err() {
+    let added = ports.add(stored.state().node(), &listener);
+    if added.is_err() {
+        rt.abort();
+    }
+    if nodes.push(LoadedNode { stored, listener }).is_err() {
         rt.abort();
     }
 }
@@ -76,28 +91,62 @@ fn lines_of(rt: &impl Abort, alloc: Global, script: &str) -> Vec<ScriptLine> {
 }
 
 /// The nodes, each with a listener of its own, and what connects to them there.
-fn opened<'a, R>(
-    rt: &'a R,
+fn opened<R>(
+    rt: &impl Abort,
+    net: R,
     alloc: Global,
     loaded: Vec<Stored<Core, MemoryStore>>,
-) -> (
-    Vec<LoadedNode<SocketNodes<MemoryStore, &'a R>>>,
-    Ports<&'a R>,
-)
+) -> (Vec<LoadedNode<SocketNodes<MemoryStore, R>>>, Ports<R>)
 where
-    R: SystemClock + Net<Listener = TcpListener, Stream = TcpStream> + Abort + Sync,
+    R: Net<Listener = TcpListener, Stream = TcpStream> + SystemClock + Copy + Send + Sync + Drop,
     ensures { map (λ n. n.stored) result.0.items ≡ loaded.items }
 {
     let mut nodes = Vec::new(alloc);
-    let mut ports = Ports::new(rt, alloc);
+    let mut ports = Ports::new(net, alloc);
     for stored in loaded {
-        let listener = Port::open(rt).expect(rt, "a free port");
-        ports
-            .add(stored.state().node(), &listener)
-            .expect(rt, "memory");
-        push_node(rt, &mut nodes, LoadedNode { stored, listener });
+        let listener = Port::open(&net).expect(rt, "a free port");
+        push_node(rt, &mut nodes, &mut ports, stored, listener);
     }
     (nodes, ports)
+}
+
+/// What a run of the script at these nodes returns, and what it writes.
+fn run_at<N, P, R>(
+    rt: &R,
+    alloc: Global,
+    scheme: &Scheme,
+    lines: &[ScriptLine],
+    loaded: Vec<LoadedNode<N>>,
+    network: Network<N>,
+    watch: &mut P,
+) -> (Result<(), OpFault>, Vec<u8>)
+where
+    N: NodeTypes,
+    P: run::Watch + weave::Watch,
+    R: Threads + Wait + SystemClock + Sync,
+    requires nodes { map (λ s. s.state.node) (map (λ n. n.stored) loaded.items) ≡ nodes scheme.now }
+    requires opened { All (λ s. s.state ≡ opened_with scheme.now s.state.node s.state.journal)
+        (map (λ n. n.stored) loaded.items) }
+{
+    let mut written = Vec::new(alloc);
+    let done = run_script::<N, Vec<u8>, P, R>(
+        rt,
+        alloc,
+        scheme,
+        lines,
+        loaded,
+        &network,
+        &mut written,
+        watch,
+    );
+    drop(network);
+    match done {
+        Ok(ended) => {
+            drop(ended);
+            (Ok(()), written)
+        }
+        Err(fault) => (Err(fault), written),
+    }
 }
 
 /// What a run of the script over empty stores of the log, of JP and of NZ returns, and what it writes. NZ's takes `passes`
@@ -141,31 +190,22 @@ where
     let nodes = nodes_of(alloc, &scheme).expect(rt, "memory");
     let stores = stores_of(rt, alloc, nodes.as_slice(), passes);
     let loaded = load_run(alloc, &scheme, stores, &mut Nobody).expect(rt, "a run");
-    let (nodes, ports) = opened(rt, alloc, loaded);
+    let (nodes, ports) = opened(rt, rt, alloc, loaded);
     let network = Network {
         dialer: ports,
         clock: WallClock::new(rt),
         gate: OpenGate,
     };
-    let mut written = Vec::new(alloc);
-    let done = run_script(
+    let played = run_at::<SocketNodes<MemoryStore, &R>, P, R>(
         rt,
         alloc,
         &scheme,
         lines.as_slice(),
         nodes,
-        &network,
-        &mut written,
+        network,
         watch,
     );
-    drop(network);
     drop(lines);
     drop(scheme);
-    match done {
-        Ok(ended) => {
-            drop(ended);
-            (Ok(()), written)
-        }
-        Err(fault) => (Err(fault), written),
-    }
+    played
 }

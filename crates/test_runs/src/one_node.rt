@@ -1,7 +1,7 @@
 use crate::registries::registry;
 use crate::same::assert_same;
 use crate::stations::{
-    COMPLETED, Ended, TestNode, TestTypes, UNKNOWN, add_port, call, message, network_of, open_node,
+    COMPLETED, Ended, TestNode, TestTypes, UNKNOWN, add_port, call, message, network_of, node_of,
     records_of, refused, threads_of,
 };
 use desk::OpenGate;
@@ -10,6 +10,8 @@ use protocol::wire::Message;
 use sessions::{Dial, Network, run_node};
 use sockets::Ports;
 use std::alloc::Global;
+use std::net::{Net, TcpListener, TcpStream};
+use std::process::Abort;
 use std::rt::Clock;
 use std::sync::Wait;
 use std::thread;
@@ -53,21 +55,50 @@ fn run_and_call<D: Dial + Send + Sync + Drop, R: Threads + Wait + Clock + Sync>(
     )
 }
 
+/// What an exchange of the message with the node comes to, and how many records it has then and has committed.
+fn exchanged_with<D, R>(
+    rt: &R,
+    alloc: Global,
+    node: TestNode<D, OpenGate>,
+    dialer: D,
+    message: &Message,
+) -> (Option<Exchange>, (usize, usize))
+where
+    D: Dial + Send + Sync + Drop,
+    R: Threads + Wait + Clock + Abort + Sync,
+{
+    let network = network_of(dialer, OpenGate);
+    let (ended, exchanged) = run_and_call(rt, alloc, &node, &network, message);
+    drop(network);
+    (exchanged, records_of(rt, node, ended, None))
+}
+
+/// The same of NZ, over a socket.
+fn exchanged_with_nz<'a, R>(
+    rt: &'a R,
+    alloc: Global,
+    message: &Message,
+) -> (Option<Exchange>, (usize, usize))
+where
+    R: Threads + Wait + Clock + Net<Listener = TcpListener, Stream = TcpStream> + Abort + Sync,
+{
+    let nz = registry(rt, "NZ");
+    let mut ports = Ports::new(rt, alloc);
+    let listener = add_port(rt, &mut ports, nz, 0);
+    let node = node_of::<Ports<&'a R>, OpenGate>(rt, alloc, nz, listener);
+    exchanged_with::<Ports<&'a R>, R>(rt, alloc, node, ports, message)
+}
+
 #[test]
 fn loopback_exchange(rt: HostRuntime) {
     let alloc = rt.alloc();
-    let nz = open_node(&rt, alloc, registry(&rt, "NZ"), 0);
-    let mut ports = Ports::new(&rt, alloc);
-    add_port(&rt, &mut ports, &nz);
     let completed = message(&rt, alloc, COMPLETED);
-    let network = network_of(ports, OpenGate);
-    let (ended, exchanged) = run_and_call(&rt, alloc, &nz, &network, &completed);
+    let (exchanged, records) = exchanged_with_nz(&rt, alloc, &completed);
     assert_same(
         &rt,
         exchanged,
         Some(Exchange::Answered(refused(&rt, UNKNOWN))),
     );
+    assert_same(&rt, records, (0, 0));
     drop(completed);
-    drop(network);
-    assert_same(&rt, records_of(&rt, nz, ended, None), (0, 0));
 }

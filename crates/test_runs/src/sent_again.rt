@@ -8,7 +8,8 @@ use crate::nz_desk::{TEN, TEN_MORE};
 use crate::registries::registry;
 use crate::same::assert_same;
 use crate::stations::{
-    Ended, NodeDesk, TestNode, TestTypes, desk_of, network_of, open_node, records_of, threads_of,
+    Ended, FailingPort, NodeDesk, TestNode, TestTypes, desk_of, network_of, node_with, records_of,
+    threads_of,
 };
 use crate::waits::TURNS;
 use desk::{OpenGate, Seat};
@@ -48,18 +49,24 @@ impl Dial for FailingDial {
     }
 }
 
-/// Nodes that send over such connections.
-type SendingTypes = TestTypes<FailingDial, OpenGate>;
+/// What counts how often it was asked for a connection.
+trait Asked {
+    /// How often it was.
+    fn asked(&self) -> u64;
+}
 
-/// One of them.
-type SendingNode = TestNode<FailingDial, OpenGate>;
+impl Asked for FailingDial {
+    fn asked(&self) -> u64 {
+        self.connects.load(Ordering::SeqCst)
+    }
+}
 
 /// Runs a node that sends to those nodes.
-fn run_sending<R: Threads + Wait + Clock + Sync>(
+fn run_sending<D: Dial + Send + Sync + Drop, R: Threads + Wait + Clock + Sync>(
     rt: &R,
     alloc: Global,
-    node: &SendingNode,
-    network: &Network<SendingTypes>,
+    node: &TestNode<D, OpenGate>,
+    network: &Network<TestTypes<D, OpenGate>>,
     peers: &[Node],
 ) -> Ended {
     run_node(rt, alloc, &threads_of(alloc, node, network, peers)?)
@@ -67,15 +74,15 @@ fn run_sending<R: Threads + Wait + Clock + Sync>(
 
 /// Waits until that many connections were asked for, at most `TURNS` turns of one millisecond, and stops the node.
 /// Returns whether they were.
-fn wait_and_stop<R: Wait + Clock>(
+fn wait_and_stop<D: Dial + Asked + Send + Sync + Drop, R: Wait + Clock>(
     rt: &R,
-    node: &SendingNode,
-    dial: &FailingDial,
+    node: &TestNode<D, OpenGate>,
+    dial: &D,
     connects: u64,
 ) -> bool {
     let mut are_asked = false;
     for _ in 0..TURNS {
-        are_asked = dial.connects.load(Ordering::SeqCst) >= connects;
+        are_asked = dial.asked() >= connects;
         if are_asked {
             break;
         }
@@ -86,11 +93,11 @@ fn wait_and_stop<R: Wait + Clock>(
 }
 
 /// The node, and who waits for its connections.
-fn run_and_wait<R: Threads + Wait + Clock + Sync>(
+fn run_and_wait<D: Dial + Asked + Send + Sync + Drop, R: Threads + Wait + Clock + Sync>(
     rt: &R,
     alloc: Global,
-    node: &SendingNode,
-    network: &Network<SendingTypes>,
+    node: &TestNode<D, OpenGate>,
+    network: &Network<TestTypes<D, OpenGate>>,
     peers: &[Node],
     connects: u64,
 ) -> (Ended, bool) {
@@ -110,24 +117,43 @@ fn seat_of_two(rt: &(impl Wait + Abort), alloc: Global, desk: &NodeDesk) -> Seat
     seat
 }
 
+/// Whether the node, whose two messages that seat was told of, asks for that many connections with the log, and has a
+/// record more then.
+fn sends_with<D, R>(
+    rt: &R,
+    alloc: Global,
+    node: TestNode<D, OpenGate>,
+    dialer: D,
+    seat: Seat,
+    connects: u64,
+) -> bool
+where
+    D: Dial + Asked + Send + Sync + Drop,
+    R: Threads + Wait + Clock + Abort + Sync,
+{
+    let network = network_of(dialer, OpenGate);
+    let (ended, are_sent) = run_and_wait(rt, alloc, &node, &network, &[Node::Itl], connects);
+    drop(network);
+    let (records, _) = records_of(rt, node, ended, Some(seat));
+    are_sent && records >= 3
+}
+
 /// Whether a node with two messages sends both, where it gets no connection the first times, and whether the first of
 /// them that was received is acknowledged then.
 fn sends_both<R>(rt: &R, alloc: Global, failing: u64) -> bool
 where
     R: Threads + Wait + Clock + Net<Listener = TcpListener, Stream = TcpStream> + Abort + Sync,
 {
-    let nz: SendingNode = open_node(rt, alloc, registry(rt, "NZ"), 0);
-    let seat = seat_of_two(rt, alloc, &nz.station.desk);
+    let nz = registry(rt, "NZ");
+    let desk = desk_of(rt, alloc, nz);
+    let seat = seat_of_two(rt, alloc, &desk);
+    let node = node_with(nz, desk, FailingPort::open(rt, 0));
     let dialer = FailingDial {
         peer: Node::Itl,
         failing,
         connects: AtomicU64::new(0),
     };
-    let network = network_of(dialer, OpenGate);
-    let connects = failing.saturating_add(2);
-    let (ended, are_sent) = run_and_wait(rt, alloc, &nz, &network, &[Node::Itl], connects);
-    let (records, _) = records_of(rt, nz, ended, Some(seat));
-    are_sent && records >= 3
+    sends_with(rt, alloc, node, dialer, seat, failing.saturating_add(2))
 }
 
 /// Where only the first message got no connection, it is sent again once the other one is acknowledged. Where none did,

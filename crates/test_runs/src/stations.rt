@@ -148,32 +148,45 @@ pub fn desk_of(rt: &impl Abort, alloc: Global, node: Node) -> NodeDesk {
     }
 }
 
-/// A node, at whose port the first `failing` accepts fail.
-pub fn open_node<D, G, R>(rt: &R, alloc: Global, node: Node, failing: u64) -> TestNode<D, G>
+/// A node with that desk and that listener.
+pub fn node_with<D, G>(node: Node, desk: NodeDesk, listener: FailingPort) -> TestNode<D, G>
 where
     D: Dial + Send + Sync + Drop,
     G: Gate + Send + Sync + Drop,
-    R: Net<Listener = TcpListener, Stream = TcpStream> + Abort,
 {
     TestNode {
         station: Station {
             node,
-            desk: desk_of(rt, alloc, node),
-            listener: FailingPort::open(rt, failing),
+            desk,
+            listener,
         },
         muster: Muster::new(),
     }
 }
 
-/// The node's connections are accepted at its port.
-pub fn add_port<D, G, R>(rt: &impl Abort, ports: &mut Ports<R>, node: &TestNode<D, G>)
+/// A node that has no record, with that listener.
+pub fn node_of<D, G>(
+    rt: &impl Abort,
+    alloc: Global,
+    node: Node,
+    listener: FailingPort,
+) -> TestNode<D, G>
 where
     D: Dial + Send + Sync + Drop,
     G: Gate + Send + Sync + Drop,
-    R: Net,
 {
-    let added = ports.add(node.station.node, &node.station.listener.port);
-    added.expect(rt, "memory");
+    node_with(node, desk_of(rt, alloc, node), listener)
+}
+
+/// A listener at whose port the first `failing` accepts fail. The node's connections are accepted there.
+pub fn add_port<N, R>(rt: &R, ports: &mut Ports<N>, node: Node, failing: u64) -> FailingPort
+where
+    N: Net,
+    R: Net<Listener = TcpListener, Stream = TcpStream> + Abort,
+{
+    let listener = FailingPort::open(rt, failing);
+    ports.add(node, &listener.port).expect(rt, "memory");
+    listener
 }
 
 pub fn message(rt: &impl Abort, alloc: Global, text: &str) -> Message {
@@ -217,13 +230,14 @@ where
     NodeThreads::new(alloc, &node.station, network, peers, &node.muster)
 }
 
-/// Runs two nodes that send to none.
-pub fn run_both<D, G, R>(
+/// Runs two nodes that send to those nodes.
+pub fn run_both<'a, D, G, R>(
     rt: &R,
     alloc: Global,
-    one: &TestNode<D, G>,
-    other: &TestNode<D, G>,
-    network: &Network<TestTypes<D, G>>,
+    one: &'a TestNode<D, G>,
+    other: &'a TestNode<D, G>,
+    network: &'a Network<TestTypes<D, G>>,
+    peers: &'a [Node],
 ) -> Result<Vec<Ended>, NoMemory>
 where
     D: Dial + Send + Sync + Drop,
@@ -231,8 +245,8 @@ where
     R: Threads + Wait + SystemClock + Sync,
 {
     let mut nodes = Vec::new(alloc);
-    nodes.push(threads_of(alloc, one, network, &[])?)?;
-    nodes.push(threads_of(alloc, other, network, &[])?)?;
+    nodes.push(threads_of(alloc, one, network, peers)?)?;
+    nodes.push(threads_of(alloc, other, network, peers)?)?;
     run_all(rt, alloc, nodes)
 }
 

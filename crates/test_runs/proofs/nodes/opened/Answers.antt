@@ -1,0 +1,24 @@
+use Rattle.std.proofs.Common.{◌≡◌, ◌∙◌, ◌++◌, ◌∷◌, [], List, map, length, refl, sym, ap, append_assoc, append-nil, arith}
+use Rattle.test_runs.proofs.nodes.opened.Goals as goal
+
+-- one more is done of those that were left
+one_done : {X : Type 0} (all done left rest : List X) (x : X) → all ≡ done ++ left → left ≡ x ∷ rest → all ≡ (done ++ x ∷ []) ++ rest
+one_done {X} all done left rest x split is = split ∙ (ap (λ (xs : List X). done ++ xs) is ∙ sym (append_assoc done (x ∷ []) rest))
+
+-- none is left
+all_done : {X : Type 0} (all done left : List X) → all ≡ done ++ left → length left ≡ 0 → all ≡ done
+all_done all done [] split none = split ∙ append-nil done
+all_done all done (x ∷ xs) split none = absurd (omega (arith, none))
+
+pub loop-stored-init : goal.loop-stored-init
+loop-stored-init g c = rw (c.new-nodes.ensures.items, c.into_iter-stored-iterator.ensures.into_iter_gives.0) refl
+
+pub loop-stored-preserved : goal.loop-stored-preserved
+loop-stored-preserved g c =
+    one_done c.args.loaded.items (map (λ n. n.stored) c.loop-stored.nodes.items) c.loop-stored.stored-iterator.rest.items c.next.new.self.rest.items c.in-Some.stored c.loop-stored.invariant c.in-Some.ensures.steps.0
+    ∙ ap (λ l. l ++ c.next.new.self.rest.items) (sym c.push_node.ensures)
+
+pub returns : goal.returns
+returns g c =
+    let rest = c.loop-stored.stored-iterator.rest in
+    sym (all_done c.args.loaded.items (map (λ n. n.stored) c.loop-stored.nodes.items) rest.items c.loop-stored.invariant (sym rest.ok.0 ∙ c.in-None.ensures.steps.0))

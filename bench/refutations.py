@@ -1,0 +1,156 @@
+#!/usr/bin/env python3
+"""Why rows of the protocol are as they are: wrong ones, each with a short list of events after which a law is broken.
+
+Each wrong row is planted, alone, in a copy of the definitions, as `definitions.py` plants its changes, and the checker must then
+find that the events lead to a world of which the law, by its name and its words, is false. With the right row the same must
+fail. Printed is a line for each; the exit status is 1 where one isn't so. The libraries have to be built: `rt lib` in
+crates/protocol.
+"""
+
+import dataclasses
+import pathlib
+import shutil
+import sys
+import tempfile
+
+from definitions import (
+    CHECKS,
+    CRATE,
+    FILES,
+    HISTORY,
+    ROOT,
+    ROWS,
+    SHARED,
+    WORKED_SCHEME,
+    Change,
+    checking,
+    definitions,
+    failing,
+    plant,
+    put,
+)
+
+# Names that the refutations have in common.
+HEAD = """\
+use Rattle.std.proofs.Common.{◌≡◌, ℕ, true, List, [], ◌∷◌, ◌++◌, ◌⊎◌, inl, inr, refl, arith}
+use Rattle.std.specs.Prelude.{take}
+use Rattle.units.specs.declared.code.Node.TheVariants.{Itl}
+use Rattle.status.specs.declared.status.Status.TheVariants.{Completed, Cancelled}
+use Rattle.wire.specs.declared.message.Notification.{Notification}
+use Rattle.wire.specs.declared.notified.NotifiedStatus.TheVariants as notified
+use Rattle.protocol.specs.declared.event.WorldEvent.{WorldEvent}
+use Rattle.protocol.specs.Claims.{Agrees, OnePlace, DeliversWelcome, TerminatesForEligibility, live_of}
+use Rattle.protocol.specs.Verdict.{verdict}
+use Rattle.protocol.specs.World.{step}
+use Rattle.protocol.proofs.WorkedScheme.{nz_node, nz1, unit, scheme_s, notification, first_of_may, a_day_after, clean_up, transfer, after}
+
+"""
+# What each refutation proves.
+BROKEN = "broken"
+
+
+@dataclasses.dataclass(frozen=True)
+class Refutation:
+    """A wrong row, what happens under it, and the proof that a law is false then."""
+
+    change: Change
+    story: str
+    proof: str
+
+
+def wrong(name, file, old, new, story, proof):
+    return Refutation(Change(name, file, old, new, BROKEN), story, proof)
+
+
+REFUTATIONS = [
+    wrong(
+        "a clean-up cancels what is Accepted",
+        ROWS,
+        "log_row (Stands Checked) CleanUp = Move Cancelled",
+        "log_row (Stands Checked) CleanUp = Move Cancelled\nlog_row (Stands Accepted) CleanUp = Move Cancelled",
+        "JP accepts and the log tells NZ, which completes; before the log hears of it, a clean-up cancels the transfer there",
+        """\
+abbrev events : List WorldEvent
+events = take 13 transfer ++ clean_up a_day_after ∷ []
+
+pub broken : Agrees (live_of (after events)) → ⊥
+unfolding step verdict
+broken law = law nz1 nz_node Itl refl (inr (inr refl))
+""",
+    ),
+    wrong(
+        "the acquirer is credited as it accepts",
+        HISTORY,
+        "credits c s x = same_status x.new Completed &&",
+        "credits c s x = same_status x.new Accepted &&",
+        "JP accepts, and has the units that NZ has as well until it hears of that",
+        """\
+pub broken : OnePlace scheme_s (live_of (after (take 8 transfer))) → ⊥
+unfolding step verdict
+broken law = let two : ◌≡◌ {A = ℕ} 2 1 = law (unit 1) in omega arith
+""",
+    ),
+    wrong(
+        "Completed acts again",
+        ROWS,
+        "acquirer_row (Stands Completed) (Notified Completed) = Repeat",
+        "acquirer_row (Stands Completed) (Notified Completed) = Move Completed",
+        "the last message of a transfer is delivered once more; JP, which has the units, refuses to be credited with them",
+        """\
+pub broken : DeliversWelcome (after transfer) → ⊥
+unfolding step verdict
+broken law = let other : ◌≡◌ {A = ℕ} 46 49 = law 5 first_of_may 46 refl in omega arith
+""",
+    ),
+    wrong(
+        "the log finds at will that the units have another owner",
+        CHECKS,
+        "is_of_another holder owner c = is_some holder && not (is_owner owner c)",
+        "is_of_another holder owner c = is_some holder",
+        "NZ proposes its own units, and the log tells it Terminated for a cause that isn't eligibility",
+        """\
+neither : (◌≡◌ {A = ℕ} 204 207 ⊎ ◌≡◌ {A = ℕ} 204 208) → ⊥
+neither (inl e) = omega (arith, e)
+neither (inr e) = omega (arith, e)
+
+pub broken : TerminatesForEligibility (live_of (after (take 4 transfer))) → ⊥
+unfolding step verdict
+broken law = neither (law told found 204 (0, omega arith, refl) refl (0, omega arith, refl))
+  where
+    found : List ℕ
+    found = 204 ∷ []
+    told : Notification
+    told = record { from = Itl; to = nz_node; id = nz1; notified = notified.Terminated found }
+""",
+    ),
+]
+
+
+def refuted(refutation, folder, words, is_wrong):
+    """The equations that fail of the refutation's proof, under its wrong row or under the right one."""
+    put(definitions(), folder / "specs")
+    if is_wrong:
+        plant(refutation.change, folder / "specs")
+    proof = folder / "Broken.antt"
+    proof.write_text(HEAD + refutation.proof)
+    put([proof, *(it for it in FILES if it.stem in SHARED), WORKED_SCHEME], folder / "proofs")
+    return failing(words)
+
+
+def main():
+    good = True
+    with tempfile.TemporaryDirectory() as place:
+        folder = pathlib.Path(place)
+        shutil.copytree(ROOT / "crates" / CRATE / "src", folder / "src")
+        words = checking(folder / "src" / "lib.rt")
+        for it in REFUTATIONS:
+            breaks = not refuted(it, folder, words, True)
+            keeps = BROKEN in refuted(it, folder, words, False)
+            good = good and breaks and keeps
+            how = "breaks the law" if breaks and keeps else "ISN'T REFUTED" if keeps else "THE RIGHT ROW BREAKS THE LAW"
+            print(f"{it.change.name}: {it.story}: {how}", flush=True)
+    sys.exit(0 if good else 1)
+
+
+if __name__ == "__main__":
+    main()

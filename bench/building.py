@@ -7,7 +7,8 @@ import sys
 
 from endings import check_end, run_to_end
 
-CRATE = pathlib.Path(__file__).resolve().parent.parent / "crates" / "benches"
+CRATES = pathlib.Path(__file__).resolve().parent.parent / "crates"
+CRATE = CRATES / "benches"
 PROGRAM = CRATE / "out" / "benches"
 # Words by which nothing is measured.
 NOTHING = ["memory", "0"]
@@ -19,8 +20,19 @@ def need(program, use):
         sys.exit(f"{program}, which {use}, isn't on PATH")
 
 
+def is_built():
+    """Whether the program is there, as the gate or `rt run` built it, and no source was changed since."""
+    if not PROGRAM.exists():
+        return False
+    built = PROGRAM.stat().st_mtime
+    sources = (it for kind in ("src", "specs", "proofs") for it in CRATES.glob(f"*/{kind}/**/*") if it.is_file())
+    return all(it.stat().st_mtime <= built for it in sources)
+
+
 def prove_and_build():
     """Proves and builds the program, where that isn't done yet. rt runs what it built, which measures nothing then."""
+    if is_built():
+        return
     need("rt", "builds the program")
     words = ["rt", "run", "--", *NOTHING]
     ended = subprocess.run(words, cwd=CRATE, capture_output=True, text=True, check=False)

@@ -1,14 +1,16 @@
 #!/usr/bin/env python3
-"""Refuses each allocation of a test and of whole commands in turn: a command writes all or nothing, and no store changes.
+"""Refuses each allocation of tests and of whole commands in turn: a command writes all or nothing, and no store changes.
 
-The test `stale_proposal` of `test_runs` reads three journals and has `weave` follow them; a call that found no memory is
-made again. With each of its allocations refused it must pass, or stop in reading.
+Each test of `test_values`, `test_stores` and `test_runs` is a program's run by itself. It is run once for each of its
+allocations, of which that one is refused (`no_memory.c`, loaded before the C library). It must pass: a call that found no
+memory is made again in the test, which looks before at what stands. Or it stops while it reads its own texts. A test with
+more allocations than `--most` has as many of them refused, spread over all. Not run so are the tests of EXEMPT.
 
-`rehearse` reads the input of each example named, and `audit` the stores of a whole transfer and of the one whose proposal
-comes too late. Each is run once with all the memory that it asks for, and then once for each of its allocations, of which
-that one is refused (`no_memory.c`, loaded before the C library). Each time it must write what the first run wrote, or
-nothing, with `out of memory` on standard error and exit status 5; and the stores must have the records that they had. The
-exit status is 1 where that isn't so.
+`rehearse` reads the input of each example, `chart` of those with a diagram, a command line is read of the examples that have
+one, and `audit` reads the stores of a whole transfer and of the one whose proposal comes too late. Each is run once with all
+the memory that it asks for, when it must write what its folder has, and then once for each of its allocations. Each time it
+must write what the first run wrote, or nothing, with `out of memory` on standard error and exit status 5; and the stores must
+have the records that they had. The exit status is 1 where that isn't so.
 """
 
 import argparse
@@ -33,19 +35,22 @@ from rehearse import program
 TOP = pathlib.Path(__file__).resolve().parent.parent
 SOURCE = TOP / "bench" / "no_memory.c"
 OUT_OF_MEMORY = (5, b"", b"kyoto-link: out of memory\n")
-TESTS = TOP / "crates" / "test_runs"
-TEST = "weave_rows::stale_proposal"
-# How a test ends that fails, and what this one says where it has no memory to read its scheme and its journals.
+TESTS = ("test_values", "test_stores", "test_runs")
+# What a test says that found no memory for its own texts, and how a test ends that fails.
+READING = b"the test's own texts: "
 FAILED = -signal.SIGABRT
-UNREAD = ("a scheme: NoMemory", "an event: NoMemory", "a message: NoMemory", "memory: AllocFailed { .. }")
-# Examples, and the status that each is to come to.
-EXAMPLES = {
-    "one_transfer": 0,
-    "stale_proposal": 0,
-    "everything_again": 0,
-    "crash_before_commit": 0,
-    "faults/first_fault_of_two": 3,
+# How many seconds a run of a test may take.
+LONGEST = 120
+# Threads that wait for one another end otherwise in each run; an endless session, an input at its limit and millions of
+# interrupted calls take too long to be run thousands of times.
+EXEMPT = {
+    "threaded_run::",
+    "endless_line::",
+    "limit_rows::an_input_has_sixteen_mebibytes",
+    "limit_rows::an_input_is_read_so_often",
+    "limit_rows::a_write_is_interrupted_so_often",
 }
+EXAMPLES = TOP / "examples"
 UNITS = ["NZ:1:1-100:AAU"]
 # A clean-up a day after the moment of all messages.
 CLEANED_UP = {"input": "clean_up", "moment": MOMENT + 86_400}
@@ -128,15 +133,23 @@ class Refusing:
         told = self.room / f"refused-{thread}"
         told.unlink(missing_ok=True)
         given = os.environ | {"LD_PRELOAD": str(self.library), "REFUSE": str(number), "REFUSED": str(told)}
-        ended = subprocess.run([test or program(), *words], input=text, capture_output=True, env=given, check=False)
+        try:
+            words = [test or program(), *words]
+            ended = subprocess.run(words, input=text, capture_output=True, env=given, timeout=LONGEST, check=False)
+        except subprocess.TimeoutExpired:
+            return (None, b"", b"no end"), told.exists()
         return (ended.returncode, ended.stdout, ended.stderr), told.exists()
 
 
-def refuse_each(name, refusing, words, text, folder, status=0):
-    """Whether each run came to all or nothing, and to that status with all its memory. Several threads take the numbers of
-    allocations in turn."""
+def refuse_each(name, refusing, words, text, folder, wanted=None):
+    """Whether each run came to all or nothing, and the first one, with all its memory, to what is wanted. Several threads take
+    the numbers of allocations in turn."""
     whole, _ = refusing.run(words(folder), text, 0)
-    check_end([program(), *words(folder)], whole[0], (status,), whole[2])
+    if wanted is None:
+        check_end([program(), *words(folder)], whole[0], (0,), whole[2])
+    elif whole != wanted:
+        print(f"{name}: status {whole[0]}, {len(whole[1])} bytes written, {whole[2]!r}, which isn't what its folder has")
+        return False
     before = records_in(folder) if folder else None
     numbers = itertools.count(1)
 
@@ -147,8 +160,8 @@ def refuse_each(name, refusing, words, text, folder, status=0):
         while True:
             number = next(numbers)
             came, refused = refusing.run(words(own), text, number, thread=thread)
-            wanted = (whole, OUT_OF_MEMORY) if refused else (whole,)
-            if came not in wanted or (own and records_in(own) != before):
+            ends = (whole, OUT_OF_MEMORY) if refused else (whole,)
+            if came not in ends or (own and records_in(own) != before):
                 what = f"allocation {number}" if refused else "none"
                 others.append(f"with {what} refused: status {came[0]}, {len(came[1])} bytes written, {came[2]!r}")
             if not refused:
@@ -163,45 +176,132 @@ def refuse_each(name, refusing, words, text, folder, status=0):
         print(f"{name}: {text}")
     runs, unwritten = (sum(it[part] for it in ended) for part in (0, 1))
     print(f"{name}: {runs} allocations; out of memory {unwritten} times, else all was written", flush=True)
-    return runs > 0 and not any(others for _, _, others in ended)
+    return not any(others for _, _, others in ended)
 
 
-def refuse_each_of_test(refusing):
-    """Whether the test passed, or stopped in reading, each time."""
-    run_to_end(["rt", "test"], cwd=TESTS, stdout=subprocess.DEVNULL)
-    test = TESTS / "out" / "test_runs_tests"
-    number, passed, unread = 1, 0, 0
-    while True:
-        (status, _, said), refused = refusing.run([TEST], b"", number, test)
-        check_end([test, TEST], status, (0, FAILED) if refused else (0,), said)
-        if not refused:
-            break
-        passed += status == 0
-        unread += status == FAILED and said.decode().rstrip().endswith(UNREAD)
-        number += 1
-    print(f"test {TEST}: {number - 1} allocations; stopped in reading {unread} times, passed {passed} times", flush=True)
-    return passed > 0 and passed + unread == number - 1
+def expected_of(example):
+    """How a run on the example is to end: its status, and the bytes of standard output and of standard error."""
+    error = example / "error"
+    if error.exists():
+        said = error.read_bytes()
+        return (2 if (example / "words").exists() else 3, b"", said)
+    return (0, (example / "output").read_bytes(), b"")
+
+
+def refuse_each_of_examples(refusing):
+    """Whether all examples came to all or nothing."""
+    kept = True
+    folders = sorted(it for it in [*EXAMPLES.iterdir(), *EXAMPLES.glob("*/*")] if it.is_dir())
+    for example in folders:
+        name = example.relative_to(EXAMPLES)
+        given = example / "input"
+        if given.exists():
+            text = given.read_bytes()
+            kept = refuse_each(f"rehearse {name}", refusing, lambda _: ["rehearse"], text, None, expected_of(example)) and kept
+        drawn = example / "chart.mmd"
+        if drawn.exists():
+            kept = refuse_each(f"chart {name}", refusing, lambda _: ["chart"], text, None, (0, drawn.read_bytes(), b"")) and kept
+        line = example / "words"
+        if line.exists():
+            words = line.read_text().split()
+            kept = refuse_each(f"words {name}", refusing, lambda _: words, b"", None, expected_of(example)) and kept
+    return kept
+
+
+def test_programs():
+    """The program of each crate of tests, which `rt test` proves and builds first where that must be."""
+    programs = {}
+    for crate in TESTS:
+        built = TOP / "crates" / crate / "out" / f"{crate}_tests"
+        if not built.exists():
+            run_to_end(["rt", "test"], cwd=TOP / "crates" / crate, stdout=subprocess.DEVNULL)
+        programs[crate] = built
+    return programs
+
+
+def tests_of(test):
+    """The names of all tests of that program."""
+    listed = run_to_end([test, "--list"], stdout=subprocess.PIPE, text=True).stdout
+    return [line.removesuffix(": test") for line in listed.splitlines() if line.endswith(": test")]
+
+
+def allocations_of(refusing, test, name):
+    """How many allocations the test asks for."""
+    low, high = 0, 1
+    while refusing.run([name], b"", high, test)[1]:
+        low, high = high, high * 2
+    while high - low > 1:
+        middle = (low + high) // 2
+        low, high = (middle, high) if refusing.run([name], b"", middle, test)[1] else (low, middle)
+    return low
+
+
+def refuse_each_of_test(refusing, threads, test, name, most):
+    """Whether the test passed with all its memory, and passed, or stopped in reading, with each allocation refused."""
+    whole, _ = refusing.run([name], b"", 0, test)
+    check_end([test, name], whole[0], (0,), whole[2])
+    count = allocations_of(refusing, test, name)
+    step = max(1, count // most)
+    numbers = range(1, count + 1, step)
+
+    def take(number):
+        (status, _, said), _ = refusing.run([name], b"", number, test, f"{name}-{number}")
+        if status == 0:
+            return "passed"
+        return "reading" if status == FAILED and said.startswith(READING) else f"status {status}, {said.decode(errors='replace')}"
+
+    ended = dict(zip(numbers, threads.map(take, numbers)))
+    passed = sum(how == "passed" for how in ended.values())
+    reading = sum(how == "reading" for how in ended.values())
+    others = {number: how for number, how in ended.items() if how not in ("passed", "reading")}
+    for number, how in list(others.items())[:5]:
+        print(f"test {name}: with allocation {number} refused: {how.strip()}")
+    tried = "" if step == 1 else f", {len(numbers)} of them refused"
+    more = f", otherwise {len(others)} times" if others else ""
+    print(f"test {name}: {count} allocations{tried}; passed {passed} times, stopped in reading {reading} times{more}", flush=True)
+    return not others
+
+
+def refuse_each_of_tests(refusing, only, most):
+    """Whether all tests passed, or stopped in reading, each time."""
+    kept = True
+    with concurrent.futures.ThreadPoolExecutor(os.cpu_count() or 1) as threads:
+        for test in test_programs().values():
+            for name in tests_of(test):
+                if only in name and not any(name.startswith(it) for it in EXEMPT):
+                    kept = refuse_each_of_test(refusing, threads, test, name, most) and kept
+    return kept
+
+
+def refuse_each_of_audits(refusing, room):
+    """Whether the audits came to all or nothing, and the stores stayed."""
+    scheme = pathlib.Path(room) / "scheme"
+    text = (EXAMPLES / "stale_proposal" / "input").read_bytes()
+    scheme.write_bytes(text.split(b"\n", 1)[0] + b"\n")
+    kept = True
+    for name, journals in (("one_transfer", WHOLE), ("stale_proposal", STALE)):
+        folder = pathlib.Path(room) / name
+        folder.mkdir()
+        write_stores(folder, texts_of(journals))
+        kept = refuse_each(f"audit {name}", refusing, lambda stores: ["audit", scheme, stores], b"", folder) and kept
+    return kept
 
 
 def main():
     words = argparse.ArgumentParser(description=__doc__, formatter_class=argparse.RawDescriptionHelpFormatter)
-    words.parse_args()
-    program()
+    words.add_argument("--tests", metavar="TEXT", help="run those tests alone whose name has that text, and no command")
+    words.add_argument("--most", type=int, default=2_000, help="how many allocations of a test are refused at most")
+    given = words.parse_args()
+    if given.most < 1:
+        words.error("--most is at least 1")
     with tempfile.TemporaryDirectory() as room:
         refusing = Refusing(room)
-        kept = refuse_each_of_test(refusing)
-        for name, status in EXAMPLES.items():
-            text = (TOP / "examples" / name / "input").read_bytes()
-            kept = refuse_each(f"rehearse {name}", refusing, lambda _: ["rehearse"], text, None, status) and kept
-        scheme = pathlib.Path(room) / "scheme"
-        text = (TOP / "examples" / "stale_proposal" / "input").read_bytes()
-        scheme.write_bytes(text.split(b"\n", 1)[0] + b"\n")
-        for name, journals in (("one_transfer", WHOLE), ("stale_proposal", STALE)):
-            folder = pathlib.Path(room) / name
-            folder.mkdir()
-            write_stores(folder, texts_of(journals))
-            kept = refuse_each(f"audit {name}", refusing, lambda stores: ["audit", scheme, stores], b"", folder) and kept
-    print("all or nothing each time" if kept else "something else was written, or a store changed")
+        kept = refuse_each_of_tests(refusing, given.tests or "", given.most)
+        if given.tests is None:
+            program()
+            kept = refuse_each_of_examples(refusing) and kept
+            kept = refuse_each_of_audits(refusing, room) and kept
+    print("all or nothing each time" if kept else "something else was written, a store changed, or a test failed")
     return 0 if kept else 1
 
 

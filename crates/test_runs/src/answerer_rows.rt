@@ -1,14 +1,17 @@
 use crate::registries::registry;
-use crate::same::assert_same;
+use crate::same::{assert_same, room};
+use crate::standing::standing_at;
 use crate::stations::{COMPLETED, NodeDesk, StillClock, UNKNOWN, desk_of, refused};
 use desk::Seat;
 use exchanges::{Counted, SessionEnd, serve_session};
-use protocol::units::refusal_code::{NODE_STOPPED, NOT_A_MESSAGE};
+use protocol::units::NoMemory;
+use protocol::units::refusal_code::{NODE_STOPPED, NOT_A_MESSAGE, OUT_OF_MEMORY};
 use replies::{Answer, DeskAnswerer};
 use std::alloc::Global;
 use std::process::Abort;
 use std::rt::Clock;
 use std::sync::Wait;
+use test_support::{READING, again};
 
 /// Asserts that these answers refuse by these codes, one after the other, and which of them a journal judged.
 fn assert_refused(rt: &impl Abort, answers: &[Answer], codes: &[u16]) {
@@ -19,7 +22,49 @@ fn assert_refused(rt: &impl Abort, answers: &[Answer], codes: &[u16]) {
     }
 }
 
-/// How a session at the desk over these bytes ends, whose answers have to refuse by these codes.
+/// Asserts that these answers refuse by these codes, as far as there are any, or for memory. Where a node that has
+/// stopped refuses a line for memory, its session goes on, so that there may be an answer more.
+fn assert_refused_so_far(rt: &impl Abort, answers: &[Answer], codes: &[u16]) {
+    let without = refused(rt, OUT_OF_MEMORY);
+    for (answer, code) in answers.iter().zip(codes) {
+        let reply = answer.reply();
+        assert!(rt; reply == without || reply == refused(rt, *code));
+    }
+}
+
+/// Whether one of these answers refuses for memory.
+fn lacks_memory(rt: &impl Abort, answers: &[Answer]) -> bool {
+    let without = refused(rt, OUT_OF_MEMORY);
+    answers.iter().any(|answer| answer.reply() == without)
+}
+
+/// How a session at the desk over these bytes ends, whose answers have to refuse by these codes. `NoMemory` where there
+/// was none for it or for an answer.
+fn served_once(
+    rt: &(impl Wait + Clock + Abort),
+    alloc: Global,
+    desk: &NodeDesk,
+    bytes: &[u8],
+    codes: &[u16],
+) -> Result<SessionEnd, NoMemory> {
+    let seat = Seat::new(alloc);
+    let mut answerer = DeskAnswerer::new(rt, alloc, desk, seat, &StillClock);
+    let mut reader = Counted::new(bytes);
+    let mut writer = Counted::new(room(rt, alloc));
+    let end = serve_session(alloc, &mut reader, &mut writer, &mut answerer);
+    assert_same(rt, writer.failures(), 0);
+    let lacks_memory = lacks_memory(rt, answerer.answers());
+    if end == SessionEnd::NoMemory || lacks_memory {
+        assert_refused_so_far(rt, answerer.answers(), codes);
+        drop(answerer);
+        return Err(NoMemory);
+    }
+    assert_refused(rt, answerer.answers(), codes);
+    drop(answerer);
+    Ok(end)
+}
+
+/// The same, where a session that finds no memory leaves the desk as it was, and another one takes its place.
 fn served(
     rt: &(impl Wait + Clock + Abort),
     alloc: Global,
@@ -28,21 +73,21 @@ fn served(
     codes: &[u16],
 ) -> SessionEnd {
     let seat = Seat::new(alloc);
-    let mut answerer = DeskAnswerer::new(rt, alloc, desk, seat, &StillClock);
-    let mut reader = Counted::new(bytes);
-    let mut writer = Counted::new(Vec::new(alloc));
-    let end = serve_session(alloc, &mut reader, &mut writer, &mut answerer);
-    assert_refused(rt, answerer.answers(), codes);
-    drop(answerer);
-    end
+    let before = standing_at(rt, alloc, desk, &seat);
+    let end = again!(
+        served_once(rt, alloc, desk, bytes, codes),
+        Err(NoMemory) => assert_same(rt, standing_at(rt, alloc, desk, &seat), before)
+    );
+    drop(seat);
+    end.expect(rt, "memory")
 }
 
 /// An empty line, a message about a transfer that the node doesn't know, and a line that is cut.
 #[test]
 fn node_session(rt: HostRuntime) {
     let alloc = rt.alloc();
+    let bytes = format!(in alloc; "\n{COMPLETED}\n{{\"ca").expect(&rt, READING);
     let desk = desk_of(&rt, alloc, registry(&rt, "NZ"));
-    let bytes = format!(in alloc; "\n{COMPLETED}\n{{\"ca").expect(&rt, "memory");
     let end = served(
         &rt,
         alloc,
@@ -58,9 +103,9 @@ fn node_session(rt: HostRuntime) {
 #[test]
 fn session_of_a_stopped_node(rt: HostRuntime) {
     let alloc = rt.alloc();
+    let bytes = format!(in alloc; "{COMPLETED}\n{COMPLETED}\n").expect(&rt, READING);
     let desk = desk_of(&rt, alloc, registry(&rt, "NZ"));
     desk.stop(&rt);
-    let bytes = format!(in alloc; "{COMPLETED}\n{COMPLETED}\n").expect(&rt, "memory");
     let end = served(&rt, alloc, &desk, bytes.as_bytes(), &[NODE_STOPPED]);
     assert_same(&rt, end, SessionEnd::Stopped);
     drop(desk);

@@ -1,38 +1,13 @@
 use crate::given::Given;
 use crate::journals::{
-    ACCEPTED, ASKED, CHECKED, COMPLETED, NONE, PROPOSED, TOLD_JP, TOLD_NZ, assert_fault,
-    assert_table,
+    ACCEPTED, ASKED, CHECKED, COMPLETED, IN_TRANSIT, NONE, OPENING, PROPOSED, TOLD_JP, TOLD_NZ,
+    assert_fault, assert_table,
 };
 use crate::registries::registry;
 use command_faults::OpFault;
 use desk::stores::StoreFault;
 use protocol::units::Node;
-
-const DONE: &str = "\
-transaction NZ1 NZ Completed ITL Completed JP Completed
-registry JP held 100 spendable 100
-holds JP 7 NZ:1:1-100:AAU free
-registry NZ held 0 spendable 0
-owed 0
-end
-";
-
-const IN_TRANSIT: &str = "\
-transaction NZ1 NZ Completed ITL Completed JP Accepted
-registry JP held 0 spendable 0
-registry NZ held 0 spendable 0
-owed 100
-due NZ1 NZ:1:1-100:AAU
-end
-";
-
-const OPENING: &str = "\
-registry JP held 0 spendable 0
-registry NZ held 100 spendable 100
-holds NZ 1 NZ:1:1-100:AAU free
-owed 0
-end
-";
+use test_support::texts::TABLE;
 
 const LOG: &[Given] = &[ASKED, ACCEPTED, COMPLETED];
 
@@ -42,7 +17,7 @@ const NZ: &[Given] = &[PROPOSED, TOLD_NZ];
 
 #[test]
 fn one_transfer(rt: HostRuntime) {
-    assert_table(&rt, rt.alloc(), [LOG, JP, NZ], DONE);
+    assert_table(&rt, rt.alloc(), [LOG, JP, NZ], TABLE);
 }
 
 #[test]

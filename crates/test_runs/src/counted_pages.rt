@@ -2,15 +2,17 @@ ghost use Rattle.std.specs.Prelude.{◌≡◌};
 
 use crate::nz_desk::{nz_core, stored_over, turn};
 use crate::same::{assert_same, assert_same_in};
+use crate::standing::{commit_stored, take_stored};
 use desk::stores::{MemoryStore, NodeStore, StoreFault};
 use desk::{State, Stored};
 use protocol::NodeCore;
-use protocol::units::Node;
+use protocol::units::{NoMemory, Node};
 use protocol::wire::Input;
 use registry_core::RegistryCore;
 use std::alloc::Global;
 use std::marker::Model;
 use std::process::Abort;
+use test_support::again;
 
 /// A store that counts what it is asked. In contracts it is the store.
 #[derive(Drop)]
@@ -87,34 +89,44 @@ fn stored(rt: &impl Abort, alloc: Global) -> Stored<RegistryCore, Counted> {
     stored_over(rt, alloc, core, store)
 }
 
-/// A store of that many records, by which an account is closed and opened in turn, appended at once.
-fn store_of(rt: &impl Abort, alloc: Global, records: usize) -> Counted {
+/// A store of that many records, by which an account is closed and opened in turn, appended at once. `NoMemory` where
+/// it found none.
+fn store_of(rt: &impl Abort, alloc: Global, records: usize) -> Result<Counted, NoMemory> {
     let mut stored = stored(rt, alloc);
     for place in 0..records {
-        drop(stored.take(turn(rt, alloc, place)));
+        drop(take_stored(rt, alloc, &mut stored, turn(place)));
     }
-    assert_same(rt, stored.commit(records), Ok(records));
+    assert_same(rt, commit_stored(rt, &mut stored, records)?, records);
     let (state, store) = stored.into_parts();
     drop(state);
-    store
+    Ok(store)
 }
 
-/// How many records a state that is read from the store has.
-fn records_read(rt: &impl Abort, alloc: Global, store: &mut Counted) -> usize {
-    let loaded = State::load_from(alloc, nz_core(rt, alloc), store);
-    let state = loaded.ok().expect(rt, "a state");
+/// How many records a state that is read from the store has, and for how many pages the store was asked.
+fn records_read(
+    rt: &impl Abort,
+    alloc: Global,
+    store: &mut Counted,
+) -> Result<(usize, u32), StoreFault> {
+    let before = store.pages;
+    let state = State::load_from(alloc, nz_core(rt, alloc), store)?;
     let records = state.committed().len();
     drop(state);
-    records
+    Ok((records, store.pages.saturating_sub(before)))
 }
 
 /// How many pages a store of that many records is asked for, where they are read. It is asked for nothing else.
 fn pages_of(rt: &impl Abort, alloc: Global, records: usize) -> u32 {
-    let mut store = store_of(rt, alloc, records);
-    let before = store.pages;
-    assert_same(rt, records_read(rt, alloc, &mut store), records);
+    let made = again!(store_of(rt, alloc, records), Err(NoMemory) => ());
+    let mut store = made.ok().expect(rt, "memory");
+    let read = again!(
+        records_read(rt, alloc, &mut store),
+        Err(StoreFault::NoMemory) => assert_same(rt, (store.appends, store.loads), (1, 0))
+    );
+    let (read, pages) = read.expect(rt, "a state");
+    assert_same(rt, read, records);
     assert_same(rt, (store.appends, store.loads), (1, 0));
-    store.pages.saturating_sub(before)
+    pages
 }
 
 #[test]

@@ -1,20 +1,21 @@
 use crate::given::Given::{self, Message};
-use crate::given::input_of;
+use crate::journals::records_in;
 use crate::nz_desk::{
-    NzDesk, NzState, NzStored, TEN, TEN_MORE, commit, confirm, next_key, next_transaction, nz_desk,
-    nz_stored, query, recorded, state_left, take_all, turn,
+    NzDesk, NzState, NzStored, TEN, TEN_MORE, confirm, nz_desk, nz_stored, recorded, state_left,
+    take_all, turn,
 };
 use crate::same::{assert_same, assert_same_in};
-use desk::stores::{MemoryStore, NodeStore};
+use crate::standing::{commit, commit_stored, next_for_log, next_key, query, take, take_stored};
 use desk::{Life, Seat, Taken, Told, Unsettled, settle};
 use protocol::Stepped;
 use protocol::status::{Status, TransactionId};
-use protocol::units::Refusal;
 use protocol::units::refusal_code::NODE_STOPPED;
+use protocol::units::{NoMemory, Refusal};
 use std::alloc::Global;
 use std::process::Abort;
 use std::rt::Clock;
 use std::sync::Wait;
+use test_support::again;
 
 const CANCELLED: Given = Message(
     r#"{"call":"AcceptNotification","codes":[],"from":"ITL","status":"Cancelled","to":"NZ","transaction":"JP1"}"#,
@@ -39,30 +40,41 @@ fn desk_of_two(rt: &(impl Wait + Abort), alloc: Global, a: &mut Seat, b: &mut Se
     desk
 }
 
+/// A desk that has committed two proposals, and the seats that were told of them. `NoMemory` where there was none for
+/// its store.
+fn committed_two(rt: &(impl Wait + Abort), alloc: Global) -> Result<(NzDesk, [Seat; 2]), NoMemory> {
+    let (mut a, mut b) = (Seat::new(alloc), Seat::new(alloc));
+    let desk = desk_of_two(rt, alloc, &mut a, &mut b);
+    assert_next(rt, &desk, [None, None, None]);
+    assert_same(rt, commit(rt, &desk)?, 2);
+    Ok((desk, [a, b]))
+}
+
+/// Asserts that the message with that key is next for the log from it on, and is about that transaction.
+fn assert_about(rt: &(impl Wait + Abort), desk: &NzDesk, key: usize, id: &str) {
+    let id = TransactionId::read(id).expect(rt, "an identifier");
+    assert_same(rt, next_for_log(rt, desk, key), Some((key, id)));
+}
+
 #[test]
 fn messages_leave_after_their_commit(rt: HostRuntime) {
     let alloc = rt.alloc();
-    let (mut a, mut b) = (Seat::new(alloc), Seat::new(alloc));
-    let desk = desk_of_two(&rt, alloc, &mut a, &mut b);
-    assert_next(&rt, &desk, [None, None, None]);
-    assert_same(&rt, commit(&rt, &desk), 2);
+    let committed = again!(committed_two(&rt, alloc), Err(NoMemory) => ());
+    let (desk, seats) = committed.ok().expect(&rt, "memory");
     assert_next(&rt, &desk, [Some(0), Some(1), None]);
-    assert_same(
-        &rt,
-        next_transaction(&rt, &desk, 0),
-        TransactionId::read("NZ1"),
-    );
-    assert_same(
-        &rt,
-        next_transaction(&rt, &desk, 1),
-        TransactionId::read("NZ2"),
-    );
-    drop((desk, a, b));
+    assert_about(&rt, &desk, 0, "NZ1");
+    assert_about(&rt, &desk, 1, "NZ2");
+    drop((desk, seats));
 }
 
 /// Asserts that NZ1 stands proposed at the desk, of two records, and confirms that.
-fn assert_proposed(rt: &(impl Wait + Clock + Abort), desk: &NzDesk, seat: &mut Seat) {
-    let taken = query(rt, desk, seat);
+fn assert_proposed(
+    rt: &(impl Wait + Clock + Abort),
+    alloc: Global,
+    desk: &NzDesk,
+    seat: &mut Seat,
+) {
+    let taken = query(rt, alloc, desk, seat);
     let proposed = Told::Status(Some(Status::Proposed));
     assert_same(rt, (taken.told(), taken.length()), (proposed, 2));
     assert!(rt; confirm(rt, desk, seat, taken));
@@ -71,10 +83,9 @@ fn assert_proposed(rt: &(impl Wait + Clock + Abort), desk: &NzDesk, seat: &mut S
 #[test]
 fn a_query_is_confirmed(rt: HostRuntime) {
     let alloc = rt.alloc();
-    let (mut a, mut b) = (Seat::new(alloc), Seat::new(alloc));
-    let desk = desk_of_two(&rt, alloc, &mut a, &mut b);
-    assert_same(&rt, commit(&rt, &desk), 2);
-    assert_proposed(&rt, &desk, &mut a);
+    let committed = again!(committed_two(&rt, alloc), Err(NoMemory) => ());
+    let (desk, [mut a, b]) = committed.ok().expect(&rt, "memory");
+    assert_proposed(&rt, alloc, &desk, &mut a);
     assert_same(&rt, a.confirmed(), 2);
     drop((desk, a, b));
 }
@@ -103,16 +114,17 @@ fn assert_settles(rt: &impl Abort, state: &NzState, seats: &[Seat; 2]) {
         records: 3,
         committed: 2,
     };
-    assert_same(rt, settle(state, seats), Ok(life));
-    assert_same(rt, settle(state, &seats[..1]), Err(Unsettled::Missing(1)));
+    let all = again!(settle(state, seats), Err(Unsettled::NoMemory) => ());
+    assert_same(rt, all, Ok(life));
+    let first = again!(settle(state, &seats[..1]), Err(Unsettled::NoMemory) => ());
+    assert_same(rt, first, Err(Unsettled::Missing(1)));
 }
 
 #[test]
 fn a_stopped_desk_settles(rt: HostRuntime) {
     let alloc = rt.alloc();
-    let (mut a, mut b) = (Seat::new(alloc), Seat::new(alloc));
-    let desk = desk_of_two(&rt, alloc, &mut a, &mut b);
-    assert_same(&rt, commit(&rt, &desk), 2);
+    let committed = again!(committed_two(&rt, alloc), Err(NoMemory) => ());
+    let (desk, [mut a, b]) = committed.ok().expect(&rt, "memory");
     take_all(&rt, alloc, &desk, &mut a, TOLD);
     assert_stops(&rt, alloc, &desk, &mut a);
     let (state, seats) = (state_left(desk), [a, b]);
@@ -124,25 +136,30 @@ fn a_stopped_desk_settles(rt: HostRuntime) {
 fn record_many(rt: &(impl Wait + Abort), alloc: Global, desk: &NzDesk, records: usize) {
     let mut seat = Seat::new(alloc);
     for place in 0..records {
-        drop(desk.take(rt, &mut seat, turn(rt, alloc, place)));
+        drop(take(rt, alloc, desk, &mut seat, turn(place)));
     }
     drop(seat);
+}
+
+/// How many of 65 records each of three commits of a desk appends. `NoMemory` where its store found none.
+fn three_commits(rt: &(impl Wait + Abort), alloc: Global) -> Result<[usize; 3], NoMemory> {
+    let desk = nz_desk(rt, alloc);
+    record_many(rt, alloc, &desk, 65);
+    let first = commit(rt, &desk)?;
+    let second = commit(rt, &desk)?;
+    Ok([first, second, commit(rt, &desk)?])
 }
 
 #[test]
 fn a_desk_commits_64_at_most(rt: HostRuntime) {
     let alloc = rt.alloc();
-    let desk = nz_desk(&rt, alloc);
-    record_many(&rt, alloc, &desk, 65);
-    for records in [64, 1, 0] {
-        assert_same(&rt, desk.commit_next(&rt), Ok(records));
-    }
-    drop(desk);
+    let commits = again!(three_commits(&rt, alloc), Err(NoMemory) => ());
+    assert_same(&rt, commits, Ok([64, 1, 0]));
 }
 
 /// Asserts what the state tells of an input.
 fn assert_stored(rt: &impl Abort, alloc: Global, stored: &mut NzStored, given: Given, told: Told) {
-    let taken = stored.take(input_of(rt, alloc, given));
+    let taken = take_stored(rt, alloc, stored, given);
     assert_same(rt, taken.told(), told);
     drop(taken);
 }
@@ -157,34 +174,34 @@ fn stored_two(rt: &impl Abort, alloc: Global) -> NzStored {
 
 /// How many records the state would commit next, where a batch has at most `max`.
 fn next_batch(rt: &impl Abort, state: &NzState, max: usize) -> usize {
-    let batch = state.batch(max).expect(rt, "memory");
+    let found = again!(state.batch(max), Err(NoMemory) => ());
+    let batch = found.expect(rt, "memory");
     let records = batch.len();
     drop(batch);
     records
 }
 
 /// Has the state commit its next batch of at most `max` records.
-fn commit_batch(rt: &impl Abort, stored: &mut NzStored, max: usize) {
+fn commit_batch(rt: &impl Abort, stored: &mut NzStored, max: usize) -> Result<(), NoMemory> {
     let batch = next_batch(rt, stored.state(), max);
-    assert_same(rt, stored.commit(max), Ok(batch));
+    assert_same(rt, commit_stored(rt, stored, max)?, batch);
+    Ok(())
 }
 
-/// How many records the store has.
-fn records_in(rt: &impl Abort, store: &mut MemoryStore) -> usize {
-    let loaded = store.load().expect(rt, "memory");
-    let records = loaded.len();
-    drop(loaded);
-    records
+/// A state of two records that has committed batches of at most these numbers of records.
+fn committed_in(rt: &impl Abort, alloc: Global, batches: &[usize]) -> Result<NzStored, NoMemory> {
+    let mut stored = stored_two(rt, alloc);
+    for max in batches {
+        commit_batch(rt, &mut stored, *max)?;
+    }
+    Ok(stored)
 }
 
 /// Has a state of two records commit batches of at most these numbers of records, and asserts how many are committed
 /// then, which its store has.
 fn assert_committed(rt: &impl Abort, alloc: Global, batches: &[usize], records: usize) {
-    let mut stored = stored_two(rt, alloc);
-    for max in batches {
-        commit_batch(rt, &mut stored, *max);
-    }
-    let (state, mut store) = stored.into_parts();
+    let committed = again!(committed_in(rt, alloc, batches), Err(NoMemory) => ());
+    let (state, mut store) = committed.ok().expect(rt, "memory").into_parts();
     assert_same(rt, state.committed().len(), records);
     let next = next_batch(rt, &state, 64);
     assert_same(rt, records.checked_add(next), Some(2));
@@ -215,20 +232,21 @@ fn not_received(rt: &impl Abort, state: &NzState, taken: Taken) -> Taken {
 }
 
 /// Asserts that of the first there is a receipt once one record is committed, and of the second only after another.
-fn assert_receipts(rt: &impl Abort, stored: &mut NzStored, first: Taken, second: Taken) {
-    commit_batch(rt, stored, 1);
+fn assert_receipts(rt: &impl Abort, alloc: Global) -> Result<(), NoMemory> {
+    let mut stored = nz_stored(rt, alloc);
+    let first = take_stored(rt, alloc, &mut stored, TEN);
+    let second = take_stored(rt, alloc, &mut stored, TEN_MORE);
+    commit_batch(rt, &mut stored, 1)?;
     assert_same(rt, received(rt, stored.state(), first), 1);
     let second = not_received(rt, stored.state(), second);
-    commit_batch(rt, stored, 1);
+    commit_batch(rt, &mut stored, 1)?;
     assert_same(rt, received(rt, stored.state(), second), 2);
+    Ok(())
 }
 
 #[test]
 fn what_is_committed_has_a_receipt(rt: HostRuntime) {
     let alloc = rt.alloc();
-    let mut stored = nz_stored(&rt, alloc);
-    let first = stored.take(input_of(&rt, alloc, TEN));
-    let second = stored.take(input_of(&rt, alloc, TEN_MORE));
-    assert_receipts(&rt, &mut stored, first, second);
-    drop(stored);
+    let asserted = again!(assert_receipts(&rt, alloc), Err(NoMemory) => ());
+    assert_same(&rt, asserted, Ok(()));
 }

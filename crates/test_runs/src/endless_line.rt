@@ -80,7 +80,8 @@ where
     let network = network_of(dialer, OpenGate);
     let (ended, is_cut_off) = run_and_drip(rt, alloc, &node, &network);
     drop(network);
-    (is_cut_off, records_of(rt, node, ended, None))
+    let records = records_of(rt, node, ended, None);
+    (is_cut_off, records.expect(rt, "memory"))
 }
 
 /// The same of NZ, over a socket.

@@ -9,6 +9,7 @@ use std::process::Abort;
 use std::rt::Clock as SystemClock;
 use std::sync::Wait;
 use std::thread::Threads;
+use test_support::again;
 
 /// A proposal that NZ's store doesn't take, a question to NZ after that, and one to JP.
 const AT_ONCE: &str = "\
@@ -58,7 +59,8 @@ where
         fault: StoreFault::Device,
     };
     assert_same(rt, done, Err(fault));
-    let line = format!(in alloc; "{fault}").expect(rt, "memory");
+    let line = again!(format!(in alloc; "{fault}"), Err(_) => ());
+    let line = line.expect(rt, "memory");
     assert!(rt; line.as_str() == FAULT_LINE);
     assert!(rt; written.as_slice() == answers.as_bytes());
 }

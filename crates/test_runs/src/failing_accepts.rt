@@ -4,13 +4,13 @@ use crate::registries::registry;
 use crate::same::assert_same;
 use crate::stations::{
     COMPLETED, Ended, NodeDesk, TestNode, TestTypes, UNKNOWN, add_port, call, message, network_of,
-    node_of, records_of, refused, run_both,
+    node_of, records_of, refused, run_both, wait_for_threads,
 };
 use crate::waits::TURNS;
 use desk::{OpenGate, Seat, Told};
 use exchanges::Exchange;
 use protocol::Stepped;
-use protocol::units::NoMemory;
+use protocol::units::{NoMemory, Refusal};
 use protocol::wire::{Input, Message};
 use sessions::{Dial, Network};
 use sockets::Ports;
@@ -22,6 +22,7 @@ use std::sync::Wait;
 use std::thread;
 use std::thread::Threads;
 use std::time::Duration;
+use test_support::again;
 
 /// An order to close an account of NZ.
 const CLOSE: Given = Event("close NZ 2");
@@ -44,10 +45,21 @@ fn wait_for_stop<R: Wait + Clock>(rt: &R, desk: &NodeDesk) -> bool {
 #[derive(Drop)]
 struct After {
     stopped: bool,
-    exchanged: Option<Exchange>,
+    exchanged: Result<Exchange, NoMemory>,
     told: Told,
     confirmed: bool,
     seat: Seat,
+}
+
+/// Whether all threads of both nodes have begun, and JP has stopped then.
+fn begin_and_stop<D: Dial + Send + Sync + Drop, R: Wait + Clock>(
+    rt: &R,
+    nz: &TestNode<D, OpenGate>,
+    jp: &TestNode<D, OpenGate>,
+) -> Result<bool, NoMemory> {
+    wait_for_threads(rt, nz)?;
+    wait_for_threads(rt, jp)?;
+    Ok(wait_for_stop(rt, &jp.station.desk))
 }
 
 /// Has the desk take an order, and waits for its receipt. Returns what was told, whether there is a receipt, and the
@@ -65,7 +77,7 @@ fn order_at<R: Wait + Clock>(
     (told, confirmed, seat)
 }
 
-/// An exchange with NZ and an order to it, once JP has stopped. Then NZ stops.
+/// An exchange with NZ and an order to it, once JP has stopped.
 fn call_after_stop<D: Dial + Send + Sync + Drop, R: Wait + Clock>(
     rt: &R,
     alloc: Global,
@@ -74,19 +86,33 @@ fn call_after_stop<D: Dial + Send + Sync + Drop, R: Wait + Clock>(
     dial: &D,
     message: &Message,
     order: Input,
-) -> After {
-    let stopped = wait_for_stop(rt, &jp.station.desk);
+) -> Result<After, NoMemory> {
+    let stopped = begin_and_stop(rt, nz, jp)?;
     let exchanged = call(alloc, dial, nz.station.node, message);
     let (told, confirmed, seat) = order_at(rt, alloc, &nz.station.desk, order);
-    nz.station.desk.stop(rt);
-    jp.station.desk.stop(rt);
-    After {
+    Ok(After {
         stopped,
         exchanged,
         told,
         confirmed,
         seat,
-    }
+    })
+}
+
+/// The same. Then both stop.
+fn call_and_stop<D: Dial + Send + Sync + Drop, R: Wait + Clock>(
+    rt: &R,
+    alloc: Global,
+    nz: &TestNode<D, OpenGate>,
+    jp: &TestNode<D, OpenGate>,
+    dial: &D,
+    message: &Message,
+    order: Input,
+) -> Result<After, NoMemory> {
+    let after = call_after_stop(rt, alloc, nz, jp, dial, message, order);
+    nz.station.desk.stop(rt);
+    jp.station.desk.stop(rt);
+    after
 }
 
 /// Two nodes, and what is done once one of them has stopped.
@@ -98,7 +124,7 @@ fn run_and_stop<D, R>(
     network: &Network<TestTypes<D, OpenGate>>,
     message: &Message,
     order: Input,
-) -> (Result<Vec<Ended>, NoMemory>, After)
+) -> (Result<Vec<Ended>, NoMemory>, Result<After, NoMemory>)
 where
     D: Dial + Send + Sync + Drop,
     R: Threads + Wait + Clock + Sync,
@@ -106,7 +132,7 @@ where
     thread::join(
         rt,
         move || run_both(rt, alloc, nz, jp, network, &[]),
-        move || call_after_stop(rt, alloc, nz, jp, &network.dialer, message, order),
+        move || call_and_stop(rt, alloc, nz, jp, &network.dialer, message, order),
     )
 }
 
@@ -116,13 +142,41 @@ fn assert_records<D: Dial + Send + Sync + Drop>(
     (nz, jp): (TestNode<D, OpenGate>, TestNode<D, OpenGate>),
     ran: Result<Vec<Ended>, NoMemory>,
     seat: Seat,
-) {
-    let mut ends = ran.expect(rt, "memory");
+) -> Result<(), NoMemory> {
+    let mut ends = ran?;
     let at_jp = ends.pop().expect(rt, "an end");
     let at_nz = ends.pop().expect(rt, "an end");
     drop(ends);
-    assert_same(rt, records_of(rt, nz, at_nz, Some(seat)), (1, 1));
-    assert_same(rt, records_of(rt, jp, at_jp, None), (0, 0));
+    let at_nz = records_of(rt, nz, at_nz, Some(seat))?;
+    let at_jp = records_of(rt, jp, at_jp, None)?;
+    assert_same(rt, (at_nz, at_jp), ((1, 1), (0, 0)));
+    Ok(())
+}
+
+/// Asserts what became of the client and of the order. `NoMemory` where memory ran out for one of them, also at the
+/// nodes.
+fn assert_after<D: Dial + Send + Sync + Drop>(
+    rt: &impl Abort,
+    nodes: (TestNode<D, OpenGate>, TestNode<D, OpenGate>),
+    ran: Result<Vec<Ended>, NoMemory>,
+    after: Result<After, NoMemory>,
+) -> Result<(), NoMemory> {
+    let After {
+        stopped,
+        exchanged,
+        told,
+        confirmed,
+        seat,
+    } = after?;
+    let exchanged = exchanged?;
+    if told == Told::Refused(Refusal::NO_MEMORY) {
+        return Err(NoMemory);
+    }
+    assert_records(rt, nodes, ran, seat)?;
+    assert!(rt; stopped && confirmed);
+    assert_same(rt, exchanged, Exchange::Answered(refused(rt, UNKNOWN)));
+    assert_same(rt, told, Told::Step(Stepped::Recorded(0)));
+    Ok(())
 }
 
 /// Asserts what becomes of a client of NZ and of an order there, once JP has stopped.
@@ -131,29 +185,26 @@ fn assert_goes_on<D, R>(
     alloc: Global,
     (nz, jp): (TestNode<D, OpenGate>, TestNode<D, OpenGate>),
     dialer: D,
-)
+    message: &Message,
+    order: Input,
+) -> Result<(), NoMemory>
 where
     D: Dial + Send + Sync + Drop,
     R: Threads + Wait + Clock + Abort + Sync,
 {
-    let completed = message(rt, alloc, COMPLETED);
-    let order = input_of(rt, alloc, CLOSE);
     let network = network_of(dialer, OpenGate);
-    let (ran, after) = run_and_stop(rt, alloc, &nz, &jp, &network, &completed, order);
+    let (ran, after) = run_and_stop(rt, alloc, &nz, &jp, &network, message, order);
     drop(network);
-    drop(completed);
-    assert!(rt; after.stopped && after.confirmed);
-    assert_same(
-        rt,
-        after.exchanged,
-        Some(Exchange::Answered(refused(rt, UNKNOWN))),
-    );
-    assert_same(rt, after.told, Told::Step(Stepped::Recorded(0)));
-    assert_records(rt, (nz, jp), ran, after.seat);
+    assert_after(rt, (nz, jp), ran, after)
 }
 
-/// At NZ all accepts fail but the last that may, and at JP all.
-fn assert_accepts<'a, R>(rt: &'a R, alloc: Global)
+/// Asserts the same where at NZ all accepts fail but the last that may, and at JP all.
+fn assert_accepts<'a, R>(
+    rt: &'a R,
+    alloc: Global,
+    message: &Message,
+    order: Input,
+) -> Result<(), NoMemory>
 where
     R: Threads + Wait + Clock + Net<Listener = TcpListener, Stream = TcpStream> + Abort + Sync,
 {
@@ -163,11 +214,18 @@ where
     let at_jp = add_port(rt, &mut ports, jp, u64::MAX);
     let nz = node_of::<Ports<&'a R>, OpenGate>(rt, alloc, nz, at_nz);
     let jp = node_of::<Ports<&'a R>, OpenGate>(rt, alloc, jp, at_jp);
-    assert_goes_on::<Ports<&'a R>, R>(rt, alloc, (nz, jp), ports);
+    assert_goes_on::<Ports<&'a R>, R>(rt, alloc, (nz, jp), ports, message, order)
 }
 
-/// NZ replies, and JP stops, and no other node does.
+/// At NZ all accepts fail but the last that may, and it replies; at JP all fail, and it stops, and no other node does.
 #[test]
 fn hundred_accepts(rt: HostRuntime) {
-    assert_accepts(&rt, rt.alloc());
+    let alloc = rt.alloc();
+    let completed = message(&rt, alloc, COMPLETED);
+    let asserted = again!(
+        assert_accepts(&rt, alloc, &completed, input_of(&rt, alloc, CLOSE)),
+        Err(NoMemory) => ()
+    );
+    assert_same(&rt, asserted, Ok(()));
+    drop(completed);
 }

@@ -3,6 +3,7 @@
 use std::alloc::Global;
 use std::io::{self, ErrorKind, Read, Write};
 use std::process::Abort;
+use test_support::READING;
 
 /// Gives its bytes one by one, and fails in the place of the byte at `fails_at`.
 #[derive(Drop)]
@@ -91,8 +92,8 @@ impl Write for Halting {
 pub fn long_line(rt: &impl Abort, alloc: Global, byte: u8, count: usize) -> Vec<u8> {
     let mut line = Vec::new(alloc);
     for _ in 0..count {
-        line.push(byte).expect(rt, "memory");
+        line.push(byte).expect(rt, READING);
     }
-    line.push(b'\n').expect(rt, "memory");
+    line.push(b'\n').expect(rt, READING);
     line
 }

@@ -3,11 +3,10 @@ use crate::journals::{ACCEPTED, ASKED, CHECKED, NONE, PROPOSED, TOLD_JP, assert_
 use crate::registries::registry;
 use command_faults::OpFault;
 use protocol::units::Node;
+use test_support::texts;
 
 /// The proposal at the log, with one unit fewer.
-const FEWER: Given = Message(
-    r#"{"account":1,"call":"AcceptProposal","from":"NZ","status":"Proposed","to":"ITL","to_account":7,"to_registry":"JP","transaction":"NZ1","units":["NZ:1:1-99:AAU"]}"#,
-);
+const FEWER: Given = Message(texts::PROPOSED_99);
 
 #[test]
 fn another_proposal_came_to_the_log(rt: HostRuntime) {

@@ -6,6 +6,7 @@ use protocol::status::Moment;
 use protocol::wire::{Input, decode};
 use std::alloc::Global;
 use std::process::Abort;
+use test_support::READING;
 
 /// What a row gives a node.
 #[derive(Clone, Copy, Debug)]
@@ -34,11 +35,11 @@ fn taken(event: WorldEvent) -> Option<Input> {
 pub fn input_of(rt: &impl Abort, alloc: Global, given: Given) -> Input {
     match given {
         Given::Event(line) => {
-            let event = event_of(alloc, line.as_bytes()).expect(rt, "an event");
+            let event = event_of(alloc, line.as_bytes()).expect(rt, READING);
             taken(event).expect(rt, "an input")
         }
         Given::Message(text) => {
-            let message = decode(alloc, text.as_bytes()).expect(rt, "a message");
+            let message = decode(alloc, text.as_bytes()).expect(rt, READING);
             let moment = Moment::new(MOMENT).expect(rt, "in 2012");
             Input::Received { message, moment }
         }

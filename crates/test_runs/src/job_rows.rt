@@ -1,23 +1,29 @@
 use crate::same::assert_same;
 use crate::stations::{ACCEPTED, COMPLETED, message};
 use protocol::units::Refusal;
-use protocol::units::refusal_code::NOT_A_MESSAGE;
+use protocol::units::refusal_code::{NOT_A_MESSAGE, OUT_OF_MEMORY};
 use replies::Job;
 use std::alloc::Global;
-use std::process::Abort;
+use test_support::again;
 
-fn job(rt: &impl Abort, alloc: Global, text: &str) -> Job {
-    Job::read(alloc, text.as_bytes()).expect(rt, "a message")
+/// The job of a line.
+fn job(alloc: Global, line: &[u8]) -> Result<Job, Refusal> {
+    again!(
+        Job::read(alloc, line),
+        Err(Refusal {
+            code: OUT_OF_MEMORY,
+        }) => ()
+    )
 }
 
 #[test]
 fn a_job_has_its_line_and_message(rt: HostRuntime) {
     let alloc = rt.alloc();
-    let job = job(&rt, alloc, COMPLETED);
     let (same, other) = (
         message(&rt, alloc, COMPLETED),
         message(&rt, alloc, ACCEPTED),
     );
+    let job = job(alloc, COMPLETED.as_bytes()).expect(&rt, "a message");
     assert_same(&rt, job.line(), COMPLETED.as_bytes());
     assert!(rt; job.message().same(&same) && !job.message().same(&other));
     let (line, message) = job.into_parts();
@@ -30,7 +36,7 @@ fn a_job_has_its_line_and_message(rt: HostRuntime) {
 
 #[test]
 fn a_line_that_is_no_message_is_no_job(rt: HostRuntime) {
-    let refusal = Job::read(rt.alloc(), b"{}").err();
+    let refusal = job(rt.alloc(), b"{}").err();
     let code = NOT_A_MESSAGE;
     assert_same(&rt, refusal, Some(Refusal { code }));
 }

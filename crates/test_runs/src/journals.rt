@@ -3,47 +3,55 @@
 use crate::given::Given::{self, Event, Message};
 use crate::given::input_of;
 use crate::registries::{registry, worked_scheme};
-use crate::same::assert_same;
+use crate::same::{assert_same, room};
 use audit::audit;
 use command_faults::OpFault;
-use desk::stores::{MemoryStore, NodeStore};
+use desk::stores::{MemoryStore, NodeStore, StoreFault};
 use protocol::units::Node;
 use protocol::wire::Input;
 use std::alloc::Global;
 use std::process::Abort;
+use test_support::{again, texts};
 
 /// What NZ proposes.
 pub const PROPOSED: Given = Event("propose NZ 1 JP 7 NZ:1:1-100:AAU");
 
 /// The proposal at the log.
-pub const ASKED: Given = Message(
-    r#"{"account":1,"call":"AcceptProposal","from":"NZ","status":"Proposed","to":"ITL","to_account":7,"to_registry":"JP","transaction":"NZ1","units":["NZ:1:1-100:AAU"]}"#,
-);
+pub const ASKED: Given = Message(texts::PROPOSED);
 
 /// The proposal at JP, which the log has checked.
-pub const CHECKED: Given = Message(
-    r#"{"account":1,"call":"AcceptProposal","from":"ITL","status":"Checked","to":"JP","to_account":7,"to_registry":"JP","transaction":"NZ1","units":["NZ:1:1-100:AAU"]}"#,
-);
+pub const CHECKED: Given = Message(texts::CHECKED);
 
 /// That JP accepted, at the log.
-pub const ACCEPTED: Given = Message(
-    r#"{"call":"AcceptNotification","codes":[],"from":"JP","status":"Accepted","to":"ITL","transaction":"NZ1"}"#,
-);
+pub const ACCEPTED: Given = Message(texts::ACCEPTED);
 
 /// The same at NZ.
-pub const TOLD_NZ: Given = Message(
-    r#"{"call":"AcceptNotification","codes":[],"from":"ITL","status":"Accepted","to":"NZ","transaction":"NZ1"}"#,
-);
+pub const TOLD_NZ: Given = Message(texts::ACCEPTED_TO_NZ);
 
 /// That NZ completed, at the log.
-pub const COMPLETED: Given = Message(
-    r#"{"call":"AcceptNotification","codes":[],"from":"NZ","status":"Completed","to":"ITL","transaction":"NZ1"}"#,
-);
+pub const COMPLETED: Given = Message(texts::COMPLETED);
 
 /// The same at JP.
-pub const TOLD_JP: Given = Message(
-    r#"{"call":"AcceptNotification","codes":[],"from":"ITL","status":"Completed","to":"JP","transaction":"NZ1"}"#,
-);
+pub const TOLD_JP: Given = Message(texts::COMPLETED_TO_JP);
+
+/// The table where JP has the log's Completed and hasn't committed it.
+pub const IN_TRANSIT: &str = "\
+transaction NZ1 NZ Completed ITL Completed JP Accepted
+registry JP held 0 spendable 0
+registry NZ held 0 spendable 0
+owed 100
+due NZ1 NZ:1:1-100:AAU
+end
+";
+
+/// The table of the worked scheme's opening.
+pub const OPENING: &str = "\
+registry JP held 0 spendable 0
+registry NZ held 100 spendable 100
+holds NZ 1 NZ:1:1-100:AAU free
+owed 0
+end
+";
 
 /// No records.
 pub const NONE: &[Given] = &[];
@@ -51,18 +59,37 @@ pub const NONE: &[Given] = &[];
 /// Records of the log, of JP and of NZ.
 pub type Journals<'a> = [&'a [Given]; 3];
 
-/// Appends one record.
-fn append(rt: &impl Abort, store: &mut MemoryStore, record: Input) {
+/// How many records the store has.
+pub fn records_in<S: NodeStore>(rt: &impl Abort, store: &mut S) -> usize {
+    let loaded = again!(store.load(), Err(StoreFault::NoMemory) => ());
+    let records = loaded.expect(rt, "the records");
+    let count = records.len();
+    drop(records);
+    count
+}
+
+/// Reopens a store that found no memory, and asserts that it has that many records.
+fn reopen(rt: &impl Abort, store: &mut MemoryStore, records: usize) {
+    assert_same(rt, store.reopen(), Ok(()));
+    assert_same(rt, records_in(rt, store), records);
+}
+
+/// Appends one record to those that the store has.
+pub fn append(rt: &impl Abort, store: &mut MemoryStore, records: usize, record: Input) {
     let batch = [record];
-    assert!(rt; store.append(&batch).is_ok());
+    let done = again!(
+        store.append(&batch),
+        Err(StoreFault::NoMemory) => reopen(rt, store, records)
+    );
+    assert_same(rt, done, Ok(()));
     drop(batch);
 }
 
 /// A store with these records.
 fn store_of(rt: &impl Abort, alloc: Global, node: Node, journal: &[Given]) -> MemoryStore {
     let mut store = MemoryStore::new(alloc, node);
-    for given in journal {
-        append(rt, &mut store, input_of(rt, alloc, *given));
+    for (records, given) in journal.iter().enumerate() {
+        append(rt, &mut store, records, input_of(rt, alloc, *given));
     }
     store
 }
@@ -80,8 +107,11 @@ pub fn audited(
         store_of(rt, alloc, registry(rt, "JP"), jp),
         store_of(rt, alloc, registry(rt, "NZ"), nz),
     ];
-    let mut written = Vec::new(alloc);
-    let done = audit(alloc, &scheme, &mut stores, &mut written);
+    let mut written = room(rt, alloc);
+    let done = again!(
+        audit(alloc, &scheme, &mut stores, &mut written),
+        Err(OpFault::NoMemory) => assert!(rt; written.is_empty())
+    );
     drop(stores);
     drop(scheme);
     (done, written)

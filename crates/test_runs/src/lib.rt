@@ -60,6 +60,8 @@ mod session_rows;
 #[cfg(test)]
 mod settle_rows;
 #[cfg(test)]
+mod standing;
+#[cfg(test)]
 mod stations;
 #[cfg(test)]
 mod thread_rows;

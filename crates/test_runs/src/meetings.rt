@@ -1,8 +1,9 @@
 use crate::registries::registry;
 use crate::same::assert_same;
 use crate::stations::{
-    ACCEPTED, CANCELLED, Ended, PROPOSAL, TestNode, TestTypes, UNKNOWN, add_port, call,
-    exchange_over, message, network_of, node_of, records_of, refused, run_both,
+    ACCEPTED, CANCELLED, Ended, TestNode, TestTypes, UNKNOWN, add_port, call, exchange_over,
+    message, network_of, node_of, records_of, refused, run_both, unless_no_memory,
+    wait_for_threads,
 };
 use crate::waits::{HeldGate, Signals};
 use desk::{Gate, OpenGate};
@@ -19,6 +20,8 @@ use std::rt::Clock;
 use std::sync::Wait;
 use std::thread;
 use std::thread::Threads;
+use test_support::again;
+use test_support::texts::PROPOSED;
 
 /// How many bytes of its line a client sends at most before it waits.
 const FEW: usize = 50;
@@ -32,17 +35,19 @@ enum Way {
     Whole,
 }
 
-/// What two clients send: the first to one node, for that reply, and the second, once the first has begun, to that node
-/// or another.
+/// What two clients send: the first to one node, and the second, once the first has begun, to that node or another.
 #[derive(Drop)]
 struct Plan {
     way: Way,
     first: Message,
     first_to: Node,
-    first_reply: Reply,
     second: Message,
     second_to: Node,
 }
+
+/// How the exchanges of the two clients end. `NoMemory` where memory ran out for one of them, and for the second also
+/// where the first hasn't begun.
+type Met = (Result<Exchange, NoMemory>, Result<Exchange, NoMemory>);
 
 /// A writer that says when it has taken the first bytes, `FEW` at most, and takes no more until the other client's
 /// exchange has ended. It fails where that takes longer than `TURNS` turns of one millisecond.
@@ -86,29 +91,30 @@ fn call_in_parts<D: Dial, R: Clock>(
     dial: &D,
     plan: &Plan,
     signals: &Signals,
-) -> Option<Exchange> {
-    let (reader, writer) = dial.connect(plan.first_to)?;
+) -> Result<Exchange, NoMemory> {
+    let Some((reader, writer)) = dial.connect(plan.first_to) else {
+        return Err(NoMemory);
+    };
     let halved = Halved {
         writer,
         clock: rt,
         signals,
     };
-    Some(exchange_over(alloc, reader, halved, &plan.first))
+    unless_no_memory(exchange_over(alloc, reader, halved, &plan.first))
 }
 
-/// What the first client does. Returns whether it has the reply that it should have.
+/// What the first client does.
 fn send_first<D: Dial, R: Clock>(
     rt: &R,
     alloc: Global,
     dial: &D,
     plan: &Plan,
     signals: &Signals,
-) -> bool {
-    let end = match plan.way {
+) -> Result<Exchange, NoMemory> {
+    match plan.way {
         Way::InParts => call_in_parts(rt, alloc, dial, plan, signals),
         Way::Whole => call(alloc, dial, plan.first_to, &plan.first),
-    };
-    end == Some(Exchange::Answered(plan.first_reply))
+    }
 }
 
 /// Sends the second message once the first client has begun, and says when it has a reply.
@@ -118,16 +124,40 @@ fn send_second<D: Dial, R: Clock>(
     dial: &D,
     plan: &Plan,
     signals: &Signals,
-) -> Option<Exchange> {
+) -> Result<Exchange, NoMemory> {
     if !signals.begun.wait(rt) {
-        return None;
+        return Err(NoMemory);
     }
     let end = call(alloc, dial, plan.second_to, &plan.second);
     signals.over.set();
     end
 }
 
-/// Two clients at the same time. Then both nodes stop.
+/// Two clients at the same time, once the threads of both nodes have begun.
+fn meet_begun<D, G, R>(
+    rt: &R,
+    alloc: Global,
+    dial: &D,
+    pair: &Pair<D, G>,
+    plan: &Plan,
+    signals: &Signals,
+) -> Met
+where
+    D: Dial + Send + Sync + Drop,
+    G: Gate + Send + Sync + Drop,
+    R: Threads + Wait + Clock + Sync,
+{
+    if wait_for_threads(rt, &pair.one).is_err() || wait_for_threads(rt, &pair.other).is_err() {
+        return (Err(NoMemory), Err(NoMemory));
+    }
+    thread::join(
+        rt,
+        move || send_first(rt, alloc, dial, plan, signals),
+        move || send_second(rt, alloc, dial, plan, signals),
+    )
+}
+
+/// The same. Then both nodes stop.
 fn meet<D, G, R>(
     rt: &R,
     alloc: Global,
@@ -135,17 +165,13 @@ fn meet<D, G, R>(
     pair: &Pair<D, G>,
     plan: &Plan,
     signals: &Signals,
-) -> (bool, Option<Exchange>)
+) -> Met
 where
     D: Dial + Send + Sync + Drop,
     G: Gate + Send + Sync + Drop,
     R: Threads + Wait + Clock + Sync,
 {
-    let both = thread::join(
-        rt,
-        move || send_first(rt, alloc, dial, plan, signals),
-        move || send_second(rt, alloc, dial, plan, signals),
-    );
+    let both = meet_begun(rt, alloc, dial, pair, plan, signals);
     pair.one.station.desk.stop(rt);
     pair.other.station.desk.stop(rt);
     both
@@ -159,7 +185,7 @@ fn run_and_meet<D, G, R>(
     pair: &Pair<D, G>,
     plan: &Plan,
     signals: &Signals,
-) -> (Result<Vec<Ended>, NoMemory>, (bool, Option<Exchange>))
+) -> (Result<Vec<Ended>, NoMemory>, Met)
 where
     D: Dial + Send + Sync + Drop,
     G: Gate + Send + Sync + Drop,
@@ -177,20 +203,19 @@ fn records_of_both<D: Dial + Send + Sync + Drop, G: Gate + Send + Sync + Drop>(
     rt: &impl Abort,
     pair: Pair<D, G>,
     ended: Result<Vec<Ended>, NoMemory>,
-) -> (usize, usize) {
+) -> Result<(usize, usize), NoMemory> {
     let Pair { one, other } = pair;
-    let mut ends = ended.expect(rt, "memory");
+    let mut ends = ended?;
     let of_other = ends.pop().expect(rt, "an end");
     let of_one = ends.pop().expect(rt, "an end");
     drop(ends);
-    let (first, _) = records_of(rt, one, of_one, None);
-    let (second, _) = records_of(rt, other, of_other, None);
-    (first, second)
+    let (first, _) = records_of(rt, one, of_one, None)?;
+    let (second, _) = records_of(rt, other, of_other, None)?;
+    Ok((first, second))
 }
 
-/// What comes of two clients of two nodes: whether the first one has the reply that it should have, how the exchange of
-/// the second one ends, and how many records the two nodes have.
-type Meeting = ((bool, Option<Exchange>), (usize, usize));
+/// How the exchanges of two clients end, and how many records the two nodes have then.
+type Meeting = ((Exchange, Exchange), (usize, usize));
 
 /// What comes of that plan at these nodes. Gives the gate back.
 fn met_at<D, G, R>(
@@ -200,7 +225,7 @@ fn met_at<D, G, R>(
     (dialer, gate): (D, G),
     plan: &Plan,
     signals: &Signals,
-) -> (Meeting, G)
+) -> (Result<Meeting, NoMemory>, G)
 where
     D: Dial + Send + Sync + Drop,
     G: Gate + Send + Sync + Drop,
@@ -214,11 +239,20 @@ where
         gate,
     } = network;
     drop(dialer);
-    ((met, records_of_both(rt, pair, ended)), gate)
+    (all_of(met, records_of_both(rt, pair, ended)), gate)
+}
+
+/// The ends and the records. `NoMemory` where memory ran out for one of them.
+fn all_of(
+    (first, second): Met,
+    records: Result<(usize, usize), NoMemory>,
+) -> Result<Meeting, NoMemory> {
+    let records = records?;
+    Ok(((first?, second?), records))
 }
 
 /// What comes of that plan at the log and at NZ.
-fn met_at_log<'a, R>(rt: &'a R, alloc: Global, plan: &Plan) -> Meeting
+fn met_at_log<'a, R>(rt: &'a R, alloc: Global, plan: &Plan) -> Result<Meeting, NoMemory>
 where
     R: Threads + Wait + Clock + Net<Listener = TcpListener, Stream = TcpStream> + Abort + Sync,
 {
@@ -244,20 +278,24 @@ fn two_sessions_meet(rt: HostRuntime) {
     let alloc = rt.alloc();
     let plan = Plan {
         way: Way::InParts,
-        first: message(&rt, alloc, PROPOSAL),
+        first: message(&rt, alloc, PROPOSED),
         first_to: Node::Itl,
-        first_reply: Reply::Received,
-        second: message(&rt, alloc, PROPOSAL),
+        second: message(&rt, alloc, PROPOSED),
         second_to: Node::Itl,
     };
-    let (met, records) = met_at_log(&rt, alloc, &plan);
-    assert_same(&rt, met, (true, Some(Exchange::Answered(Reply::Received))));
-    assert_same(&rt, records, (1, 0));
+    let met = again!(met_at_log(&rt, alloc, &plan), Err(NoMemory) => ());
+    let received = Exchange::Answered(Reply::Received);
+    assert_same(&rt, met, Ok(((received, received), (1, 0))));
     drop(plan);
 }
 
 /// What comes of that plan at NZ, which a gate holds, and at JP.
-fn met_apart<'a, R>(rt: &'a R, alloc: Global, (nz, jp): (Node, Node), plan: &Plan) -> Meeting
+fn met_apart<'a, R>(
+    rt: &'a R,
+    alloc: Global,
+    (nz, jp): (Node, Node),
+    plan: &Plan,
+) -> Result<Meeting, NoMemory>
 where
     R: Threads + Wait + Clock + Net<Listener = TcpListener, Stream = TcpStream> + Abort + Sync,
 {
@@ -271,8 +309,9 @@ where
     };
     let parts = (ports, HeldGate::new(rt, nz, &signals));
     let (meeting, gate) = met_at(rt, alloc, pair, parts, plan, &signals);
+    let meeting = meeting?;
     assert!(rt; !gate.given_up.is_set());
-    meeting
+    Ok(meeting)
 }
 
 /// While a gate holds one node, another node replies.
@@ -284,12 +323,12 @@ fn nodes_apart(rt: HostRuntime) {
         way: Way::Whole,
         first: message(&rt, alloc, ACCEPTED),
         first_to: nz,
-        first_reply: refused(&rt, UNKNOWN),
         second: message(&rt, alloc, CANCELLED),
         second_to: jp,
     };
-    let (met, records) = met_apart(&rt, alloc, (nz, jp), &plan);
-    assert_same(&rt, met, (true, Some(Exchange::Answered(Reply::Received))));
-    assert_same(&rt, records, (0, 1));
+    let met = again!(met_apart(&rt, alloc, (nz, jp), &plan), Err(NoMemory) => ());
+    let unknown = Exchange::Answered(refused(&rt, UNKNOWN));
+    let received = Exchange::Answered(Reply::Received);
+    assert_same(&rt, met, Ok(((unknown, received), (0, 1))));
     drop(plan);
 }

@@ -1,10 +1,11 @@
 //! The nodes of the worked scheme, and what a script comes to at them.
 
-ghost use Rattle.std.specs.Prelude.{◌≡◌, ◌++◌, ◌∷◌, [], All, map};
+ghost use Rattle.std.specs.Prelude.{◌≡◌, ◌++◌, ◌∷◌, [], All, map, IfOk, OnOk};
 ghost use Rattle.desk.specs.Views.{opened_with};
 ghost use Rattle.protocol.specs.Registries.{nodes};
 
 use crate::registries::worked_scheme;
+use crate::same::{assert_same, room};
 use audit::load_run;
 use command_faults::OpFault;
 use desk::stores::{Kept, MemoryStore};
@@ -12,7 +13,7 @@ use desk::{OpenGate, Stored, WallClock};
 use input_lines::{ScriptLine, read_script};
 use protocol::nodes_of;
 use protocol::scheme::Scheme;
-use protocol::units::Node;
+use protocol::units::{NoMemory, Node};
 use run::{LoadedNode, run_script};
 use sessions::{Network, NodeTypes};
 use sockets::{Port, Ports, SocketNodes};
@@ -20,8 +21,10 @@ use std::alloc::Global;
 use std::net::{Net, TcpListener, TcpStream};
 use std::process::Abort;
 use std::rt::Clock as SystemClock;
+use std::str::from_utf8;
 use std::sync::Wait;
 use std::thread::Threads;
+use test_support::{READING, again};
 use weave::Nobody;
 use world::Core;
 
@@ -42,30 +45,24 @@ fn store_of(alloc: Global, node: Node, passes: Option<u64>) -> MemoryStore
 fn push(rt: &impl Abort, stores: &mut Vec<MemoryStore>, store: MemoryStore)
     ensures { stores.new.items ≡ stores.old.items ++ store ∷ [] }
 {
-    if stores.push(store).is_err() {
-        rt.abort();
-    }
+    stores.reserve(1).expect(rt, READING);
+    stores.push_reserved(store);
 }
 
 /// Adds a node, and where it accepts connections.
 fn push_node<R>(
-    rt: &impl Abort,
     nodes: &mut Vec<LoadedNode<SocketNodes<MemoryStore, R>>>,
     ports: &mut Ports<R>,
     stored: Stored<Core, MemoryStore>,
     listener: Port,
-)
+) -> Result<(), NoMemory>
 where
     R: Net<Listener = TcpListener, Stream = TcpStream> + SystemClock + Send + Sync + Drop,
-    ensures { map (λ n. n.stored) nodes.new.items ≡ map (λ n. n.stored) nodes.old.items ++ stored ∷ [] }
+    ensures { OnOk result (map (λ n. n.stored) nodes.new.items ≡ map (λ n. n.stored) nodes.old.items ++ stored ∷ []) }
 {
-    let added = ports.add(stored.state().node(), &listener);
-    if added.is_err() {
-        rt.abort();
-    }
-    if nodes.push(LoadedNode { stored, listener }).is_err() {
-        rt.abort();
-    }
+    ports.add(stored.state().node(), &listener)?;
+    nodes.push(LoadedNode { stored, listener })?;
+    Ok(())
 }
 
 /// Empty stores of these nodes, of which that of NZ takes `passes` batches before one fails, where that is given.
@@ -87,27 +84,67 @@ fn stores_of(
 
 fn lines_of(rt: &impl Abort, alloc: Global, script: &str) -> Vec<ScriptLine> {
     let mut reader = script.as_bytes();
-    read_script(alloc, &mut reader).expect(rt, "a script")
+    read_script(alloc, &mut reader).expect(rt, READING)
 }
 
-/// The nodes, each with a listener of its own, and what connects to them there.
+/// The nodes, each with a listener of its own, and what connects to them there. `NoMemory` where there is none.
 fn opened<R>(
     rt: &impl Abort,
     net: R,
     alloc: Global,
     loaded: Vec<Stored<Core, MemoryStore>>,
-) -> (Vec<LoadedNode<SocketNodes<MemoryStore, R>>>, Ports<R>)
+) -> Result<(Vec<LoadedNode<SocketNodes<MemoryStore, R>>>, Ports<R>), NoMemory>
 where
     R: Net<Listener = TcpListener, Stream = TcpStream> + SystemClock + Copy + Send + Sync + Drop,
-    ensures { map (λ n. n.stored) result.0.items ≡ loaded.items }
+    ensures { IfOk result (λ opened. map (λ n. n.stored) opened.0.items ≡ loaded.items) }
 {
     let mut nodes = Vec::new(alloc);
     let mut ports = Ports::new(net, alloc);
     for stored in loaded {
         let listener = Port::open(&net).expect(rt, "a free port");
-        push_node(rt, &mut nodes, &mut ports, stored, listener);
+        push_node(&mut nodes, &mut ports, stored, listener)?;
     }
-    (nodes, ports)
+    Ok((nodes, ports))
+}
+
+/// What a run returns, and what it writes.
+pub type Played = (Result<(), OpFault>, Vec<u8>);
+
+/// What a run of the script over empty stores of the log, of JP and of NZ returns, and what it writes. NZ's takes
+/// `passes` batches before one fails, where that is given. A run in which memory ran out is made anew with other stores.
+pub fn played<R>(rt: &R, alloc: Global, passes: Option<u64>, script: &str) -> Played
+where
+    R: Threads
+        + Wait
+        + SystemClock
+        + Net<Listener = TcpListener, Stream = TcpStream>
+        + Abort
+        + Sync,
+{
+    let played = again!(
+        played_watched(rt, alloc, passes, script, &mut run::Nobody),
+        Err(NoMemory) => ()
+    );
+    played.ok().expect(rt, "memory")
+}
+
+/// Whether a line says that the node found no memory for it.
+fn lacks_memory(rt: &impl Abort, written: &[u8]) -> bool {
+    let text = from_utf8(written).ok().expect(rt, "a text");
+    text.lines().any(|line| line.ends_with(" refused 50"))
+}
+
+/// What a run returns and writes. `NoMemory` where it says so, or an answer does.
+fn unless_no_memory(
+    rt: &impl Abort,
+    done: Result<(), OpFault>,
+    written: Vec<u8>,
+) -> Result<Played, NoMemory> {
+    if done == Err(OpFault::NoMemory) || lacks_memory(rt, written.as_slice()) {
+        drop(written);
+        return Err(NoMemory);
+    }
+    Ok((done, written))
 }
 
 /// What a run of the script at these nodes returns, and what it writes.
@@ -123,12 +160,12 @@ fn run_at<N, P, R>(
 where
     N: NodeTypes,
     P: run::Watch + weave::Watch,
-    R: Threads + Wait + SystemClock + Sync,
+    R: Threads + Wait + SystemClock + Abort + Sync,
     requires nodes { map (λ s. s.state.node) (map (λ n. n.stored) loaded.items) ≡ nodes scheme.now }
     requires opened { All (λ s. s.state ≡ opened_with scheme.now s.state.node s.state.journal)
         (map (λ n. n.stored) loaded.items) }
 {
-    let mut written = Vec::new(alloc);
+    let mut written = room(rt, alloc);
     let done = run_script::<N, Vec<u8>, P, R>(
         rt,
         alloc,
@@ -149,33 +186,14 @@ where
     }
 }
 
-/// What a run of the script over empty stores of the log, of JP and of NZ returns, and what it writes. NZ's takes `passes`
-/// batches before one fails, where that is given.
-pub fn played<R>(
-    rt: &R,
-    alloc: Global,
-    passes: Option<u64>,
-    script: &str,
-) -> (Result<(), OpFault>, Vec<u8>)
-where
-    R: Threads
-        + Wait
-        + SystemClock
-        + Net<Listener = TcpListener, Stream = TcpStream>
-        + Abort
-        + Sync,
-{
-    played_watched(rt, alloc, passes, script, &mut run::Nobody)
-}
-
-/// The same, where the watch is told how far the run is.
+/// One run of the script, where the watch is told how far it is. `NoMemory` where memory ran out in it.
 pub fn played_watched<P, R>(
     rt: &R,
     alloc: Global,
     passes: Option<u64>,
     script: &str,
     watch: &mut P,
-) -> (Result<(), OpFault>, Vec<u8>)
+) -> Result<Played, NoMemory>
 where
     P: run::Watch + weave::Watch,
     R: Threads
@@ -187,16 +205,22 @@ where
 {
     let scheme = worked_scheme(rt, alloc);
     let lines = lines_of(rt, alloc, script);
-    let nodes = nodes_of(alloc, &scheme).expect(rt, "memory");
+    let nodes = nodes_of(alloc, &scheme)?;
     let stores = stores_of(rt, alloc, nodes.as_slice(), passes);
-    let loaded = load_run(alloc, &scheme, stores, &mut Nobody).expect(rt, "a run");
-    let (nodes, ports) = opened(rt, rt, alloc, loaded);
+    let loaded = match load_run(alloc, &scheme, stores, &mut Nobody) {
+        Ok(loaded) => loaded,
+        Err(fault) => {
+            assert_same(rt, fault, OpFault::NoMemory);
+            return Err(NoMemory);
+        }
+    };
+    let (nodes, ports) = opened(rt, rt, alloc, loaded)?;
     let network = Network {
         dialer: ports,
         clock: WallClock::new(rt),
         gate: OpenGate,
     };
-    let played = run_at::<SocketNodes<MemoryStore, &R>, P, R>(
+    let (done, written) = run_at::<SocketNodes<MemoryStore, &R>, P, R>(
         rt,
         alloc,
         &scheme,
@@ -207,5 +231,5 @@ where
     );
     drop(lines);
     drop(scheme);
-    played
+    unless_no_memory(rt, done, written)
 }

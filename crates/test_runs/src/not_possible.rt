@@ -1,3 +1,4 @@
+use crate::journals::OPENING;
 use crate::nodes::played;
 use crate::same::assert_same;
 
@@ -13,7 +14,7 @@ status ITL NZ1
 until JP NZ1 Accepted 2
 ";
 
-const REPORT: &str = "\
+const ANSWERS: &str = "\
 1 not possible
 2 not possible
 3 not possible
@@ -22,16 +23,12 @@ const REPORT: &str = "\
 6 status none
 7 status none
 8 status none
-registry JP held 0 spendable 0
-registry NZ held 100 spendable 100
-holds NZ 1 NZ:1:1-100:AAU free
-owed 0
-end
 ";
 
 #[test]
 fn lines_that_are_not_possible(rt: HostRuntime) {
     let (done, written) = played(&rt, rt.alloc(), None, SCRIPT);
     assert_same(&rt, done, Ok(()));
-    assert!(rt; written.as_slice() == REPORT.as_bytes());
+    let table = written.strip_prefix(ANSWERS.as_bytes());
+    assert_same(&rt, table, Some(OPENING.as_bytes()));
 }

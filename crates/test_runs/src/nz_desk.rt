@@ -4,14 +4,12 @@ ghost use Rattle.std.specs.Prelude.{◌≡◌, [], true, false};
 ghost use Rattle.protocol.specs.Node.TheVariants.{Registry};
 
 use crate::given::Given::{self, Event};
-use crate::given::input_of;
 use crate::same::{assert_same, assert_same_in};
-use desk::stores::{Kept, MemoryStore, NodeStore};
+use crate::standing::{take, take_at};
+use desk::stores::{Kept, MemoryStore, NodeStore, StoreFault};
 use desk::{Desk, Ended, Life, RoomBell, Seat, State, Stored, Taken, Told, Unsettled, settle};
 use protocol::scheme::Scheme;
-use protocol::status::TransactionId;
-use protocol::units::{Code, Node};
-use protocol::wire::Input;
+use protocol::units::{Code, NoMemory, Node};
 use protocol::{NodeCore, Stepped};
 use registry_core::RegistryCore;
 use std::alloc::Global;
@@ -19,6 +17,7 @@ use std::marker::Brand;
 use std::process::Abort;
 use std::rt::Clock;
 use std::sync::Wait;
+use test_support::{READING, again};
 
 const SCHEME: &str =
     r#"{"records":2000,"registries":[{"accounts":[7,8],"allotted":[],"code":"JP","eligible":true,"kinds":["AAU","CER"]},{"accounts":[1,2],"allotted":[{"account":1,"units":["NZ:1:1-100:AAU"]}],"code":"NZ","eligible":true,"kinds":["AAU","RMU","ERU","CER","tCER","lCER"]}]}"#;
@@ -63,11 +62,11 @@ pub fn core_of_one(rt: &impl Abort, alloc: Global) -> RegistryCore
 fn core_under(rt: &impl Abort, alloc: Global, text: &str) -> RegistryCore
     ensures { result.journal ≡ [] }
 {
-    let scheme = Scheme::read(alloc, text.as_bytes()).expect(rt, "a scheme");
+    let scheme = Scheme::read(alloc, text.as_bytes()).expect(rt, READING);
     let code = Code::read("NZ").expect(rt, "a code");
-    let core = RegistryCore::new(alloc, &scheme, code).expect(rt, "memory");
+    let core = again!(RegistryCore::new(alloc, &scheme, code), Err(NoMemory) => ());
     drop(scheme);
-    core
+    core.expect(rt, "memory")
 }
 
 /// Asserts what the state tells of an input.
@@ -135,32 +134,21 @@ pub fn state_left(desk: NzDesk) -> NzState {
     state
 }
 
-/// The input at that place where an account is closed and opened in turn.
-pub fn turn(rt: &impl Abort, alloc: Global, place: usize) -> Input {
-    let given = if place % 2 == 0 { CLOSE } else { OPEN };
-    input_of(rt, alloc, given)
+/// The state that the desk leaves. `NoMemory` where its store found none.
+pub fn running_left(desk: NzDesk) -> Result<NzState, NoMemory> {
+    let Ended { stored, fault } = desk.end();
+    let (state, store) = stored.into_parts();
+    drop(store);
+    if fault == Some(StoreFault::NoMemory) {
+        drop(state);
+        return Err(NoMemory);
+    }
+    Ok(state)
 }
 
-/// Has the state take an input.
-pub fn take_at(rt: &impl Abort, alloc: Global, state: &mut NzState, given: Given) -> Taken {
-    state.take(input_of(rt, alloc, given))
-}
-
-/// Has the desk take an input.
-pub fn take(
-    rt: &(impl Wait + Abort),
-    alloc: Global,
-    desk: &NzDesk,
-    seat: &mut Seat,
-    given: Given,
-) -> Taken {
-    desk.take(rt, seat, input_of(rt, alloc, given))
-}
-
-/// Asks the desk where NZ1 stands.
-pub fn query(rt: &(impl Wait + Abort), desk: &NzDesk, seat: &mut Seat) -> Taken {
-    let id = TransactionId::read("NZ1").expect(rt, "an identifier");
-    desk.query(rt, seat, id)
+/// What is given at that place where an account is closed and opened in turn.
+pub fn turn(place: usize) -> Given {
+    if place % 2 == 0 { CLOSE } else { OPEN }
 }
 
 /// Waits until that is committed, or the desk has stopped. Says whether it is committed.
@@ -175,7 +163,7 @@ pub fn confirm(
 
 /// What the state settles to with those seats.
 pub fn settled(state: NzState, seats: &[Seat]) -> Result<Life, Unsettled> {
-    let found = settle(&state, seats);
+    let found = again!(settle(&state, seats), Err(Unsettled::NoMemory) => ());
     drop(state);
     found
 }
@@ -205,36 +193,4 @@ pub fn take_all(
 /// What is told of an input that is recorded at that place.
 pub fn recorded(place: usize) -> Told {
     Told::Step(Stepped::Recorded(place))
-}
-
-/// The key of the message that is next for the log, from that key on.
-pub fn next_key(rt: &(impl Wait + Abort), desk: &NzDesk, from: usize) -> Option<usize> {
-    match desk.next_send(rt, Node::Itl, from).expect(rt, "memory") {
-        Some((key, message)) => {
-            drop(message);
-            Some(key)
-        }
-        None => None,
-    }
-}
-
-/// The transaction of the message that is next for the log, from that key on.
-pub fn next_transaction(
-    rt: &(impl Wait + Abort),
-    desk: &NzDesk,
-    from: usize,
-) -> Option<TransactionId> {
-    match desk.next_send(rt, Node::Itl, from).expect(rt, "memory") {
-        Some((_, message)) => {
-            let id = message.transaction();
-            drop(message);
-            Some(id)
-        }
-        None => None,
-    }
-}
-
-/// Has the desk commit.
-pub fn commit(rt: &(impl Wait + Abort), desk: &NzDesk) -> usize {
-    desk.commit_next(rt).expect(rt, "no fault of the store")
 }

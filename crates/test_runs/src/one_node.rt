@@ -2,10 +2,11 @@ use crate::registries::registry;
 use crate::same::assert_same;
 use crate::stations::{
     COMPLETED, Ended, TestNode, TestTypes, UNKNOWN, add_port, call, message, network_of, node_of,
-    records_of, refused, threads_of,
+    records_of, refused, threads_of, wait_for_threads,
 };
 use desk::OpenGate;
 use exchanges::Exchange;
+use protocol::units::NoMemory;
 use protocol::wire::Message;
 use sessions::{Dial, Network, run_node};
 use sockets::Ports;
@@ -16,6 +17,7 @@ use std::rt::Clock;
 use std::sync::Wait;
 use std::thread;
 use std::thread::Threads;
+use test_support::again;
 
 /// Runs one node that sends to none.
 pub fn run_alone<D: Dial + Send + Sync + Drop, R: Threads + Wait + Clock + Sync>(
@@ -27,15 +29,27 @@ pub fn run_alone<D: Dial + Send + Sync + Drop, R: Threads + Wait + Clock + Sync>
     run_node(rt, alloc, &threads_of(alloc, node, network, &[])?)
 }
 
-/// One exchange with the node. Then it stops.
-fn call_and_stop<D: Dial + Send + Sync + Drop, R: Wait>(
+/// One exchange with the node, once its threads have begun.
+fn call_begun<D: Dial + Send + Sync + Drop, R: Wait + Clock>(
     rt: &R,
     alloc: Global,
     node: &TestNode<D, OpenGate>,
     dial: &D,
     message: &Message,
-) -> Option<Exchange> {
-    let end = call(alloc, dial, node.station.node, message);
+) -> Result<Exchange, NoMemory> {
+    wait_for_threads(rt, node)?;
+    call(alloc, dial, node.station.node, message)
+}
+
+/// The same. Then the node stops.
+fn call_and_stop<D: Dial + Send + Sync + Drop, R: Wait + Clock>(
+    rt: &R,
+    alloc: Global,
+    node: &TestNode<D, OpenGate>,
+    dial: &D,
+    message: &Message,
+) -> Result<Exchange, NoMemory> {
+    let end = call_begun(rt, alloc, node, dial, message);
     node.station.desk.stop(rt);
     end
 }
@@ -47,7 +61,7 @@ fn run_and_call<D: Dial + Send + Sync + Drop, R: Threads + Wait + Clock + Sync>(
     node: &TestNode<D, OpenGate>,
     network: &Network<TestTypes<D, OpenGate>>,
     message: &Message,
-) -> (Ended, Option<Exchange>) {
+) -> (Ended, Result<Exchange, NoMemory>) {
     thread::join(
         rt,
         move || run_alone(rt, alloc, node, network),
@@ -62,7 +76,7 @@ fn exchanged_with<D, R>(
     node: TestNode<D, OpenGate>,
     dialer: D,
     message: &Message,
-) -> (Option<Exchange>, (usize, usize))
+) -> Result<(Exchange, (usize, usize)), NoMemory>
 where
     D: Dial + Send + Sync + Drop,
     R: Threads + Wait + Clock + Abort + Sync,
@@ -70,7 +84,8 @@ where
     let network = network_of(dialer, OpenGate);
     let (ended, exchanged) = run_and_call(rt, alloc, &node, &network, message);
     drop(network);
-    (exchanged, records_of(rt, node, ended, None))
+    let records = records_of(rt, node, ended, None)?;
+    Ok((exchanged?, records))
 }
 
 /// The same of NZ, over a socket.
@@ -78,7 +93,7 @@ fn exchanged_with_nz<'a, R>(
     rt: &'a R,
     alloc: Global,
     message: &Message,
-) -> (Option<Exchange>, (usize, usize))
+) -> Result<(Exchange, (usize, usize)), NoMemory>
 where
     R: Threads + Wait + Clock + Net<Listener = TcpListener, Stream = TcpStream> + Abort + Sync,
 {
@@ -93,12 +108,8 @@ where
 fn loopback_exchange(rt: HostRuntime) {
     let alloc = rt.alloc();
     let completed = message(&rt, alloc, COMPLETED);
-    let (exchanged, records) = exchanged_with_nz(&rt, alloc, &completed);
-    assert_same(
-        &rt,
-        exchanged,
-        Some(Exchange::Answered(refused(&rt, UNKNOWN))),
-    );
-    assert_same(&rt, records, (0, 0));
+    let exchanged = again!(exchanged_with_nz(&rt, alloc, &completed), Err(NoMemory) => ());
+    let unknown = Exchange::Answered(refused(&rt, UNKNOWN));
+    assert_same(&rt, exchanged, Ok((unknown, (0, 0))));
     drop(completed);
 }

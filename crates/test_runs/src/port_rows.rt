@@ -1,7 +1,8 @@
 use crate::registries::registry;
 use crate::same::assert_same;
-use protocol::units::Node;
+use protocol::units::{NoMemory, Node};
 use sockets::{Port, Ports};
+use test_support::again;
 
 /// Of two ports that are added for NZ the first one is used.
 #[test]
@@ -11,7 +12,12 @@ fn addresses_of_nodes(rt: HostRuntime) {
     let second = Port::open(&rt).expect(&rt, "a free port");
     let mut ports = Ports::new(&rt, rt.alloc());
     for (node, port) in [(Node::Itl, &first), (nz, &second), (nz, &first)] {
-        ports.add(node, port).expect(&rt, "memory");
+        let before = ports.address_of(node);
+        let added = again!(
+            ports.add(node, port),
+            Err(NoMemory) => assert_same(&rt, ports.address_of(node), before)
+        );
+        assert_same(&rt, added, Ok(()));
     }
     assert!(rt; first.address() != second.address());
     assert_same(&rt, ports.address_of(Node::Itl), Some(first.address()));

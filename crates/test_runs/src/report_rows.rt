@@ -2,17 +2,23 @@
 
 use crate::given::Given::{self, Event};
 use crate::given::input_of;
-use crate::journals::{ACCEPTED, ASKED, CHECKED, COMPLETED, PROPOSED, TOLD_JP, TOLD_NZ};
+use crate::journals::{
+    ACCEPTED, ASKED, CHECKED, COMPLETED, IN_TRANSIT, PROPOSED, TOLD_JP, TOLD_NZ,
+};
 use crate::registries::{registry, worked_scheme};
-use crate::same::assert_same;
+use crate::same::{assert_same, room};
+use crate::standing::{commit_stored, of_state, take_stored, unless_no_memory};
+use crate::stations::empty_state;
 use command_faults::OpFault;
 use desk::stores::MemoryStore;
-use desk::{Seat, Stored};
+use desk::{Seat, Stored, Taken};
 use protocol::scheme::Scheme;
-use protocol::units::Node;
+use protocol::units::{NoMemory, Node};
+use protocol::wire::Input;
 use run::{EndedNode, report_run};
 use std::alloc::Global;
 use std::process::Abort;
+use test_support::again;
 use world::Core;
 
 /// A node's state, with its store.
@@ -21,52 +27,47 @@ type NodeState = Stored<Core, MemoryStore>;
 /// The records of a node, and how many of them are committed.
 type Row<'a> = (&'a [Given], usize);
 
-/// The state of the node with an empty store.
-fn empty_state(rt: &impl Abort, alloc: Global, scheme: &Scheme, node: Node) -> NodeState {
-    let core = Core::new(alloc, scheme, node).expect(rt, "memory");
-    match Stored::load(alloc, core, MemoryStore::new(alloc, node)) {
-        Ok(stored) => stored,
-        Err((_, store)) => {
-            drop(store);
-            rt.abort()
-        }
-    }
-}
-
-/// Has the state take an input.
-fn take(rt: &impl Abort, alloc: Global, state: &mut NodeState, given: Given) {
-    let taken = state.take(input_of(rt, alloc, given));
-    drop(taken);
-}
-
-/// Has the state commit that many records.
-fn commit(rt: &impl Abort, state: &mut NodeState, count: usize) {
-    let committed = state.commit(count).expect(rt, "no fault of the store");
-    assert_same(rt, committed, count);
-}
-
-/// The state of the node with these records.
+/// The state of the node with these records. `NoMemory` where its store found none.
 fn state_of(
     rt: &impl Abort,
     alloc: Global,
     scheme: &Scheme,
     node: Node,
     row: Row<'_>,
-) -> NodeState {
+) -> Result<NodeState, NoMemory> {
     let (records, committed) = row;
     let mut state = empty_state(rt, alloc, scheme, node);
     for given in records {
-        take(rt, alloc, &mut state, *given);
+        drop(take_stored(rt, alloc, &mut state, *given));
     }
-    commit(rt, &mut state, committed);
-    state
+    assert_same(rt, commit_stored(rt, &mut state, committed)?, committed);
+    Ok(state)
+}
+
+/// Makes room at the seat for what is told of the input, and has the state take it.
+fn take_prepared(
+    rt: &impl Abort,
+    state: &mut NodeState,
+    seat: &mut Seat,
+    input: Input,
+) -> Result<Taken, usize> {
+    let before = (seat.tickets().len(), seat.notes().len());
+    let prepared = again!(
+        seat.prepare_input(&input),
+        Err(NoMemory) => assert_same(rt, (seat.tickets().len(), seat.notes().len()), before)
+    );
+    assert_same(rt, prepared, Ok(()));
+    unless_no_memory(state.take(input))
 }
 
 /// Has the state take the input, and tells the seat.
 fn tell(rt: &impl Abort, alloc: Global, state: &mut NodeState, seat: &mut Seat, given: Given) {
-    let input = input_of(rt, alloc, given);
-    seat.prepare_input(&input).expect(rt, "memory");
-    let taken = state.take(input);
+    let before = of_state(rt, state.state());
+    let taken = again!(
+        take_prepared(rt, state, seat, input_of(rt, alloc, given)),
+        Err(_) => assert_same(rt, of_state(rt, state.state()), before)
+    );
+    let taken = taken.expect(rt, "memory");
     seat.keep(&taken);
     drop(taken);
 }
@@ -96,16 +97,31 @@ fn ended_node(
     node: Node,
     row: Row<'_>,
     told: &[Given],
-) -> EndedNode<MemoryStore> {
-    let seat = told_seat(rt, alloc, scheme, node, told);
-    EndedNode {
-        stored: state_of(rt, alloc, scheme, node, row),
-        seats: Vec::from_array(alloc, [seat]).expect(rt, "memory"),
-    }
+) -> Result<EndedNode<MemoryStore>, NoMemory> {
+    let stored = state_of(rt, alloc, scheme, node, row)?;
+    let mut seats = Vec::new(alloc);
+    seats.reserve(1)?;
+    seats.push_reserved(told_seat(rt, alloc, scheme, node, told));
+    Ok(EndedNode { stored, seats })
 }
 
-/// What `report_run` returns of states with these records, and what it writes, where a thread of each was told of all
-/// of them, but that of NZ of these.
+/// What a run leaves of the log, of JP and of NZ, where each has these records, and a thread of each was told of all of
+/// them, but that of NZ of these.
+fn ended_nodes(
+    rt: &impl Abort,
+    alloc: Global,
+    scheme: &Scheme,
+    rows: [Row<'_>; 3],
+    told: &[Given],
+) -> Result<[EndedNode<MemoryStore>; 3], NoMemory> {
+    let [log, jp, nz] = rows;
+    let log = ended_node(rt, alloc, scheme, Node::Itl, log, log.0)?;
+    let jp = ended_node(rt, alloc, scheme, registry(rt, "JP"), jp, jp.0)?;
+    let nz = ended_node(rt, alloc, scheme, registry(rt, "NZ"), nz, told)?;
+    Ok([log, jp, nz])
+}
+
+/// What `report_run` returns of such nodes, and what it writes.
 fn reported(
     rt: &impl Abort,
     alloc: Global,
@@ -113,14 +129,13 @@ fn reported(
     told: &[Given],
 ) -> (Result<(), OpFault>, Vec<u8>) {
     let scheme = worked_scheme(rt, alloc);
-    let [log, jp, nz] = rows;
-    let ended = [
-        ended_node(rt, alloc, &scheme, Node::Itl, log, log.0),
-        ended_node(rt, alloc, &scheme, registry(rt, "JP"), jp, jp.0),
-        ended_node(rt, alloc, &scheme, registry(rt, "NZ"), nz, told),
-    ];
-    let mut written = Vec::new(alloc);
-    let done = report_run(alloc, &scheme, &ended, &mut written);
+    let mut written = room(rt, alloc);
+    let ended = again!(ended_nodes(rt, alloc, &scheme, rows, told), Err(NoMemory) => ());
+    let ended = ended.ok().expect(rt, "memory");
+    let done = again!(
+        report_run(alloc, &scheme, &ended, &mut written),
+        Err(OpFault::NoMemory) => assert!(rt; written.is_empty())
+    );
     drop(ended);
     drop(scheme);
     (done, written)
@@ -131,16 +146,6 @@ const LOG: &[Given] = &[ASKED, ACCEPTED, COMPLETED];
 const JP: &[Given] = &[CHECKED, TOLD_JP];
 
 const NZ: &[Given] = &[PROPOSED, TOLD_NZ];
-
-/// JP has the log's Completed and hasn't committed it.
-const IN_TRANSIT: &str = "\
-transaction NZ1 NZ Completed ITL Completed JP Accepted
-registry JP held 0 spendable 0
-registry NZ held 0 spendable 0
-owed 100
-due NZ1 NZ:1:1-100:AAU
-end
-";
 
 #[test]
 fn what_is_committed_is_in_the_table(rt: HostRuntime) {

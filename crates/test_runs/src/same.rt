@@ -1,7 +1,12 @@
-//! Two values that have to be the same.
+//! Two values that have to be the same, and room for what is written.
 
+use std::alloc::Global;
 use std::fmt::Debug;
 use std::process::Abort;
+use test_support::READING;
+
+/// More bytes than a test writes.
+const ROOM: usize = 65_536;
 
 /// Asserts that both are one value, and prints both where they aren't.
 pub fn assert_same<T: PartialEq + Debug + Drop>(rt: &impl Abort, left: T, right: T) {
@@ -16,4 +21,11 @@ pub fn assert_same_in<T: PartialEq + Debug + Drop>(
     row: impl Debug + Drop,
 ) {
     assert_eq!(rt; left, right, "{row:?}");
+}
+
+/// Bytes to be written to, with room for more than a test writes: no write finds too little memory.
+pub fn room(rt: &impl Abort, alloc: Global) -> Vec<u8> {
+    let mut bytes = Vec::new(alloc);
+    bytes.reserve(ROOM).expect(rt, READING);
+    bytes
 }

@@ -1,19 +1,18 @@
 ghost use Rattle.std.specs.Prelude.{◌≡◌, true};
 ghost use Rattle.protocol.specs.Code.{same_node};
 
-use crate::exchange_rows::RECEIVED;
 use crate::failing_streams::Full;
-use crate::given::input_of;
 use crate::nz_desk::{TEN, TEN_MORE};
 use crate::registries::registry;
 use crate::same::assert_same;
+use crate::standing::{commit, standing_at, take};
 use crate::stations::{
     Ended, FailingPort, NodeDesk, TestNode, TestTypes, desk_of, network_of, node_with, records_of,
     threads_of,
 };
 use crate::waits::TURNS;
 use desk::{OpenGate, Seat};
-use protocol::units::Node;
+use protocol::units::{NoMemory, Node};
 use sessions::{Dial, Network, Sent, run_node, send_next};
 use std::alloc::Global;
 use std::net::{Net, TcpListener, TcpStream};
@@ -24,9 +23,11 @@ use std::sync::atomic::{AtomicU64, Ordering};
 use std::thread;
 use std::thread::Threads;
 use std::time::Duration;
+use test_support::again;
+use test_support::texts::RECEIVED;
 
-/// Connections with one peer, which replies to each message that it was received. The first ones can't be made, and none
-/// with another node.
+/// Connections with one peer, which replies to each message that it was received. The first ones can't be made, and
+/// none with another node.
 #[derive(Drop)]
 struct FailingDial {
     peer: Node,
@@ -112,13 +113,14 @@ fn run_and_wait<D: Dial + Asked + Send + Sync + Drop, R: Threads + Wait + Clock 
 fn seat_of_two(rt: &(impl Wait + Abort), alloc: Global, desk: &NodeDesk) -> Seat {
     let mut seat = Seat::new(alloc);
     for given in [TEN, TEN_MORE] {
-        drop(desk.take(rt, &mut seat, input_of(rt, alloc, given)));
+        drop(take(rt, alloc, desk, &mut seat, given));
     }
     seat
 }
 
 /// Whether the node, whose two messages that seat was told of, asks for that many connections with the log, and has a
-/// record more then.
+/// record more then. `NoMemory` where memory ran out at the node, also where it did for the acknowledgement alone: only
+/// the thread that sends was told of that.
 fn sends_with<D, R>(
     rt: &R,
     alloc: Global,
@@ -126,7 +128,7 @@ fn sends_with<D, R>(
     dialer: D,
     seat: Seat,
     connects: u64,
-) -> bool
+) -> Result<bool, NoMemory>
 where
     D: Dial + Asked + Send + Sync + Drop,
     R: Threads + Wait + Clock + Abort + Sync,
@@ -134,13 +136,16 @@ where
     let network = network_of(dialer, OpenGate);
     let (ended, are_sent) = run_and_wait(rt, alloc, &node, &network, &[Node::Itl], connects);
     drop(network);
-    let (records, _) = records_of(rt, node, ended, Some(seat));
-    are_sent && records >= 3
+    let (records, _) = records_of(rt, node, ended, Some(seat))?;
+    if records < 3 {
+        return Err(NoMemory);
+    }
+    Ok(are_sent)
 }
 
 /// Whether a node with two messages sends both, where it gets no connection the first times, and whether the first of
 /// them that was received is acknowledged then.
-fn sends_both<R>(rt: &R, alloc: Global, failing: u64) -> bool
+fn sends_both<R>(rt: &R, alloc: Global, failing: u64) -> Result<bool, NoMemory>
 where
     R: Threads + Wait + Clock + Net<Listener = TcpListener, Stream = TcpStream> + Abort + Sync,
 {
@@ -162,7 +167,24 @@ where
 fn what_got_no_connection_is_sent_again(rt: HostRuntime) {
     let alloc = rt.alloc();
     for failing in [1, 2] {
-        assert!(rt; sends_both(&rt, alloc, failing));
+        let are_sent = again!(sends_both(&rt, alloc, failing), Err(NoMemory) => ());
+        assert_same(&rt, are_sent, Ok(true));
+    }
+}
+
+/// What becomes of the next message to the log. `NoMemory` also where it was received, and the desk found none for the
+/// acknowledgement.
+fn sent(
+    rt: &(impl Wait + Abort),
+    alloc: Global,
+    desk: &NodeDesk,
+    seat: &mut Seat,
+    dial: &FailingDial,
+) -> Sent {
+    let tickets = seat.tickets().len();
+    match send_next(rt, alloc, desk, seat, dial, Node::Itl, 0) {
+        Sent::Received(_) if seat.tickets().len() == tickets => Sent::NoMemory,
+        sent => sent,
     }
 }
 
@@ -175,8 +197,30 @@ fn assert_sent(
     dial: &FailingDial,
     expected: Sent,
 ) {
-    let sent = send_next(rt, alloc, desk, seat, dial, Node::Itl, 0);
+    let before = standing_at(rt, alloc, desk, seat);
+    let sent = again!(
+        sent(rt, alloc, desk, seat, dial),
+        Sent::NoMemory => assert_same(rt, standing_at(rt, alloc, desk, seat), before)
+    );
     assert_same(rt, sent, expected);
+}
+
+/// Asserts what becomes of a proposal that is the next message to the log.
+fn assert_next(rt: &(impl Wait + Abort), alloc: Global) -> Result<(), NoMemory> {
+    let desk = desk_of(rt, alloc, registry(rt, "NZ"));
+    let mut seat = Seat::new(alloc);
+    let dial = FailingDial {
+        peer: Node::Itl,
+        failing: 1,
+        connects: AtomicU64::new(0),
+    };
+    drop(take(rt, alloc, &desk, &mut seat, TEN));
+    assert_sent(rt, alloc, &desk, &mut seat, &dial, Sent::Nothing);
+    assert_same(rt, commit(rt, &desk)?, 1);
+    assert_sent(rt, alloc, &desk, &mut seat, &dial, Sent::NotReceived(0));
+    assert_sent(rt, alloc, &desk, &mut seat, &dial, Sent::Received(0));
+    assert_sent(rt, alloc, &desk, &mut seat, &dial, Sent::Nothing);
+    Ok(())
 }
 
 /// The proposal isn't sent before it is committed. The first connection can't be made. Once the log has replied over
@@ -184,19 +228,6 @@ fn assert_sent(
 #[test]
 fn the_next_message_is_sent(rt: HostRuntime) {
     let alloc = rt.alloc();
-    let desk = desk_of(&rt, alloc, registry(&rt, "NZ"));
-    let mut seat = Seat::new(alloc);
-    let dial = FailingDial {
-        peer: Node::Itl,
-        failing: 1,
-        connects: AtomicU64::new(0),
-    };
-    drop(desk.take(&rt, &mut seat, input_of(&rt, alloc, TEN)));
-    assert_sent(&rt, alloc, &desk, &mut seat, &dial, Sent::Nothing);
-    assert_same(&rt, desk.commit_next(&rt).ok(), Some(1));
-    assert_sent(&rt, alloc, &desk, &mut seat, &dial, Sent::NotReceived(0));
-    assert_sent(&rt, alloc, &desk, &mut seat, &dial, Sent::Received(0));
-    assert_sent(&rt, alloc, &desk, &mut seat, &dial, Sent::Nothing);
-    drop(seat);
-    drop(desk);
+    let asserted = again!(assert_next(&rt, alloc), Err(NoMemory) => ());
+    assert_same(&rt, asserted, Ok(()));
 }

@@ -1,15 +1,18 @@
 use crate::given::Given;
 use crate::nz_desk::{
-    CLOSE, NzDesk, NzState, TEN, TEN_MORE, assert_found, assert_taken, commit, confirm,
-    core_of_one, nz_desk, nz_state, query, recorded, settled, state_left, take, take_all,
+    CLOSE, NzDesk, NzState, TEN, TEN_MORE, assert_found, assert_taken, confirm, core_of_one,
+    nz_desk, nz_state, recorded, settled, state_left, take_all,
 };
 use crate::same::assert_same;
+use crate::standing::{commit, query, take};
 use desk::{Lengths, Life, Seat, Told, Unsettled, settle_with};
 use protocol::Stepped;
+use protocol::units::NoMemory;
 use std::alloc::Global;
 use std::process::Abort;
 use std::rt::Clock;
 use std::sync::Wait;
+use test_support::again;
 
 /// A desk with three records.
 fn desk_of_three(rt: &(impl Wait + Abort), alloc: Global) -> NzDesk {
@@ -26,8 +29,8 @@ fn desk_of_three(rt: &(impl Wait + Abort), alloc: Global) -> NzDesk {
 }
 
 /// Asks the desk, and asserts how many records it has.
-fn ask(rt: &(impl Wait + Abort), desk: &NzDesk, seat: &mut Seat, records: usize) {
-    let taken = query(rt, desk, seat);
+fn ask(rt: &(impl Wait + Abort), alloc: Global, desk: &NzDesk, seat: &mut Seat, records: usize) {
+    let taken = query(rt, alloc, desk, seat);
     assert_same(rt, taken.length(), records);
     drop(taken);
 }
@@ -36,7 +39,7 @@ fn ask(rt: &(impl Wait + Abort), desk: &NzDesk, seat: &mut Seat, records: usize)
 fn seat_of_three(rt: &(impl Wait + Abort), alloc: Global) -> Seat {
     let desk = desk_of_three(rt, alloc);
     let mut seat = Seat::new(alloc);
-    ask(rt, &desk, &mut seat, 3);
+    ask(rt, alloc, &desk, &mut seat, 3);
     drop(desk);
     assert_same(rt, seat.notes().len(), 1);
     seat
@@ -47,7 +50,7 @@ fn fewer_records_at_another_desk_are_found(rt: HostRuntime) {
     let alloc = rt.alloc();
     let empty = nz_desk(&rt, alloc);
     let mut both = seat_of_three(&rt, alloc);
-    ask(&rt, &empty, &mut both, 0);
+    ask(&rt, alloc, &empty, &mut both, 0);
     assert_same(&rt, both.lengths(), Lengths::Fell);
     assert_found(&rt, empty, both, Err(Unsettled::Fell));
 }
@@ -70,14 +73,22 @@ fn told_seat(rt: &(impl Wait + Abort), alloc: Global) -> Seat {
 }
 
 /// The same, and that it is committed.
-fn confirmed_seat(rt: &(impl Wait + Clock + Abort), alloc: Global) -> Seat {
+fn confirmed_seat(rt: &(impl Wait + Clock + Abort), alloc: Global) -> Result<Seat, NoMemory> {
     let desk = nz_desk(rt, alloc);
     let mut seat = Seat::new(alloc);
     let taken = take(rt, alloc, &desk, &mut seat, TEN);
-    assert_same(rt, commit(rt, &desk), 1);
-    assert!(rt; confirm(rt, &desk, &mut seat, taken));
-    drop(desk);
-    seat
+    match commit(rt, &desk) {
+        Ok(records) => {
+            assert_same(rt, records, 1);
+            assert!(rt; confirm(rt, &desk, &mut seat, taken));
+            Ok(seat)
+        }
+        Err(NoMemory) => {
+            drop(taken);
+            drop(seat);
+            Err(NoMemory)
+        }
+    }
 }
 
 /// Asserts what is found where a state has that one record, and those are the seats.
@@ -97,8 +108,8 @@ fn assert_unsettled(
 fn seats_of_other_desks_are_found(rt: HostRuntime) {
     let alloc = rt.alloc();
     let told = told_seat(&rt, alloc);
-    let confirmed = confirmed_seat(&rt, alloc);
-    let both = [told, confirmed];
+    let confirmed = again!(confirmed_seat(&rt, alloc), Err(NoMemory) => ());
+    let both = [told, confirmed.expect(&rt, "memory")];
     let seats = &both[..];
     assert_unsettled(&rt, alloc, CLOSE, &seats[..1], Unsettled::Differs(0));
     assert_unsettled(&rt, alloc, TEN, &seats[1..], Unsettled::NotCommitted(1));
@@ -119,7 +130,7 @@ fn an_unconfirmed_tail_settles(rt: HostRuntime) {
     let mut seat = Seat::new(alloc);
     take_all(&rt, alloc, &desk, &mut seat, TWO);
     desk.stop(&rt);
-    assert_same(&rt, commit(&rt, &desk), 0);
+    assert_same(&rt, commit(&rt, &desk), Ok(0));
     let life = Life {
         opening: 0,
         records: 2,
@@ -157,9 +168,12 @@ fn a_record_of_another_scheme_is_found(rt: HostRuntime) {
         &mut seat,
         &[(TEN, recorded(0)), (CLOSE, recorded(1))],
     );
-    ask(&rt, &desk, &mut seat, 2);
+    ask(&rt, alloc, &desk, &mut seat, 2);
     let (state, seats) = (state_left(desk), [seat]);
-    let found = found_by_another(&rt, alloc, &state, &seats);
+    let found = again!(
+        found_by_another(&rt, alloc, &state, &seats),
+        Some(Unsettled::NoMemory) => ()
+    );
     assert_same(&rt, found, Some(Unsettled::NotRecorded(1)));
     drop(seats);
     drop(state);

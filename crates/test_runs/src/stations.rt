@@ -1,16 +1,22 @@
 //! Nodes of the worked scheme with their desks and ports, and what others send them.
-ghost use Rattle.std.specs.Prelude.{◌≡◌};
+ghost use Rattle.std.specs.Prelude.{◌≡◌, [], true};
+ghost use Rattle.world.specs.Cores.{journal_of};
 
 use crate::registries::worked_scheme;
 use crate::same::assert_same;
-use desk::stores::MemoryStore;
-use desk::{Clock, Desk, Gate, RoomBell, Seat, State, Stored, settle};
+use desk::stores::{MemoryStore, StoreFault};
+use desk::{Clock, Desk, Gate, RoomBell, Seat, State, Stored, Unsettled, settle};
 use exchanges::{Counted, Exchange, exchange};
 use protocol::NodeCore;
+use protocol::scheme::Scheme;
 use protocol::status::Moment;
+use protocol::units::refusal_code::OUT_OF_MEMORY;
 use protocol::units::{NoMemory, Node};
 use protocol::wire::{Message, Reply, ReplyCode, decode};
-use sessions::{Accepted, Dial, Listen, Muster, Network, NodeThreads, NodeTypes, Station, run_all};
+use sessions::{
+    Accepted, Dial, LONGEST_MUSTER, Listen, Muster, Mustered, Network, NodeThreads, NodeTypes,
+    SESSION_THREADS, Station, WORKERS, run_all,
+};
 use sockets::{Port, Ports};
 use std::alloc::Global;
 use std::io::{Read, Write};
@@ -21,6 +27,8 @@ use std::rt::Clock as SystemClock;
 use std::sync::Wait;
 use std::sync::atomic::{AtomicU64, Ordering};
 use std::thread::Threads;
+use std::time::Duration;
+use test_support::{READING, again};
 use world::Core;
 
 /// The log tells NZ that a transfer is completed that NZ never proposed.
@@ -35,12 +43,11 @@ pub const ACCEPTED: &str =
 pub const CANCELLED: &str =
     r#"{"call":"AcceptNotification","codes":[],"from":"ITL","status":"Cancelled","to":"JP","transaction":"NZ9"}"#;
 
-/// NZ's proposal to the log.
-pub const PROPOSAL: &str =
-    r#"{"account":1,"call":"AcceptProposal","from":"NZ","status":"Proposed","to":"ITL","to_account":7,"to_registry":"JP","transaction":"NZ1","units":["NZ:1:1-100:AAU"]}"#;
-
 /// What a node replies to a message of a transfer that it doesn't know, where it has to.
 pub const UNKNOWN: u16 = 47;
+
+/// How many threads a node has that sends to none: one that commits, those of its sessions, and its workers.
+const THREADS: usize = 1 + SESSION_THREADS + WORKERS;
 
 pub type NodeDesk = Desk<Brand, Core, MemoryStore, RoomBell>;
 
@@ -134,18 +141,41 @@ pub struct TestNode<D: Dial + Send + Sync + Drop, G: Gate + Send + Sync + Drop> 
     pub muster: Muster,
 }
 
-pub fn desk_of(rt: &impl Abort, alloc: Global, node: Node) -> NodeDesk {
-    let scheme = worked_scheme(rt, alloc);
-    let core = Core::new(alloc, &scheme, node).expect(rt, "memory");
-    drop(scheme);
+/// The core of the node.
+fn core_of(rt: &impl Abort, alloc: Global, scheme: &Scheme, node: Node) -> Core
+    ensures { journal_of result ≡ [] }
+{
+    match again!(Core::new(alloc, scheme, node), Err(NoMemory) => ()) {
+        Ok(core) => core,
+        Err(NoMemory) => rt.abort(),
+    }
+}
+
+/// The state of the node with an empty store.
+pub fn empty_state(
+    rt: &impl Abort,
+    alloc: Global,
+    scheme: &Scheme,
+    node: Node,
+) -> Stored<Core, MemoryStore>
+    ensures { result.state.runs ≡ true }
+{
+    let core = core_of(rt, alloc, scheme, node);
     let store = MemoryStore::new(alloc, core.node());
     match Stored::load(alloc, core, store) {
-        Ok(stored) => Desk::new(stored, RoomBell::new()),
+        Ok(stored) => stored,
         Err((_, store)) => {
             drop(store);
             rt.abort()
         }
     }
+}
+
+pub fn desk_of(rt: &impl Abort, alloc: Global, node: Node) -> NodeDesk {
+    let scheme = worked_scheme(rt, alloc);
+    let stored = empty_state(rt, alloc, &scheme, node);
+    drop(scheme);
+    Desk::new(stored, RoomBell::new())
 }
 
 /// A node with that desk and that listener.
@@ -185,12 +215,16 @@ where
     R: Net<Listener = TcpListener, Stream = TcpStream> + Abort,
 {
     let listener = FailingPort::open(rt, failing);
-    ports.add(node, &listener.port).expect(rt, "memory");
+    let added = again!(
+        ports.add(node, &listener.port),
+        Err(NoMemory) => assert_same(rt, ports.address_of(node), None)
+    );
+    assert_same(rt, added, Ok(()));
     listener
 }
 
 pub fn message(rt: &impl Abort, alloc: Global, text: &str) -> Message {
-    decode(alloc, text.as_bytes()).expect(rt, "a message")
+    decode(alloc, text.as_bytes()).expect(rt, READING)
 }
 
 /// The reply that refuses by that code.
@@ -210,10 +244,42 @@ pub fn exchange_over<R: Read + Drop, W: Write + Drop>(
     exchange(alloc, &mut reader, &mut writer, message)
 }
 
-/// One exchange with that node over a connection of its own.
-pub fn call<D: Dial>(alloc: Global, dial: &D, peer: Node, message: &Message) -> Option<Exchange> {
-    let (reader, writer) = dial.connect(peer)?;
-    Some(exchange_over(alloc, reader, writer, message))
+/// How an exchange with a node ended. `NoMemory` where memory ran out for it. Where it did at the node, the reply says
+/// so, or the session ended without one.
+pub fn unless_no_memory(ended: Exchange) -> Result<Exchange, NoMemory> {
+    match ended {
+        Exchange::Answered(Reply::Refused(code)) if code.number == OUT_OF_MEMORY => Err(NoMemory),
+        Exchange::Answered(_) | Exchange::BadReply => Ok(ended),
+        Exchange::NoMemory | Exchange::PeerEnded | Exchange::ReadFault | Exchange::WriteFault(_) =>
+            Err(NoMemory),
+    }
+}
+
+/// One exchange with that node over a connection of its own. `NoMemory` also where there is none for a connection.
+pub fn call<D: Dial>(
+    alloc: Global,
+    dial: &D,
+    peer: Node,
+    message: &Message,
+) -> Result<Exchange, NoMemory> {
+    match dial.connect(peer) {
+        Some((reader, writer)) => unless_no_memory(exchange_over(alloc, reader, writer, message)),
+        None => Err(NoMemory),
+    }
+}
+
+/// Waits until all threads have begun of a node that sends to none. `NoMemory` where there was none for one of them.
+pub fn wait_for_threads<D, G, R>(rt: &R, node: &TestNode<D, G>) -> Result<(), NoMemory>
+where
+    D: Dial + Send + Sync + Drop,
+    G: Gate + Send + Sync + Drop,
+    R: Wait + SystemClock,
+{
+    let longest = Duration::from_secs(LONGEST_MUSTER);
+    match node.muster.wait_for(rt, THREADS, longest) {
+        Mustered::All => Ok(()),
+        Mustered::Missing => Err(NoMemory),
+    }
 }
 
 /// The threads of a node that sends to those nodes.
@@ -250,37 +316,45 @@ where
     run_all(rt, alloc, nodes)
 }
 
-/// The seats of a node's threads, and that other one.
-fn seats_of(rt: &impl Abort, end: Ended, other: Option<Seat>) -> Vec<Seat> {
-    let mut seats = end.expect(rt, "memory");
+/// The seats of a node's threads, and that other one. `NoMemory` where there was none for them.
+fn seats_of(ended: Ended, other: Option<Seat>) -> Result<Vec<Seat>, NoMemory> {
+    let mut seats = ended?;
+    seats.reserve(1)?;
     if let Some(seat) = other {
-        seats.push(seat).expect(rt, "memory");
+        seats.push_reserved(seat);
     }
-    seats
+    Ok(seats)
 }
 
-/// The state that the desk leaves, whose store has no fault.
-fn state_left(rt: &impl Abort, desk: NodeDesk) -> State<Core> {
+/// The state that the desk leaves, whose store has no fault. `NoMemory` where the store found none.
+fn state_left(rt: &impl Abort, desk: NodeDesk) -> Result<State<Core>, NoMemory> {
     let desk::Ended { stored, fault } = desk.end();
+    if fault == Some(StoreFault::NoMemory) {
+        drop(stored);
+        return Err(NoMemory);
+    }
     assert_same(rt, fault, None);
     let (state, store) = stored.into_parts();
     drop(store);
-    state
+    Ok(state)
 }
 
 /// How many records the node has and how many it has committed, as its threads were told, and whoever has that other
-/// seat.
+/// seat. `NoMemory` where there was none for its threads or for its store.
 pub fn records_of<D: Dial + Send + Sync + Drop, G: Gate + Send + Sync + Drop>(
     rt: &impl Abort,
     node: TestNode<D, G>,
-    end: Ended,
+    ended: Ended,
     other: Option<Seat>,
-) -> (usize, usize) {
-    let seats = seats_of(rt, end, other);
-    drop(node.station.listener);
-    let state = state_left(rt, node.station.desk);
-    let life = settle(&state, seats.as_slice()).expect(rt, "a life");
+) -> Result<(usize, usize), NoMemory> {
+    let TestNode { station, muster } = node;
+    drop(muster);
+    drop(station.listener);
+    let state = state_left(rt, station.desk)?;
+    let seats = seats_of(ended, other)?;
+    let settled = again!(settle(&state, seats.as_slice()), Err(Unsettled::NoMemory) => ());
+    let life = settled.expect(rt, "a life");
     drop(state);
     drop(seats);
-    (life.records, life.committed)
+    Ok((life.records, life.committed))
 }

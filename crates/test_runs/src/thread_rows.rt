@@ -1,11 +1,12 @@
-use crate::given::{Given, input_of};
-use crate::nz_desk::{NzDesk, TEN, TEN_MORE, nz_desk, nz_stored, settled, state_left};
+use crate::nz_desk::{NzDesk, TEN, TEN_MORE, nz_desk, nz_stored, running_left, settled};
 use crate::same::assert_same;
-use desk::stores::MemoryStore;
+use crate::standing::{query, take, unless_no_memory};
+use crate::waits::{Done, TURNS};
+use desk::stores::{MemoryStore, StoreFault};
 use desk::{Bell, Desk, Life, RoomBell, Seat, Taken, Told};
 use protocol::Stepped;
-use protocol::status::{Order, Status, TransactionId};
-use protocol::units::{Code, Items, RawBlock};
+use protocol::status::{Order, Status};
+use protocol::units::{Code, Items, NoMemory, RawBlock};
 use protocol::wire::Input;
 use registry_core::RegistryCore;
 use std::alloc::Global;
@@ -17,9 +18,7 @@ use std::sync::atomic::{AtomicU64, Ordering};
 use std::thread;
 use std::thread::Threads;
 use std::time::Duration;
-
-/// How many times a thread looks for another one, a millisecond apart.
-const TURNS: u32 = 10_000;
+use test_support::{READING, again};
 
 /// A bell that counts how often a thread began to wait at it.
 #[derive(Drop)]
@@ -60,8 +59,10 @@ enum Seen {
     Awaited,
     /// Another thread was told before the commit.
     ToldEarly,
-    /// No thread waited.
+    /// No thread waited, and the desk was stopped.
     Alone,
+    /// The store found no memory, and the desk has stopped.
+    NoMemory,
 }
 
 /// Commits once another thread has waited at the bell that many times.
@@ -76,11 +77,14 @@ fn commit_awaited<R: Wait + Clock>(
             let early = told.load(Ordering::SeqCst) != 0;
             return match (early, desk.commit_next(rt)) {
                 (false, Ok(1)) => Seen::Awaited,
+                (false, Err(StoreFault::NoMemory)) => Seen::NoMemory,
                 _ => Seen::ToldEarly,
             };
         }
         thread::sleep(rt, Duration::from_millis(1));
     }
+    // Where there was no memory for a second thread, this one would confirm next, and wait forever.
+    desk.stop(rt);
     Seen::Alone
 }
 
@@ -114,69 +118,50 @@ fn confirm_and_commit<R: Threads + Wait + Clock + Sync>(
     )
 }
 
-/// Has one thread confirm what was taken, and another commit. Asserts that the first waits for the second.
+/// Has one thread confirm what was taken, and another commit. Asserts that the first waits for the second. `NoMemory`
+/// where there was none for the store or for a thread.
 fn answer_waits<R: Threads + Wait + Clock + Abort + Sync>(
     rt: &R,
     desk: &WatchedDesk,
     seat: &mut Seat,
     taken: Taken,
     waits: u64,
-) {
-    let both = confirm_and_commit(rt, desk, seat, taken, waits);
-    assert_same(rt, both, (true, Seen::Awaited));
+) -> Result<(), NoMemory> {
+    match confirm_and_commit(rt, desk, seat, taken, waits) {
+        (false, Seen::NoMemory | Seen::Alone) => Err(NoMemory),
+        both => {
+            assert_same(rt, both, (true, Seen::Awaited));
+            Ok(())
+        }
+    }
 }
 
-/// Has the watched desk take an input.
-fn take(
-    rt: &(impl Wait + Abort),
+/// Asserts that the answers to an order and to a question wait for what they say to be committed.
+fn answers_wait<R: Threads + Wait + Clock + Abort + Sync>(
+    rt: &R,
     alloc: Global,
-    desk: &WatchedDesk,
-    seat: &mut Seat,
-    given: Given,
-) -> Taken {
-    desk.take(rt, seat, input_of(rt, alloc, given))
-}
-
-/// Asks the watched desk where NZ1 stands.
-fn ask(rt: &(impl Wait + Abort), desk: &WatchedDesk, seat: &mut Seat) -> Taken {
-    let id = TransactionId::read("NZ1").expect(rt, "an identifier");
-    desk.query(rt, seat, id)
+) -> Result<(), NoMemory> {
+    let desk = watched(rt, alloc);
+    let mut seat = Seat::new(alloc);
+    let taken = take(rt, alloc, &desk, &mut seat, TEN);
+    answer_waits(rt, &desk, &mut seat, taken, 1)?;
+    drop(take(rt, alloc, &desk, &mut seat, TEN_MORE));
+    let asked = query(rt, alloc, &desk, &mut seat);
+    assert_same(rt, asked.told(), Told::Status(Some(Status::Proposed)));
+    answer_waits(rt, &desk, &mut seat, asked, 2)?;
+    assert_same(rt, seat.confirmed(), 2);
+    Ok(())
 }
 
 #[test]
 fn a_receipt_waits_for_the_commit(rt: HostRuntime) {
     let alloc = rt.alloc();
-    let desk = watched(&rt, alloc);
-    let mut seat = Seat::new(alloc);
-    let taken = take(&rt, alloc, &desk, &mut seat, TEN);
-    answer_waits(&rt, &desk, &mut seat, taken, 1);
-    drop(take(&rt, alloc, &desk, &mut seat, TEN_MORE));
-    let asked = ask(&rt, &desk, &mut seat);
-    assert_same(&rt, asked.told(), Told::Status(Some(Status::Proposed)));
-    answer_waits(&rt, &desk, &mut seat, asked, 2);
-    assert_same(&rt, seat.confirmed(), 2);
-    drop((desk, seat));
+    let waited = again!(answers_wait(&rt, alloc), Err(NoMemory) => ());
+    assert_same(&rt, waited, Ok(()));
 }
 
 /// How many proposals each taking thread gives.
 const EACH: u32 = 20;
-
-/// Has the desk take proposals of one unit each, from that unit on, and waits for each receipt. Gives the seat, and how
-/// many were recorded and confirmed.
-fn propose_units<R: Wait + Clock>(rt: &R, alloc: Global, desk: &NzDesk, first: u32) -> (Seat, u32) {
-    let mut seat = Seat::new(alloc);
-    let mut confirmed = 0;
-    for unit in first..first.saturating_add(EACH) {
-        if let Some(order) = proposal(alloc, unit) {
-            let taken = desk.take(rt, &mut seat, order);
-            let recorded = matches!(taken.told(), Told::Step(Stepped::Recorded(_)));
-            if recorded && desk.confirm(rt, &mut seat, taken).is_ok() {
-                confirmed = u32::saturating_add(confirmed, 1);
-            }
-        }
-    }
-    (seat, confirmed)
-}
 
 /// An order to transfer that unit.
 fn proposal(alloc: Global, unit: u32) -> Option<Input> {
@@ -186,8 +171,60 @@ fn proposal(alloc: Global, unit: u32) -> Option<Input> {
     Some(Input::Propose(order))
 }
 
-/// Commits until the desk has stopped.
-fn commit_all<R: Wait + Clock>(rt: &R, desk: &NzDesk) {
+/// Orders to transfer one unit each, from that unit on.
+fn proposals(rt: &impl Abort, alloc: Global, first: u32) -> Vec<Input> {
+    let mut orders = Vec::new(alloc);
+    for unit in first..first.saturating_add(EACH) {
+        let order = proposal(alloc, unit).expect(rt, READING);
+        orders.push(order).expect(rt, READING);
+    }
+    orders
+}
+
+/// An equal order.
+fn copy_of(rt: &impl Abort, order: &Input) -> Input {
+    again!(order.copy(), Err(NoMemory) => ()).expect(rt, "memory")
+}
+
+/// Asserts that a seat that found no memory has as many tickets and notes as before, all of which the journal has.
+fn assert_kept(rt: &impl Abort, seat: &Seat, before: (usize, usize), records: usize) {
+    assert_same(rt, (seat.tickets().len(), seat.notes().len()), before);
+    assert!(rt; records >= before.0);
+}
+
+/// Has the desk take an order, while other threads have it take theirs.
+fn take_order<R: Wait + Abort>(rt: &R, desk: &NzDesk, seat: &mut Seat, order: &Input) -> Taken {
+    let before = (seat.tickets().len(), seat.notes().len());
+    let taken = again!(
+        unless_no_memory(desk.take(rt, seat, copy_of(rt, order))),
+        Err(records) => assert_kept(rt, seat, before, records)
+    );
+    taken.expect(rt, "memory")
+}
+
+/// Has the desk take these orders, and waits for each receipt. Returns the seat, and how many were recorded and
+/// confirmed.
+fn propose_units<R: Wait + Clock + Abort>(
+    rt: &R,
+    alloc: Global,
+    desk: &NzDesk,
+    orders: &[Input],
+) -> (Seat, u32) {
+    let mut seat = Seat::new(alloc);
+    let mut confirmed = 0;
+    for order in orders {
+        let taken = take_order(rt, desk, &mut seat, order);
+        let recorded = matches!(taken.told(), Told::Step(Stepped::Recorded(_)));
+        if recorded && desk.confirm(rt, &mut seat, taken).is_ok() {
+            confirmed = u32::saturating_add(confirmed, 1);
+        }
+    }
+    (seat, confirmed)
+}
+
+/// Says that it has begun, and commits until the desk has stopped.
+fn commit_all<R: Wait + Clock>(rt: &R, desk: &NzDesk, begun: &Done) {
+    begun.set();
     for _ in rt.forever() {
         let rings = desk.bell().rings(rt);
         match desk.commit_next(rt) {
@@ -199,47 +236,79 @@ fn commit_all<R: Wait + Clock>(rt: &R, desk: &NzDesk) {
     }
 }
 
-/// Two threads that take, until both are done. Then the desk stops.
-fn propose_twice<R: Threads + Wait + Clock + Sync>(
+/// What each of the two threads that take has, and how many of its orders were recorded and confirmed.
+type Both = ((Seat, u32), (Seat, u32));
+
+/// Two threads that take, until both are done, once another one commits. Then the desk stops. `NoMemory` where there
+/// was none for that other thread: nobody would commit what they took.
+fn propose_twice<R: Threads + Wait + Clock + Abort + Sync>(
     rt: &R,
     alloc: Global,
     desk: &NzDesk,
-) -> ((Seat, u32), (Seat, u32)) {
+    begun: &Done,
+    orders: (&[Input], &[Input]),
+) -> Result<Both, NoMemory> {
+    if !begun.wait(rt) {
+        desk.stop(rt);
+        return Err(NoMemory);
+    }
+    let (first, second) = orders;
     let both = thread::join(
         rt,
-        || propose_units(rt, alloc, desk, 1),
-        || propose_units(rt, alloc, desk, 51),
+        move || propose_units(rt, alloc, desk, first),
+        move || propose_units(rt, alloc, desk, second),
     );
     desk.stop(rt);
-    both
+    Ok(both)
 }
 
 /// Two threads that take, and one that commits.
-fn three_threads<R: Threads + Wait + Clock + Sync>(
+fn three_threads<R: Threads + Wait + Clock + Abort + Sync>(
     rt: &R,
     alloc: Global,
     desk: &NzDesk,
-) -> ((Seat, u32), (Seat, u32)) {
+    orders: (&[Input], &[Input]),
+) -> Result<Both, NoMemory> {
+    let begun = Done::not_yet();
+    let begun = &begun;
     let ((), both) = thread::join(
         rt,
-        move || commit_all(rt, desk),
-        || propose_twice(rt, alloc, desk),
+        move || commit_all(rt, desk, begun),
+        move || propose_twice(rt, alloc, desk, begun, orders),
     );
     both
+}
+
+/// How many orders of each of two threads were recorded and confirmed, and what the desk's state settles to with their
+/// seats. `NoMemory` where there was none for the store or for a thread.
+fn threads_settle<R: Threads + Wait + Clock + Abort + Sync>(
+    rt: &R,
+    alloc: Global,
+    orders: (&[Input], &[Input]),
+) -> Result<((u32, u32), Life), NoMemory> {
+    let desk = nz_desk(rt, alloc);
+    let both = three_threads(rt, alloc, &desk, orders);
+    let state = running_left(desk)?;
+    let ((a, first), (b, second)) = both?;
+    let seats = [a, b];
+    let life = settled(state, &seats).expect(rt, "a life");
+    drop(seats);
+    Ok(((first, second), life))
 }
 
 #[test]
 fn threads_at_one_desk_settle(rt: HostRuntime) {
     let alloc = rt.alloc();
-    let desk = nz_desk(&rt, alloc);
-    let ((a, first), (b, second)) = three_threads(&rt, alloc, &desk);
-    assert_same(&rt, (first, second), (EACH, EACH));
+    let first = proposals(&rt, alloc, 1);
+    let second = proposals(&rt, alloc, 51);
+    let orders = (first.as_slice(), second.as_slice());
+    let settled = again!(threads_settle(&rt, alloc, orders), Err(NoMemory) => ());
     let life = Life {
         opening: 0,
         records: 40,
         committed: 40,
     };
-    let seats = [a, b];
-    assert_same(&rt, settled(state_left(desk), &seats), Ok(life));
-    drop(seats);
+    assert_same(&rt, settled, Ok(((EACH, EACH), life)));
+    drop(second);
+    drop(first);
 }

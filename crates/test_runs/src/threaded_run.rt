@@ -1,5 +1,6 @@
 use crate::nodes::played;
 use crate::same::assert_same;
+use test_support::texts::TABLE;
 
 /// One transfer from NZ to JP.
 pub const SCRIPT: &str = "\
@@ -9,17 +10,11 @@ until ITL NZ1 Completed 10000
 until JP NZ1 Completed 10000
 ";
 
-const REPORT: &str = "\
+const ANSWERS: &str = "\
 1 recorded 0
 2 status Completed
 3 status Completed
 4 status Completed
-transaction NZ1 NZ Completed ITL Completed JP Completed
-registry JP held 100 spendable 100
-holds JP 7 NZ:1:1-100:AAU free
-registry NZ held 0 spendable 0
-owed 0
-end
 ";
 
 const RUNS: usize = 100;
@@ -29,6 +24,7 @@ fn hundred_transfers(rt: HostRuntime) {
     for _ in 0..RUNS {
         let (done, written) = played(&rt, rt.alloc(), None, SCRIPT);
         assert_same(&rt, done, Ok(()));
-        assert!(rt; written.as_slice() == REPORT.as_bytes());
+        let table = written.strip_prefix(ANSWERS.as_bytes());
+        assert_same(&rt, table, Some(TABLE.as_bytes()));
     }
 }

@@ -2,15 +2,23 @@
 
 use crate::given::input_of;
 use crate::nz_desk::{TEN, nz_state, nz_stored, recorded};
+use crate::registries::first_transfer;
 use crate::same::assert_same;
+use crate::standing::take_stored;
 use desk::{Asked, Seat, Taken, Told};
 use protocol::status::TransactionId;
-use protocol::units::Refusal;
 use protocol::units::refusal_code::NODE_STOPPED;
+use protocol::units::{NoMemory, Refusal};
 use std::process::Abort;
+use test_support::again;
 
-fn id(rt: &impl Abort) -> TransactionId {
-    TransactionId::read("NZ1").expect(rt, "an identifier")
+/// Makes room at an empty seat for what is told of the transaction.
+fn prepare(rt: &impl Abort, seat: &mut Seat, id: TransactionId) {
+    let prepared = again!(
+        seat.prepare_query(id),
+        Err(NoMemory) => assert_same(rt, (seat.tickets().len(), seat.notes().len()), (0, 0))
+    );
+    assert_same(rt, prepared, Ok(()));
 }
 
 /// Whether the state was asked where the transaction stands.
@@ -23,10 +31,10 @@ fn is_about(taken: &Taken, id: TransactionId) -> bool {
 
 #[test]
 fn a_question_is_kept_as_a_note(rt: HostRuntime) {
-    let (alloc, id) = (rt.alloc(), id(&rt));
+    let (alloc, id) = (rt.alloc(), first_transfer(&rt));
     let state = nz_state(&rt, alloc);
     let mut seat = Seat::new(alloc);
-    seat.prepare_query(id).expect(&rt, "memory");
+    prepare(&rt, &mut seat, id);
     let taken = state.query(id);
     seat.keep(&taken);
     assert!(rt; is_about(&taken, id));
@@ -39,10 +47,10 @@ fn a_question_is_kept_as_a_note(rt: HostRuntime) {
 
 #[test]
 fn a_refusal_for_memory_is_not_kept(rt: HostRuntime) {
-    let (alloc, id) = (rt.alloc(), id(&rt));
+    let (alloc, id) = (rt.alloc(), first_transfer(&rt));
     let state = nz_state(&rt, alloc);
     let mut seat = Seat::new(alloc);
-    seat.prepare_query(id).expect(&rt, "memory");
+    prepare(&rt, &mut seat, id);
     let taken = state.refuse_for_memory(Asked::Query(id));
     seat.keep(&taken);
     assert_same(&rt, taken.told(), Told::Refused(Refusal::NO_MEMORY));
@@ -69,7 +77,7 @@ fn a_stopped_state_takes_nothing(rt: HostRuntime) {
 fn a_stopped_state_commits_nothing(rt: HostRuntime) {
     let alloc = rt.alloc();
     let mut stored = nz_stored(&rt, alloc);
-    let taken = stored.take(input_of(&rt, alloc, TEN));
+    let taken = take_stored(&rt, alloc, &mut stored, TEN);
     assert_same(&rt, taken.told(), recorded(0));
     drop(taken);
     stored.stop();

@@ -1,6 +1,14 @@
 use crate::nodes::played_watched;
 use crate::same::assert_same;
 use crate::threaded_run::SCRIPT;
+use protocol::units::NoMemory;
+use std::alloc::Global;
+use std::net::{Net, TcpListener, TcpStream};
+use std::process::Abort;
+use std::rt::Clock;
+use std::sync::Wait;
+use std::thread::Threads;
+use test_support::again;
 
 /// A watch that always wants to be told, and keeps what it is told.
 #[derive(Clone, Copy)]
@@ -40,8 +48,11 @@ impl weave::Watch for Told {
     }
 }
 
-#[test]
-fn a_watch_is_told_of_lines_and_records(rt: HostRuntime) {
+/// What a watch is told of a run. `NoMemory` where memory ran out in it.
+fn told_of_run<R>(rt: &R, alloc: Global) -> Result<Told, NoMemory>
+where
+    R: Threads + Wait + Clock + Net<Listener = TcpListener, Stream = TcpStream> + Abort + Sync,
+{
     let mut told = Told {
         answered: 0,
         committed: 0,
@@ -49,9 +60,17 @@ fn a_watch_is_told_of_lines_and_records(rt: HostRuntime) {
         woven: 0,
         finished: 0,
     };
-    let (done, written) = played_watched(&rt, rt.alloc(), None, SCRIPT, &mut told);
+    let (done, written) = played_watched(rt, alloc, None, SCRIPT, &mut told)?;
     drop(written);
-    assert_same(&rt, done, Ok(()));
+    assert_same(rt, done, Ok(()));
+    Ok(told)
+}
+
+#[test]
+fn a_watch_is_told_of_lines_and_records(rt: HostRuntime) {
+    let alloc = rt.alloc();
+    let told = again!(told_of_run(&rt, alloc), Err(NoMemory) => ());
+    let told = told.ok().expect(&rt, "memory");
     assert!(rt; told.answered == 4);
     // Each of the three nodes has recorded the proposal and the outcome before the last answer.
     assert!(rt; told.committed >= 6);

@@ -1,6 +1,6 @@
 use crate::given::Given::{self, Event, Message};
 use crate::given::input_of;
-use crate::journals::{ASKED, PROPOSED};
+use crate::journals::{ASKED, PROPOSED, assert_table};
 use crate::registries::{registry, worked_scheme};
 use crate::same::assert_same;
 use protocol::status::{Status, TransactionId};
@@ -8,63 +8,57 @@ use protocol::units::Node;
 use protocol::wire::Input;
 use std::alloc::Global;
 use std::process::Abort;
+use test_support::{READING, again, texts};
 use weave::{WeaveFault, Woven, weave};
 
 /// A clean-up a day after the proposal was checked.
 const CLEANED_UP: Given = Event("clean-up 2012-05-02T00:00:00Z");
 
-/// The second proposal at the log.
-const ASKED_AGAIN: Given = Message(
-    r#"{"account":1,"call":"AcceptProposal","from":"NZ","status":"Proposed","to":"ITL","to_account":7,"to_registry":"JP","transaction":"NZ2","units":["NZ:1:1-100:AAU"]}"#,
-);
-
-/// That JP accepted the second one, at the log.
-const ACCEPTED: Given = Message(
-    r#"{"call":"AcceptNotification","codes":[],"from":"JP","status":"Accepted","to":"ITL","transaction":"NZ2"}"#,
-);
-
-/// That NZ completed it, at the log.
-const COMPLETED: Given = Message(
-    r#"{"call":"AcceptNotification","codes":[],"from":"NZ","status":"Completed","to":"ITL","transaction":"NZ2"}"#,
-);
-
-const LOG: [Given; 5] = [ASKED, CLEANED_UP, ASKED_AGAIN, ACCEPTED, COMPLETED];
+/// At the log the proposal, the clean-up that cancels it, and the second proposal, which is accepted and completed.
+const LOG: [Given; 5] = [
+    ASKED,
+    CLEANED_UP,
+    Message(texts::SECOND_PROPOSED),
+    Message(texts::SECOND_ACCEPTED),
+    Message(texts::SECOND_COMPLETED),
+];
 
 /// At JP the second proposal, that it is completed, and then the first one.
 const JP: [Given; 3] = [
-    Message(
-        r#"{"account":1,"call":"AcceptProposal","from":"ITL","status":"Checked","to":"JP","to_account":7,"to_registry":"JP","transaction":"NZ2","units":["NZ:1:1-100:AAU"]}"#,
-    ),
-    Message(
-        r#"{"call":"AcceptNotification","codes":[],"from":"ITL","status":"Completed","to":"JP","transaction":"NZ2"}"#,
-    ),
-    Message(
-        r#"{"account":1,"call":"AcceptProposal","from":"ITL","status":"Checked","to":"JP","to_account":7,"to_registry":"JP","transaction":"NZ1","units":["NZ:1:1-100:AAU"]}"#,
-    ),
+    Message(texts::SECOND_CHECKED),
+    Message(texts::SECOND_COMPLETED_TO_JP),
+    Message(texts::CHECKED),
 ];
 
 /// At NZ the order, that it is cancelled, the order again, and that it is accepted.
 const NZ: [Given; 4] = [
     PROPOSED,
-    Message(
-        r#"{"call":"AcceptNotification","codes":[],"from":"ITL","status":"Cancelled","to":"NZ","transaction":"NZ1"}"#,
-    ),
+    Message(texts::CANCELLED_TO_NZ),
     PROPOSED,
-    Message(
-        r#"{"call":"AcceptNotification","codes":[],"from":"ITL","status":"Accepted","to":"NZ","transaction":"NZ2"}"#,
-    ),
+    Message(texts::SECOND_ACCEPTED_TO_NZ),
 ];
+
+/// The table of the world that these journals lead to.
+const TABLE: &str = "\
+transaction NZ1 NZ Cancelled ITL Cancelled JP Rejected
+transaction NZ2 NZ Completed ITL Completed JP Completed
+registry JP held 100 spendable 100
+holds JP 7 NZ:1:1-100:AAU free
+registry NZ held 0 spendable 0
+owed 0
+end
+";
 
 fn records(rt: &impl Abort, alloc: Global, journal: &[Given]) -> Vec<Input> {
     let mut records = Vec::new(alloc);
     for given in journal {
         let record = input_of(rt, alloc, *given);
-        records.push(record).expect(rt, "memory");
+        records.push(record).expect(rt, READING);
     }
     records
 }
 
-/// What the journals of the log, of JP and of NZ come to. A call that found no memory is made again.
+/// What the journals of the log, of JP and of NZ come to.
 fn woven<'a>(
     rt: &impl Abort,
     alloc: Global,
@@ -74,10 +68,7 @@ fn woven<'a>(
 ) -> Woven {
     let scheme = worked_scheme(rt, alloc);
     let journals = [log, jp, nz];
-    let done = match weave(alloc, &scheme, &journals) {
-        Err(WeaveFault::NoMemory) => weave(alloc, &scheme, &journals),
-        done => done,
-    };
+    let done = again!(weave(alloc, &scheme, &journals), Err(WeaveFault::NoMemory) => ());
     drop(scheme);
     done.ok().expect(rt, "a run")
 }
@@ -105,4 +96,5 @@ fn stale_proposal(rt: HostRuntime) {
     drop(nz);
     drop(jp);
     drop(log);
+    assert_table(&rt, alloc, [&LOG, &JP, &NZ], TABLE);
 }

@@ -1,64 +1,105 @@
-use crate::file_store_rows::{append_two, assert_two, assert_two_in, count};
+use crate::calls::{append, append_two, assert_two, count, load};
+use crate::file_store_rows::{assert_two_in, store_at};
+use crate::folders::{add_folder, copy_file, remove_folder};
 use crate::fused_files::{
-    FOREVER, MemoryFiles, Stored, after_a_crash, assert_refused, closed, copied, new_files,
-    open_as, opened, registry, with_bytes,
+    FOREVER, RoomyFiles, RoomyStore, after_losses, assert_refused, closed, copied, have_blown,
+    new_files, open_as, opened, with_bytes,
 };
-use crate::records::two;
-use sqlite::Files;
-use sqlite_disk::{Fuse, Memory};
+use crate::records::{are_two, two};
+use crate::roomy::Roomy;
+use desk::stores::{NodeStore, StoreFault};
+use sqlite::{File, Files};
+use sqlite_disk::{Disk, Fuse};
 use std::alloc::Global;
-use std::fs;
 use std::process::Abort;
-use stores::{NodeStore, StoreFault};
+use store_files::durable::SqlStore;
 
 /// NZ's store of two records, in new files.
-fn store_of_two(rt: &impl Abort, alloc: Global) -> MemoryFiles {
-    let mut store = open_as(rt, alloc, new_files(alloc, FOREVER, FOREVER), "NZ");
+fn store_of_two(rt: &impl Abort, alloc: Global) -> RoomyStore {
+    let mut store = open_as(rt, alloc, new_files(rt, alloc, FOREVER, FOREVER), "NZ");
     append_two(rt, alloc, &mut store);
     store
 }
 
 /// The database file, with an empty log.
-fn without_log(alloc: Global, files: Stored) -> Stored {
+fn without_log(rt: &impl Abort, alloc: Global, files: RoomyFiles) -> RoomyFiles {
     let Files { log, db } = files;
     drop(log);
     Files {
-        log: Fuse::new(Memory::new(alloc), FOREVER),
+        log: Fuse::new(Roomy::new(rt, alloc), FOREVER),
         db,
     }
 }
 
+/// Asserts that a store still has the two records of which no copy was made. Fails where a call of its files does.
+fn keeps_two<S: NodeStore>(
+    rt: &impl Abort,
+    alloc: Global,
+    store: &mut S,
+) -> Result<(), StoreFault> {
+    let records = load(store)?;
+    assert!(rt; are_two(alloc, &records));
+    drop(records);
+    Ok(())
+}
+
+/// Opens the files of NZ's store once more, for which a copying found no memory. They have the two records then, and
+/// their log is copied once more.
+fn copied_once_more<D: Disk + Drop>(
+    rt: &impl Abort,
+    alloc: Global,
+    files: Files<D>,
+) -> Result<Files<D>, (StoreFault, Files<D>)> {
+    let mut store = opened(rt, alloc, files, "NZ")?;
+    match keeps_two(rt, alloc, &mut store) {
+        Ok(()) => copied(store),
+        Err(fault) => Err((fault, closed(store))),
+    }
+}
+
 /// The files of NZ's store of two records, once its log was copied.
-fn copied_two(rt: &impl Abort, alloc: Global) -> Stored {
-    let copied = copied(store_of_two(rt, alloc));
+fn copied_two<D: Disk + Drop>(
+    rt: &impl Abort,
+    alloc: Global,
+    store: SqlStore<D>,
+) -> Result<Files<D>, (StoreFault, Files<D>)> {
+    match copied(store) {
+        Err((StoreFault::NoMemory, files)) => copied_once_more(rt, alloc, files),
+        copied => copied,
+    }
+}
+
+/// The files of NZ's store of two records, once its log was copied, where nothing fails.
+fn files_with_a_copy(rt: &impl Abort, alloc: Global) -> RoomyFiles {
+    let copied = copied_two(rt, alloc, store_of_two(rt, alloc));
     copied.ok().expect(rt, "no fault of the store")
 }
 
 #[test]
 fn a_copied_database_has_the_records_without_its_log(rt: HostRuntime) {
     let alloc = rt.alloc();
-    let files = copied_two(&rt, alloc);
-    assert_two_in(&rt, alloc, without_log(alloc, files));
+    let files = files_with_a_copy(&rt, alloc);
+    assert_two_in(&rt, alloc, without_log(&rt, alloc, files));
 }
 
 #[test]
 fn a_copied_database_has_the_owner_without_its_log(rt: HostRuntime) {
     let alloc = rt.alloc();
-    let files = without_log(alloc, copied_two(&rt, alloc));
+    let files = without_log(&rt, alloc, files_with_a_copy(&rt, alloc));
     assert_refused(&rt, alloc, files, "JP", StoreFault::WrongNode);
 }
 
 #[test]
 fn a_copied_database_has_the_records_with_its_log(rt: HostRuntime) {
     let alloc = rt.alloc();
-    let files = copied_two(&rt, alloc);
-    assert_two_in(&rt, alloc, after_a_crash(files));
+    let files = files_with_a_copy(&rt, alloc);
+    assert_two_in(&rt, alloc, after_losses(&rt, alloc, files));
 }
 
 #[test]
 fn a_database_that_was_not_copied_has_nothing_without_its_log(rt: HostRuntime) {
     let alloc = rt.alloc();
-    let files = without_log(alloc, closed(store_of_two(&rt, alloc)));
+    let files = without_log(&rt, alloc, closed(store_of_two(&rt, alloc)));
     let mut store = open_as(&rt, alloc, files, "JP");
     assert!(rt; count(&rt, &mut store) == 0);
     drop(store);
@@ -74,28 +115,32 @@ enum Failed {
 
 /// Copies the log of NZ's store of two records. After a crash it has them without its log then or, where a call failed,
 /// in the files that are given back.
-fn copy(rt: &impl Abort, alloc: Global, store: MemoryFiles) -> Failed {
-    match copied(store) {
+fn copy(rt: &impl Abort, alloc: Global, store: RoomyStore) -> Failed {
+    match copied_two(rt, alloc, store) {
         Ok(files) => {
             // After a crash all calls may be made again.
-            assert_two_in(rt, alloc, without_log(alloc, after_a_crash(files)));
+            assert_two_in(
+                rt,
+                alloc,
+                without_log(rt, alloc, after_losses(rt, alloc, files)),
+            );
             Failed::Nowhere
         }
-        Err((fault, files)) => {
-            assert!(rt; fault == StoreFault::Device);
-            assert_two_in(rt, alloc, after_a_crash(files));
+        Err((fault, mut files)) => {
+            assert!(rt; fault == StoreFault::Device && have_blown(&mut files));
+            assert_two_in(rt, alloc, after_losses(rt, alloc, files));
             Failed::Copying
         }
     }
 }
 
 /// Opens NZ's store of two records and copies its log, in files of which only so many calls may be made.
-fn copy_in(rt: &impl Abort, alloc: Global, files: Stored) -> Failed {
+fn copy_in(rt: &impl Abort, alloc: Global, files: RoomyFiles) -> Failed {
     match opened(rt, alloc, files, "NZ") {
         Ok(store) => copy(rt, alloc, store),
-        Err((fault, files)) => {
-            assert!(rt; fault == StoreFault::Device);
-            assert_two_in(rt, alloc, after_a_crash(files));
+        Err((fault, mut files)) => {
+            assert!(rt; fault == StoreFault::Device && have_blown(&mut files));
+            assert_two_in(rt, alloc, after_losses(rt, alloc, files));
             Failed::Opening
         }
     }
@@ -144,15 +189,15 @@ fn copying_cut_in_the_database(rt: HostRuntime) {
 /// Whether an append of the two records fails.
 fn append_fails<S: NodeStore>(rt: &impl Abort, alloc: Global, store: &mut S) -> bool {
     let batch = two(rt, alloc);
-    let failed = store.append(&batch).is_err();
+    let failed = append(rt, store, 0, &batch).is_err();
     drop(batch);
     failed
 }
 
 /// Whether an append stops the store. Exactly then its log isn't copied.
-fn stops(rt: &impl Abort, alloc: Global, mut store: MemoryFiles) -> bool {
+fn stops(rt: &impl Abort, alloc: Global, mut store: RoomyStore) -> bool {
     let stopped = append_fails(rt, alloc, &mut store);
-    match copied(store) {
+    match copied_two(rt, alloc, store) {
         Ok(files) => {
             drop(files);
             assert!(rt; !stopped);
@@ -167,9 +212,10 @@ fn stops(rt: &impl Abort, alloc: Global, mut store: MemoryFiles) -> bool {
 
 /// The same of NZ's store in new files, of whose log that many calls may be made, where it can be opened.
 fn stops_at(rt: &impl Abort, alloc: Global, calls: u64) -> bool {
-    match opened(rt, alloc, new_files(alloc, calls, FOREVER), "NZ") {
+    match opened(rt, alloc, new_files(rt, alloc, calls, FOREVER), "NZ") {
         Ok(store) => stops(rt, alloc, store),
-        Err((_, files)) => {
+        Err((_, mut files)) => {
+            assert!(rt; have_blown(&mut files));
             drop(files);
             false
         }
@@ -186,28 +232,38 @@ fn a_store_that_waits_is_not_copied(rt: HostRuntime) {
     assert!(rt; false, "a store that waits");
 }
 
+/// Copies the log of a store, and closes it.
+fn checkpointed(store: SqlStore<File>) -> Result<(), StoreFault> {
+    store.checkpoint()
+}
+
 /// Has NZ's store at the path in these files append two records, and copies its log.
 fn copy_at(rt: &impl Abort, files: &HostRuntime, path: &str) {
-    let opened = store_files::open_path(files, path, registry(rt, "NZ"));
-    let mut store = opened.expect(rt, "no fault of the store");
+    let mut store = store_at(rt, files, path);
     append_two(rt, files.alloc(), &mut store);
-    assert!(rt; store.checkpoint().is_ok());
+    let done = match checkpointed(store) {
+        Err(StoreFault::NoMemory) => {
+            let mut store = store_at(rt, files, path);
+            assert_two(rt, files.alloc(), &mut store);
+            checkpointed(store)
+        }
+        done => done,
+    };
+    assert!(rt; done.is_ok());
 }
 
 /// Asserts that NZ's store at the path in these files has the two records.
 fn assert_two_at(rt: &impl Abort, files: &HostRuntime, path: &str) {
-    let opened = store_files::open_path(files, path, registry(rt, "NZ"));
-    let mut store = opened.expect(rt, "no fault of the store");
+    let mut store = store_at(rt, files, path);
     assert_two(rt, files.alloc(), &mut store);
     drop(store);
 }
 
 #[test]
 fn a_copied_database_at_a_path(rt: HostRuntime) {
-    fs::create_dir(&rt, "checkpoint_test").expect(&rt, "a new folder");
+    add_folder(&rt, &rt, "checkpoint_test");
     copy_at(&rt, &rt, "checkpoint_test/NZ.db");
-    let bytes = fs::read(&rt, "checkpoint_test/NZ.db").expect(&rt, "a file");
-    fs::write(&rt, "checkpoint_test/copy.db", bytes).expect(&rt, "a new file");
+    copy_file(&rt, &rt, "checkpoint_test/NZ.db", "checkpoint_test/copy.db");
     assert_two_at(&rt, &rt, "checkpoint_test/copy.db");
-    fs::remove_dir_all(&rt, "checkpoint_test").expect(&rt, "a folder");
+    remove_folder(&rt, &rt, "checkpoint_test");
 }

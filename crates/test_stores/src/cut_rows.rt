@@ -4,15 +4,7 @@ use crate::links::{Cut, File, Link};
 use protocol::units::Node;
 use std::alloc::Global;
 use std::process::Abort;
-
-const TABLE: &str = "\
-transaction NZ1 NZ Completed ITL Completed JP Completed
-registry JP held 100 spendable 100
-holds JP 7 NZ:1:1-100:AAU free
-registry NZ held 0 spendable 0
-owed 0
-end
-";
+use test_support::texts::TABLE;
 
 /// More calls of a file than one transfer makes.
 const MOST_CALLS: u64 = 1_000;

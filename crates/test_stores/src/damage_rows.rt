@@ -1,11 +1,16 @@
-use crate::fused_files::{FOREVER, Stored, changed, closed, new_files, open_as, registry};
+use crate::calls::append;
+use crate::fused_files::{FOREVER, RoomyFiles, changed, closed, new_files, open_as, registry};
 use crate::links::new_core;
 use crate::migration_cut::{CLOSE, OPEN};
 use crate::records::record;
+use crate::same::assert_same;
 use desk::State;
+use desk::stores::{NodeStore, StoreFault};
+use protocol::wire::Input;
 use std::alloc::Global;
 use std::process::Abort;
-use stores::{NodeStore, StoreFault};
+use test_support::{READING, again};
+use world::Core;
 
 /// A close of an account that is closed, which no core records.
 const UNRECORDED_AT_1: &str =
@@ -19,28 +24,44 @@ const UNREADABLE_AT_3: &str = "UPDATE entries SET body = 'x' WHERE place = 3";
 
 const UNREADABLE_AT_256: &str = "UPDATE entries SET body = 'x' WHERE place = 256";
 
-/// Appends that many records, by which an account is closed and opened in turn.
-fn append_turns<S: NodeStore>(rt: &impl Abort, alloc: Global, store: &mut S, records: usize) {
+/// That many records, by which an account is closed and opened in turn.
+fn turns(rt: &impl Abort, alloc: Global, records: usize) -> Vec<Input> {
     let mut batch = Vec::new(alloc);
     for place in 0..records {
         let text = if place % 2 == 0 { CLOSE } else { OPEN };
-        batch.push(record(rt, alloc, text)).expect(rt, "memory");
+        batch.push(record(rt, alloc, text)).expect(rt, READING);
     }
-    assert!(rt; store.append(&batch).is_ok());
-    drop(batch);
+    batch
+}
+
+/// Appends the batch to a store that has no record.
+fn append_all<S: NodeStore>(rt: &impl Abort, store: &mut S, batch: &[Input]) {
+    assert_same(rt, append(rt, store, 0, batch), Ok(()));
 }
 
 /// The files of NZ's store of that many such records.
-fn files_of_turns(rt: &impl Abort, alloc: Global, records: usize) -> Stored {
-    let mut store = open_as(rt, alloc, new_files(alloc, FOREVER, FOREVER), "NZ");
-    append_turns(rt, alloc, &mut store, records);
+fn files_of_turns(rt: &impl Abort, alloc: Global, records: usize) -> RoomyFiles {
+    let batch = turns(rt, alloc, records);
+    let mut store = open_as(rt, alloc, new_files(rt, alloc, FOREVER, FOREVER), "NZ");
+    append_all(rt, &mut store, &batch);
+    drop(batch);
     closed(store)
 }
 
-/// The fault for which no state of NZ can be loaded from the store, if there is one.
-fn load_fault<S: NodeStore>(rt: &impl Abort, alloc: Global, store: &mut S) -> Option<StoreFault> {
+/// The state of NZ that the store's records lead to.
+fn loaded<S: NodeStore>(
+    rt: &impl Abort,
+    alloc: Global,
+    store: &mut S,
+) -> Result<State<Core>, StoreFault> {
     let core = new_core(rt, alloc, registry(rt, "NZ"));
-    State::load_from(alloc, core, store).err()
+    State::load_from(alloc, core, store)
+}
+
+/// The fault for which no state of NZ can be loaded from the store, if there is one. The store goes on as it was where
+/// memory ran out.
+fn load_fault<S: NodeStore>(rt: &impl Abort, alloc: Global, store: &mut S) -> Option<StoreFault> {
+    again!(loaded(rt, alloc, store), Err(StoreFault::NoMemory) => ()).err()
 }
 
 /// Asserts that a state can't be loaded from a store of that many records, once these statements were done, for the

@@ -1,14 +1,18 @@
 //! Orders and messages, one after the other, until nothing is left to be sent.
 
 use crate::links::Link;
-use crate::records::{PROPOSE, record};
+use crate::records::record;
+use crate::same::room;
 use desk::Told;
 use exchanges::{Counted, Exchange, exchange};
 use protocol::status::{Moment, TransactionId};
-use protocol::units::refusal_code::NODE_STOPPED;
-use protocol::wire::{Input, Message, Number, Reply, ReplyCode};
+use protocol::units::Refusal;
+use protocol::units::refusal_code::OUT_OF_MEMORY;
+use protocol::wire::{Input, Message, Number, Reply, ReplyCode, decode};
 use std::alloc::Global;
 use std::process::Abort;
+use test_support::again;
+use test_support::texts::PROPOSE_RECORD;
 
 /// The index of NZ among the nodes.
 const NZ: usize = 2;
@@ -20,43 +24,80 @@ const MOMENT: Moment = Moment {
     seconds: 1_335_830_400,
 };
 
-/// What the peer's session gives for what was told of a message.
+/// A peer that ends before it replies.
+const NOTHING: &[u8] = b"";
+
+/// How an exchange of the message ends whose peer writes these bytes, and the bytes that it writes.
+fn exchanged(
+    rt: &impl Abort,
+    alloc: Global,
+    reply: &[u8],
+    message: &Message,
+) -> (Exchange, Vec<u8>) {
+    let mut written = room(rt, alloc);
+    let mut reader = Counted::new(reply);
+    let mut writer = Counted::new(&mut written);
+    let ended = exchange(alloc, &mut reader, &mut writer, message);
+    drop(writer);
+    (ended, written)
+}
+
+/// The same, where an exchange that found no memory is made once more.
+fn exchanged_again(
+    rt: &impl Abort,
+    alloc: Global,
+    reply: &[u8],
+    message: &Message,
+) -> (Exchange, Vec<u8>) {
+    again!(
+        exchanged(rt, alloc, reply, message),
+        (Exchange::NoMemory, written) => drop(written)
+    )
+}
+
+/// The message of the line that an exchange wrote.
+fn read_line(rt: &impl Abort, alloc: Global, written: &[u8]) -> Message {
+    let line = written.strip_suffix(b"\n").expect(rt, "a whole line");
+    let message = again!(decode(alloc, line), Err(Refusal { code: OUT_OF_MEMORY }) => ());
+    message.ok().expect(rt, "a message")
+}
+
+/// What the peer's session replies to a message of which its node told that.
 fn reply_to(rt: &impl Abort, told: Told) -> Reply {
     match told {
         Told::Step(_) => Reply::Received,
         Told::Refused(refusal) => {
             Reply::Refused(ReplyCode::new(refusal.code).expect(rt, "a code of a reply"))
         }
-        Told::Status(_) => refused_as_stopped(rt),
+        Told::Status(_) => rt.abort(),
     }
 }
 
-fn refused_as_stopped(rt: &impl Abort) -> Reply {
-    Reply::Refused(ReplyCode::new(NODE_STOPPED).expect(rt, "a code of a reply"))
-}
-
-/// Has the node at that index take the message and commit it, and returns its reply.
-fn reply_at(rt: &impl Abort, link: &mut Link, at: usize, message: &Message) -> Reply {
-    let message = message.copy().expect(rt, "memory");
-    let moment = MOMENT;
-    let told = link.take(rt, at, Input::Received { message, moment });
+/// Has the node at that index take the message that was written, and commit it. Returns the bytes of its reply: none where it
+/// stopped, as its connection ends then.
+fn replied(rt: &impl Abort, alloc: Global, link: &mut Link, at: usize, written: &[u8]) -> Vec<u8> {
+    let message = read_line(rt, alloc, written);
+    let told = link.take(
+        rt,
+        at,
+        &Input::Received {
+            message,
+            moment: MOMENT,
+        },
+    );
     let stops = link.stops;
     link.commit(rt, at);
-    if link.stops != stops {
-        return refused_as_stopped(rt);
+    let mut bytes = room(rt, alloc);
+    if link.stops == stops {
+        let text = reply_to(rt, told).write();
+        bytes.extend_from_slice(&text).expect(rt, "room");
+        bytes.push(b'\n').expect(rt, "room");
     }
-    reply_to(rt, told)
+    bytes
 }
 
-/// The line of a reply.
-fn line_of(reply: Reply) -> &'static [u8] {
-    match reply {
-        Reply::Received => b"{\"code\":0,\"result\":\"received\"}\n",
-        Reply::Refused(_) => b"{\"code\":48,\"result\":\"refused\"}\n",
-    }
-}
-
-/// Sends the message to the node at that index, over bytes in memory. Returns whether it was received.
+/// Sends the message to the node at that index, over bytes in memory: the node takes the line that one exchange writes,
+/// and another exchange of the same message reads its reply. Returns whether the message was received.
 fn is_received(
     rt: &impl Abort,
     alloc: Global,
@@ -64,17 +105,22 @@ fn is_received(
     at: usize,
     message: &Message,
 ) -> bool {
-    let reply = reply_at(rt, link, at, message);
-    let mut reader = Counted::new(line_of(reply));
-    let mut writer = Counted::new(Vec::new(alloc));
-    exchange(alloc, &mut reader, &mut writer, message) == Exchange::Answered(Reply::Received)
+    let (ended, sent) = exchanged_again(rt, alloc, NOTHING, message);
+    assert!(rt; ended == Exchange::PeerEnded);
+    let reply = replied(rt, alloc, link, at, sent.as_slice());
+    let (ended, sent_again) = exchanged_again(rt, alloc, reply.as_slice(), message);
+    assert!(rt; sent_again.as_slice() == sent.as_slice());
+    assert!(rt; !reply.is_empty() || ended == Exchange::PeerEnded);
+    drop((reply, sent, sent_again));
+    ended == Exchange::Answered(Reply::Received)
 }
 
 /// A copy of the next message between these nodes, with its key.
 fn next_message(rt: &impl Abort, link: &Link, from: usize, to: usize) -> Option<(usize, Message)> {
     let peer = link.state(rt, to).node();
     let (key, message) = link.state(rt, from).next_send(peer, 0)?;
-    Some((key, message.copy().expect(rt, "memory")))
+    let copy = again!(message.copy(), Err(_) => ());
+    Some((key, copy.expect(rt, "memory")))
 }
 
 /// Sends what is unacknowledged between these nodes, a message again where it wasn't received. The sender takes an
@@ -86,7 +132,7 @@ fn send_between(rt: &impl Abort, alloc: Global, link: &mut Link, from: usize, to
         };
         if is_received(rt, alloc, link, to, &message) {
             let number = Number::new(key as u64).expect(rt, "a key");
-            link.take(rt, from, Input::Ack(number));
+            link.take(rt, from, &Input::Ack(number));
         }
         drop(message);
     }
@@ -108,18 +154,20 @@ fn send_round(rt: &impl Abort, alloc: Global, link: &mut Link) -> usize {
 /// Has NZ propose the transfer where it doesn't know it, and commit that.
 fn propose(rt: &impl Abort, alloc: Global, link: &mut Link) {
     let id = TransactionId::read("NZ1").expect(rt, "an identifier");
+    let order = record(rt, alloc, PROPOSE_RECORD);
     for _ in 0..MOST {
         let taken = link.state(rt, NZ).query(id);
         let told = taken.told();
         drop(taken);
         if told != Told::Status(None) {
+            drop(order);
             return;
         }
-        let order = record(rt, alloc, PROPOSE);
-        link.take(rt, NZ, order);
+        link.take(rt, NZ, &order);
         link.commit(rt, NZ);
     }
     assert!(rt; false, "a proposal");
+    drop(order);
 }
 
 /// Has the nodes make the transfer to its end. All commit what isn't committed after each round.

@@ -1,52 +1,33 @@
+use crate::calls::{append, append_two, assert_two, count, load, reopen, waits};
+use crate::folders::{add_folder, add_text, remove_folder};
 use crate::fused_files::{
-    FOREVER, MemoryFiles, Stored, after_a_crash, assert_refused, changed, closed, new_files,
-    open_as, opened, refused, registry,
+    FOREVER, RoomyFiles, RoomyStore, after_losses, assert_refused, changed, closed, have_blown,
+    new_files, open_as, opened, refused, registry,
 };
-use crate::records::{ACCEPTED, PROPOSE, are_two, has_text, two};
+use crate::records::{ACCEPTED, PROPOSE, has_text, two};
+use crate::same::assert_same;
+use desk::stores::{NodeStore, StoreFault};
 use sqlite::File;
 use sqlite_disk::Disk;
 use std::alloc::Global;
-use std::fs;
 use std::process::Abort;
 use store_files::durable::SqlStore;
-use stores::{NodeStore, StoreFault};
-
-/// How many records the store has.
-pub fn count<S: NodeStore>(rt: &impl Abort, store: &mut S) -> usize {
-    let records = store.load().expect(rt, "no fault of the store");
-    let count = records.len();
-    drop(records);
-    count
-}
-
-/// Asserts that the store has the two records.
-pub fn assert_two<S: NodeStore>(rt: &impl Abort, alloc: Global, store: &mut S) {
-    let records = store.load().expect(rt, "no fault of the store");
-    assert!(rt; are_two(alloc, &records));
-    drop(records);
-}
-
-/// Appends the two records.
-pub fn append_two<S: NodeStore>(rt: &impl Abort, alloc: Global, store: &mut S) {
-    let batch = two(rt, alloc);
-    assert!(rt; store.append(&batch).is_ok());
-    drop(batch);
-}
+use test_support::again;
 
 /// The files of NZ's store, with two records more.
-fn with_two(rt: &impl Abort, alloc: Global, files: Stored) -> Stored {
+fn with_two(rt: &impl Abort, alloc: Global, files: RoomyFiles) -> RoomyFiles {
     let mut store = open_as(rt, alloc, files, "NZ");
     append_two(rt, alloc, &mut store);
     closed(store)
 }
 
 /// The files of NZ's store of two records.
-fn files_of_two(rt: &impl Abort, alloc: Global) -> Stored {
-    with_two(rt, alloc, new_files(alloc, FOREVER, FOREVER))
+fn files_of_two(rt: &impl Abort, alloc: Global) -> RoomyFiles {
+    with_two(rt, alloc, new_files(rt, alloc, FOREVER, FOREVER))
 }
 
 /// Asserts that the files are NZ's store of two records.
-pub fn assert_two_in(rt: &impl Abort, alloc: Global, files: Stored) {
+pub fn assert_two_in(rt: &impl Abort, alloc: Global, files: RoomyFiles) {
     let mut store = open_as(rt, alloc, files, "NZ");
     assert_two(rt, alloc, &mut store);
     drop(store);
@@ -56,7 +37,7 @@ pub fn assert_two_in(rt: &impl Abort, alloc: Global, files: Stored) {
 /// fault.
 fn assert_kept<S: NodeStore>(rt: &impl Abort, alloc: Global, store: &mut S) {
     assert_two(rt, alloc, store);
-    assert!(rt; store.reopen().is_ok());
+    assert_same(rt, reopen(rt, store), Ok(()));
     assert_two(rt, alloc, store);
     assert!(rt; store.fault_count() == 0);
 }
@@ -77,7 +58,8 @@ fn assert_page<S: NodeStore>(
     from: u64,
     wanted: Option<&str>,
 ) {
-    let page = store.load_page(from, 1).expect(rt, "no fault of the store");
+    let page = again!(store.load_page(from, 1), Err(StoreFault::NoMemory) => ());
+    let page = page.expect(rt, "no fault of the store");
     let is_so = match (page.as_slice(), wanted) {
         ([record], Some(text)) => has_text(alloc, record, text),
         ([], None) => true,
@@ -136,14 +118,14 @@ fn tables_made_in_the_other_order_are_a_store(rt: HostRuntime) {
         "CREATE TABLE entries (place INTEGER PRIMARY KEY, body TEXT NOT NULL) STRICT",
         "CREATE TABLE about (id INTEGER PRIMARY KEY CHECK (id = 1), format INTEGER NOT NULL, node TEXT NOT NULL) STRICT",
     ];
-    let files = changed(&rt, alloc, new_files(alloc, FOREVER, FOREVER), &tables);
+    let files = changed(&rt, alloc, new_files(&rt, alloc, FOREVER, FOREVER), &tables);
     assert_two_in(&rt, alloc, with_two(&rt, alloc, files));
 }
 
 #[test]
 fn a_file_that_is_no_database_is_refused(rt: HostRuntime) {
     let alloc = rt.alloc();
-    let mut files = new_files(alloc, FOREVER, FOREVER);
+    let mut files = new_files(&rt, alloc, FOREVER, FOREVER);
     assert!(rt; files.db.may_be_used());
     assert!(rt; files.db.write_at(0, &[b'x'; 4096]).is_ok());
     assert_refused(&rt, alloc, files, "NZ", StoreFault::Damaged(0));
@@ -151,11 +133,11 @@ fn a_file_that_is_no_database_is_refused(rt: HostRuntime) {
 
 /// Asserts that the whole store has that damage.
 fn assert_damaged<S: NodeStore>(rt: &impl Abort, store: &mut S, place: u64) {
-    assert!(rt; store.load().err() == Some(StoreFault::Damaged(place)));
+    assert!(rt; load(store).err() == Some(StoreFault::Damaged(place)));
 }
 
 /// Asserts that after the statement the whole store has that damage. Gives the store.
-fn damaged(rt: &impl Abort, alloc: Global, statement: &str, place: u64) -> MemoryFiles {
+fn damaged(rt: &impl Abort, alloc: Global, statement: &str, place: u64) -> RoomyStore {
     let files = changed(rt, alloc, files_of_two(rt, alloc), &[statement]);
     let mut store = open_as(rt, alloc, files, "NZ");
     assert_damaged(rt, &mut store, place);
@@ -164,7 +146,7 @@ fn damaged(rt: &impl Abort, alloc: Global, statement: &str, place: u64) -> Memor
 
 /// Asserts that the page of that one place has that damage.
 fn assert_damaged_page<S: NodeStore>(rt: &impl Abort, store: &mut S, place: u64) {
-    let page = store.load_page(place, 1);
+    let page = again!(store.load_page(place, 1), Err(StoreFault::NoMemory) => ());
     assert!(rt; page.err() == Some(StoreFault::Damaged(place)));
 }
 
@@ -205,17 +187,17 @@ fn drive<S: NodeStore>(rt: &impl Abort, alloc: Global, store: &mut S) -> Run {
     let batch = two(rt, alloc);
     let mut appended = 0;
     for round in 1..3 {
-        if store.append(&batch).is_err() {
+        if append(rt, store, appended, &batch).is_err() {
             break;
         }
         appended = 2 * round;
-        if store.reopen().is_err() {
+        if reopen(rt, store).is_err() {
             break;
         }
     }
     drop(batch);
     let faults = store.fault_count();
-    let waited = store.load().err() == Some(StoreFault::Reopen);
+    let waited = waits(store);
     Run {
         appended,
         faults,
@@ -224,8 +206,8 @@ fn drive<S: NodeStore>(rt: &impl Abort, alloc: Global, store: &mut S) -> Run {
 }
 
 /// A run over files of which that many calls may be made, and what it left of them.
-fn run_over(rt: &impl Abort, alloc: Global, log_calls: u64, db_calls: u64) -> (Run, Stored) {
-    let files = new_files(alloc, log_calls, db_calls);
+fn run_over(rt: &impl Abort, alloc: Global, log_calls: u64, db_calls: u64) -> (Run, RoomyFiles) {
+    let files = new_files(rt, alloc, log_calls, db_calls);
     match opened(rt, alloc, files, "NZ") {
         Ok(mut store) => {
             let run = drive(rt, alloc, &mut store);
@@ -244,8 +226,8 @@ fn run_over(rt: &impl Abort, alloc: Global, log_calls: u64, db_calls: u64) -> (R
 }
 
 /// How many records the files have after a crash.
-fn count_after_a_crash(rt: &impl Abort, alloc: Global, files: Stored) -> usize {
-    let mut store = open_as(rt, alloc, after_a_crash(files), "NZ");
+fn count_after_a_crash(rt: &impl Abort, alloc: Global, files: RoomyFiles) -> usize {
+    let mut store = open_as(rt, alloc, after_losses(rt, alloc, files), "NZ");
     let count = count(rt, &mut store);
     drop(store);
     count
@@ -253,9 +235,10 @@ fn count_after_a_crash(rt: &impl Abort, alloc: Global, files: Stored) -> usize {
 
 /// Whether a run stopped at that call of its files, and left what it should: nothing of a batch, or all of it.
 fn stops_well(rt: &impl Abort, alloc: Global, log_calls: u64, db_calls: u64) -> bool {
-    let (run, files) = run_over(rt, alloc, log_calls, db_calls);
+    let (run, mut files) = run_over(rt, alloc, log_calls, db_calls);
     let stopped = run.faults != 0;
     assert!(rt; run.waited == stopped);
+    assert!(rt; !stopped || have_blown(&mut files));
     let found = count_after_a_crash(rt, alloc, files);
     let more = found.checked_sub(run.appended);
     assert!(rt; more == Some(0) || stopped && more == Some(2));
@@ -282,6 +265,19 @@ fn each_call_of_the_database_fails(rt: HostRuntime) {
     assert!(rt; false, "an end of the calls");
 }
 
+/// Opens what stands at the path in these files as the store of that registry.
+fn opened_at(
+    rt: &impl Abort,
+    files: &HostRuntime,
+    path: &str,
+    code: &str,
+) -> Result<SqlStore<File>, StoreFault> {
+    again!(
+        store_files::open_path(files, path, registry(rt, code)),
+        Err(StoreFault::NoMemory) => ()
+    )
+}
+
 /// Asserts that what stands at the path in these files is refused as a store of that registry, for that cause.
 fn assert_refused_at(
     rt: &impl Abort,
@@ -290,14 +286,12 @@ fn assert_refused_at(
     code: &str,
     wanted: StoreFault,
 ) {
-    let opened = store_files::open_path(files, path, registry(rt, code));
-    assert!(rt; opened.err() == Some(wanted));
+    assert!(rt; opened_at(rt, files, path, code).err() == Some(wanted));
 }
 
 /// NZ's store at the path in these files.
-fn store_at(rt: &impl Abort, files: &HostRuntime, path: &str) -> SqlStore<File> {
-    let opened = store_files::open_path(files, path, registry(rt, "NZ"));
-    opened.expect(rt, "no fault of the store")
+pub fn store_at(rt: &impl Abort, files: &HostRuntime, path: &str) -> SqlStore<File> {
+    opened_at(rt, files, path, "NZ").expect(rt, "no fault of the store")
 }
 
 /// Makes NZ's store at the path in these files, with two records, and asserts that it is refused to others meanwhile.
@@ -318,12 +312,12 @@ fn assert_two_at(rt: &impl Abort, files: &HostRuntime, path: &str) {
 
 #[test]
 fn a_store_at_a_path(rt: HostRuntime) {
-    fs::create_dir(&rt, "durable_test").expect(&rt, "a new folder");
+    add_folder(&rt, &rt, "durable_test");
     make_at(&rt, &rt, "durable_test/NZ.db");
     assert_two_at(&rt, &rt, "durable_test/NZ.db");
     assert_refused_at(&rt, &rt, "durable_test/NZ.db", "JP", StoreFault::WrongNode);
     let text = "no database, but a text that is long enough";
-    fs::write(&rt, "durable_test/JP.db", text).expect(&rt, "a new file");
+    add_text(&rt, &rt, "durable_test/JP.db", text);
     assert_refused_at(&rt, &rt, "durable_test/JP.db", "NZ", StoreFault::Damaged(0));
     assert_refused_at(
         &rt,
@@ -332,5 +326,5 @@ fn a_store_at_a_path(rt: HostRuntime) {
         "NZ",
         StoreFault::Device,
     );
-    fs::remove_dir_all(&rt, "durable_test").expect(&rt, "a folder");
+    remove_folder(&rt, &rt, "durable_test");
 }

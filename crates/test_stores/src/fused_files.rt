@@ -1,15 +1,20 @@
 //! The files of stores in memory, of which each call may be made to fail, and statements on them.
 
+use crate::roomy::Roomy;
+use desk::stores::StoreFault;
 use protocol::units::{Code, Node};
-use sqlite::{Alter, Connection, FileStore, Files, Options};
+use sqlite::{Alter, Connection, Error as SqlError, ErrorCode, FileStore, Files, Options};
 use sqlite_disk::{Crash, Disk, Fuse, Memory};
 use std::alloc::Global;
 use std::process::Abort;
 use store_files::durable::SqlStore;
-use stores::StoreFault;
+use test_support::again;
 
 /// The two files of a store, in memory.
 pub type Stored = Files<Fuse<Memory>>;
+
+/// The same, with their room from the start.
+pub type RoomyFiles = Files<Fuse<Roomy>>;
 
 /// So many calls that none fails.
 pub const FOREVER: u64 = u64::MAX;
@@ -25,41 +30,56 @@ pub fn options() -> Options {
     Options::new(7)
 }
 
-/// Files of which that many calls may be made.
-pub fn new_files(alloc: Global, log_calls: u64, db_calls: u64) -> Stored {
+/// New files of which that many calls may be made.
+pub fn new_files(rt: &impl Abort, alloc: Global, log_calls: u64, db_calls: u64) -> RoomyFiles {
     Files {
-        log: Fuse::new(Memory::new(alloc), log_calls),
-        db: Fuse::new(Memory::new(alloc), db_calls),
+        log: Fuse::new(Roomy::new(rt, alloc), log_calls),
+        db: Fuse::new(Roomy::new(rt, alloc), db_calls),
     }
 }
 
 /// A file with these bytes.
-pub fn memory_with(rt: &impl Abort, alloc: Global, bytes: &[u8]) -> Memory {
-    let mut memory = Memory::new(alloc);
-    assert!(rt; memory.may_be_used());
-    assert!(rt; memory.write_at(0, bytes).is_ok());
-    assert!(rt; memory.may_be_used());
-    assert!(rt; memory.sync().is_ok());
-    memory
-}
-
-/// A device with these bytes, of which that many calls may be made.
-fn device_with(rt: &impl Abort, alloc: Global, bytes: &[u8], calls: u64) -> Fuse<Memory> {
-    Fuse::new(memory_with(rt, alloc, bytes), calls)
+pub fn file_with(rt: &impl Abort, alloc: Global, bytes: &[u8]) -> Roomy {
+    let mut file = Roomy::new(rt, alloc);
+    assert!(rt; file.may_be_used());
+    assert!(rt; file.write_at(0, bytes).is_ok());
+    assert!(rt; file.may_be_used());
+    assert!(rt; file.sync().is_ok());
+    file
 }
 
 /// A copy of the files, of which that many calls may be made.
 pub fn with_bytes(
     rt: &impl Abort,
     alloc: Global,
-    files: &Stored,
+    files: &RoomyFiles,
     log_calls: u64,
     db_calls: u64,
-) -> Stored {
+) -> RoomyFiles {
     Files {
-        log: device_with(rt, alloc, files.log.inner().bytes(), log_calls),
-        db: device_with(rt, alloc, files.db.inner().bytes(), db_calls),
+        log: Fuse::new(file_with(rt, alloc, files.log.inner().bytes()), log_calls),
+        db: Fuse::new(file_with(rt, alloc, files.db.inner().bytes()), db_calls),
     }
+}
+
+/// The files of the machine that comes back: they lost all that wasn't synced, and their fuses don't blow.
+pub fn after_losses(rt: &impl Abort, alloc: Global, files: RoomyFiles) -> RoomyFiles {
+    let left = Files {
+        log: Fuse::new(file_with(rt, alloc, files.log.inner().synced()), FOREVER),
+        db: Fuse::new(file_with(rt, alloc, files.db.inner().synced()), FOREVER),
+    };
+    drop(files);
+    left
+}
+
+/// Whether a call of the file fails by now.
+fn has_blown<D: Disk>(file: &mut Fuse<D>) -> bool {
+    !file.may_be_used() || file.len().is_err()
+}
+
+/// Whether a call of one of the files fails by now. Else a fault of the device has another cause.
+pub fn have_blown(files: &mut RoomyFiles) -> bool {
+    has_blown(&mut files.log) || has_blown(&mut files.db)
 }
 
 /// The machine comes back, with fuses that don't blow.
@@ -69,20 +89,27 @@ pub fn after_a_crash(mut files: Stored) -> Stored {
     files
 }
 
-/// A store in such files.
+/// A store in files in memory.
 pub type MemoryFiles = SqlStore<Fuse<Memory>>;
+
+/// A store in files with their room from the start.
+pub type RoomyStore = SqlStore<Fuse<Roomy>>;
 
 // A call of a store or a connection over files whose type is known costs half a minute of proof. So these are over any
 // files, and tests call a store by functions over any.
 
-/// Opens the files as the store of that registry.
+/// Opens the files as the store of that registry, and once more where memory ran out, which gives them back.
 pub fn opened<D: Disk + Drop>(
     rt: &impl Abort,
     alloc: Global,
     files: Files<D>,
     code: &str,
 ) -> Result<SqlStore<D>, (StoreFault, Files<D>)> {
-    SqlStore::open_files(alloc, files, options(), registry(rt, code))
+    let node = registry(rt, code);
+    match SqlStore::open_files(alloc, files, options(), node) {
+        Err((StoreFault::NoMemory, files)) => SqlStore::open_files(alloc, files, options(), node),
+        opened => opened,
+    }
 }
 
 /// The same, where nothing fails.
@@ -137,14 +164,25 @@ pub fn open_database<D: Disk + Drop>(
     files: Files<D>,
 ) -> Connection<FileStore<D>> {
     assert!(rt; files.may_be_used());
-    let opened = Connection::open_files(alloc, files, options());
+    let opened = match Connection::open_files(alloc, files, options()) {
+        Err((SqlError::SqliteFailure(ErrorCode::OutOfMemory), left)) => {
+            let files = left.into_files();
+            assert!(rt; files.may_be_used());
+            Connection::open_files(alloc, files, options())
+        }
+        opened => opened,
+    };
     opened.ok().expect(rt, "a database")
 }
 
-/// Has the database do these statements.
+/// Has the database do these statements. One that found no memory changed nothing.
 pub fn execute_all<S: Alter>(rt: &impl Abort, conn: &mut Connection<S>, statements: &[&str]) {
     for statement in statements {
-        assert!(rt; conn.execute(statement, &[]).is_ok());
+        let done = again!(
+            conn.execute(statement, &[]),
+            Err(SqlError::SqliteFailure(ErrorCode::OutOfMemory)) => ()
+        );
+        assert!(rt; done.is_ok());
     }
 }
 

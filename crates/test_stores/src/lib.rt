@@ -3,6 +3,8 @@
 #![tactic(auto)]
 
 #[cfg(test)]
+mod calls;
+#[cfg(test)]
 mod checkpoint_rows;
 #[cfg(test)]
 mod cut_rows;
@@ -12,6 +14,8 @@ mod damage_rows;
 mod driving;
 #[cfg(test)]
 mod file_store_rows;
+#[cfg(test)]
+mod folders;
 #[cfg(test)]
 mod fused_files;
 #[cfg(test)]
@@ -28,6 +32,8 @@ mod old_stores;
 mod records;
 #[cfg(test)]
 mod reopening_rows;
+#[cfg(test)]
+mod roomy;
 #[cfg(test)]
 mod same;
 #[cfg(test)]

@@ -4,11 +4,13 @@ ghost use Rattle.protocol.specs.Registries.{nodes};
 ghost use Rattle.world.specs.Cores.{journal_of};
 
 use crate::fused_files::{MemoryFiles, Stored, after_a_crash, closed, options, registry};
-use crate::same::assert_same;
+use crate::same::{assert_same, room};
 use audit::audit;
+use desk::stores::{NodeStore, StoreFault};
 use desk::{State, Told};
 use protocol::scheme::Scheme;
-use protocol::units::Node;
+use protocol::units::refusal_code::OUT_OF_MEMORY;
+use protocol::units::{NoMemory, Node, Refusal};
 use protocol::wire::Input;
 use sqlite::Files;
 use sqlite_disk::{Disk, Fuse, Memory};
@@ -16,11 +18,9 @@ use std::alloc::Global;
 use std::mem;
 use std::process::Abort;
 use store_files::durable::SqlStore;
-use stores::{NodeStore, StoreFault};
+use test_support::texts::SCHEME;
+use test_support::{READING, again};
 use world::Core;
-
-const SCHEME: &str =
-    r#"{"records":1000,"registries":[{"accounts":[7,8],"allotted":[],"code":"JP","eligible":true,"kinds":["AAU","CER"]},{"accounts":[1,2],"allotted":[{"account":1,"units":["NZ:1:1-100:AAU"]}],"code":"NZ","eligible":true,"kinds":["AAU","RMU","ERU","CER","tCER","lCER"]}]}"#;
 
 /// How many records are committed at once, at most.
 const BATCH: usize = 64;
@@ -74,16 +74,28 @@ fn opened<D: Disk + Drop>(
     SqlStore::open_files(alloc, files, options(), node)
 }
 
-/// The store in files after a crash of their device, whose calls don't fail then.
+/// Whether a call failed as one of a device that fails, or found no memory.
+fn is_met(fault: StoreFault) -> bool {
+    fault == StoreFault::Device || fault == StoreFault::NoMemory
+}
+
+/// The store in files after a crash of their device, whose calls don't fail then. A device in memory needs memory for them,
+/// and fails where it finds none: it is opened once more then.
 fn open_again(rt: &impl Abort, alloc: Global, files: Stored, node: Node) -> MemoryFiles {
-    let opened = opened(alloc, after_a_crash(files), node);
-    opened.ok().expect(rt, "a store")
+    match opened(alloc, after_a_crash(files), node) {
+        Ok(store) => store,
+        Err((fault, files)) => {
+            assert!(rt; is_met(fault));
+            let opened = opened(alloc, after_a_crash(files), node);
+            opened.ok().expect(rt, "a store")
+        }
+    }
 }
 
 fn worked_scheme(rt: &impl Abort, alloc: Global) -> Scheme
     ensures { length (nodes result) ≡ 3 }
 {
-    let scheme = Scheme::read(alloc, SCHEME.as_bytes()).expect(rt, "a scheme");
+    let scheme = Scheme::read(alloc, SCHEME.as_bytes()).expect(rt, READING);
     assert_eq!(rt; scheme.registries().len(), 2);
     scheme
 }
@@ -93,7 +105,7 @@ pub fn new_core(rt: &impl Abort, alloc: Global, node: Node) -> Core
     ensures { journal_of result ≡ [] }
 {
     let scheme = worked_scheme(rt, alloc);
-    let core = Core::new(alloc, &scheme, node).expect(rt, "memory");
+    let core = Core::new(alloc, &scheme, node).expect(rt, READING);
     drop(scheme);
     core
 }
@@ -105,10 +117,26 @@ fn state_of<S: NodeStore>(
     node: Node,
     store: &mut S,
 ) -> State<Core> {
-    let core = new_core(rt, alloc, node);
-    State::load_from(alloc, core, store)
-        .ok()
-        .expect(rt, "a state")
+    let loaded = again!(
+        State::load_from(alloc, new_core(rt, alloc, node), store),
+        Err(StoreFault::NoMemory) => ()
+    );
+    loaded.ok().expect(rt, "a state")
+}
+
+/// Has the state take a copy of the input.
+fn take_copy(rt: &impl Abort, state: &mut State<Core>, input: &Input) -> Told {
+    let copy = again!(input.copy(), Err(NoMemory) => ());
+    let taken = state.take(copy.expect(rt, "memory"));
+    let told = taken.told();
+    drop(taken);
+    told
+}
+
+/// The records of the state that aren't committed.
+fn tail(rt: &impl Abort, state: &State<Core>) -> Vec<Input> {
+    let batch = again!(state.batch(BATCH), Err(NoMemory) => ());
+    batch.expect(rt, "memory")
 }
 
 /// Commits to the store what the state has that isn't committed.
@@ -116,12 +144,40 @@ fn commit_to<S: NodeStore>(state: &mut State<Core>, store: &mut S) -> Result<usi
     state.commit(store, BATCH)
 }
 
+/// Whether both have the same inputs.
+fn are_same(found: &[Input], expected: &[Input]) -> bool {
+    if found.len() != expected.len() {
+        return false;
+    }
+    for (one, other) in found.iter().zip(expected) {
+        if !one.same(other) {
+            return false;
+        }
+    }
+    true
+}
+
+/// Asserts that the state, which is read from a store, has the records that the stopped one had committed, or these and the
+/// batch at which its store failed.
+fn assert_after(rt: &impl Abort, state: &State<Core>, stopped: &State<Core>) {
+    let (found, committed) = (state.committed(), stopped.committed());
+    assert!(rt; committed.len() <= found.len());
+    let (first, rest) = found.split_at(committed.len());
+    assert!(rt; are_same(first, committed));
+    let batch = tail(rt, stopped);
+    assert!(rt; rest.is_empty() || are_same(rest, batch.as_slice()));
+    drop(batch);
+}
+
 /// The table of a run that leads to the records of the stores of the worked scheme's nodes.
 fn table_of<S: NodeStore>(rt: &impl Abort, alloc: Global, stores: &mut [S]) -> Vec<u8> {
     let scheme = worked_scheme(rt, alloc);
     assert!(rt; stores.len() == 3);
-    let mut written = Vec::new(alloc);
-    let done = audit(alloc, &scheme, stores, &mut written);
+    let mut written = room(rt, alloc);
+    let done = again!(
+        audit(alloc, &scheme, stores, &mut written),
+        Err(_) => assert!(rt; written.is_empty())
+    );
     assert_same(rt, done, Ok(()));
     drop(scheme);
     written
@@ -147,14 +203,14 @@ impl Link {
         let store = match opened(self.alloc, files, node) {
             Ok(store) => store,
             Err((fault, files)) => {
-                assert!(rt; fault == StoreFault::Device);
+                assert!(rt; is_met(fault));
                 self.stops = self.stops.saturating_add(1);
                 open_again(rt, self.alloc, files, node)
             }
         };
         let state = State::new(self.alloc, new_core(rt, self.alloc, node));
-        self.states.push(state).expect(rt, "memory");
-        self.stores.push(store).expect(rt, "memory");
+        self.states.push(state).expect(rt, READING);
+        self.stores.push(store).expect(rt, READING);
     }
 
     /// The state of the node at that index.
@@ -162,40 +218,31 @@ impl Link {
         self.states.get(at).expect(rt, "a state")
     }
 
-    /// Has the node at that index take an input.
-    pub fn take(&mut self, rt: &impl Abort, at: usize, input: Input) -> Told {
+    /// Has the node at that index take a copy of the input.
+    pub fn take(&mut self, rt: &impl Abort, at: usize, input: &Input) -> Told {
         let state = self.states.get_mut(at).expect(rt, "a state");
-        let taken = state.take(input);
-        let told = taken.told();
-        drop(taken);
-        told
-    }
-
-    /// How many records the node at that index has committed, and how many it has.
-    fn counts(&self, rt: &impl Abort, at: usize) -> (usize, usize) {
-        let state = self.state(rt, at);
-        let batch = state.batch(BATCH).expect(rt, "memory");
-        let length = batch.len();
-        drop(batch);
-        let committed = state.committed().len();
-        (committed, committed.saturating_add(length))
+        again!(
+            take_copy(rt, state, input),
+            Told::Refused(Refusal {
+                code: OUT_OF_MEMORY
+            }) => ()
+        )
     }
 
     /// Has the node at that index commit what isn't committed. Where its store fails, the node is opened again: its
     /// store has what was committed before, or the whole batch too, and the records of all stores are those of a run.
     pub fn commit(&mut self, rt: &impl Abort, at: usize) {
-        let counts = self.counts(rt, at);
         let state = self.states.get_mut(at).expect(rt, "a state");
         let store = self.stores.get_mut(at).expect(rt, "a store");
         if let Err(fault) = commit_to(state, store) {
-            assert!(rt; fault == StoreFault::Device);
-            self.restart(rt, at, counts);
+            assert!(rt; is_met(fault));
+            self.restart(rt, at);
             let _table = self.table(rt);
         }
     }
 
-    /// Opens the stopped node at that index again. It had so many committed records, and so many with the last batch.
-    fn restart(&mut self, rt: &impl Abort, at: usize, counts: (usize, usize)) {
+    /// Opens the stopped node at that index again.
+    fn restart(&mut self, rt: &impl Abort, at: usize) {
         self.stops = self.stops.saturating_add(1);
         if at >= self.stores.len() || at >= self.states.len() {
             return;
@@ -204,12 +251,12 @@ impl Link {
         let node = self.state(rt, at).node();
         let mut store = open_again(rt, self.alloc, files, node);
         let state = state_of(rt, self.alloc, node, &mut store);
-        let records = state.committed().len();
-        assert!(rt; records == counts.0 || records == counts.1);
         let slot = self.states.get_mut(at).expect(rt, "a state");
-        drop(mem::replace(slot, state));
+        let stopped = mem::replace(slot, state);
+        assert_after(rt, slot, &stopped);
+        drop(stopped);
         assert!(rt; at <= self.stores.len());
-        self.stores.insert(at, store).expect(rt, "memory");
+        self.stores.insert(at, store).expect(rt, READING);
     }
 
     /// The table of a run that leads to the records of all stores.

@@ -1,9 +1,11 @@
+use crate::calls::{append, load, loaded};
 use crate::same::assert_same;
+use desk::stores::{Kept, MemoryStore, NodeStore, StoreFault};
 use protocol::units::{Code, Node};
 use protocol::wire::{Input, Number};
 use std::alloc::Global;
 use std::process::Abort;
-use stores::{Kept, MemoryStore, NodeStore, StoreFault};
+use test_support::{READING, again};
 
 fn nz(rt: &impl Abort) -> Node {
     let code = Code::read("NZ").expect(rt, "a code");
@@ -16,14 +18,16 @@ fn number(rt: &impl Abort, value: u64) -> Number {
 
 /// Account 8 is opened, and closed.
 fn two(rt: &impl Abort, alloc: Global) -> Vec<Input> {
-    let mut batch = Vec::new(alloc);
-    batch
-        .push(Input::OpenAccount(number(rt, 8)))
-        .expect(rt, "memory");
-    batch
-        .push(Input::CloseAccount(number(rt, 8)))
-        .expect(rt, "memory");
-    batch
+    let batch = [
+        Input::OpenAccount(number(rt, 8)),
+        Input::CloseAccount(number(rt, 8)),
+    ];
+    Vec::from_array(alloc, batch).expect(rt, READING)
+}
+
+/// An acknowledgement.
+fn one(rt: &impl Abort, alloc: Global) -> Vec<Input> {
+    Vec::from_array(alloc, [Input::Ack(number(rt, 7))]).expect(rt, READING)
 }
 
 fn is_open(input: &Input, account: u64) -> bool {
@@ -48,42 +52,54 @@ fn append_and_load<S: NodeStore>(store: &mut S, batch: &[Input]) -> Result<Vec<I
     store.load()
 }
 
+/// The same of a new store.
+fn appended_and_loaded(
+    rt: &impl Abort,
+    alloc: Global,
+    batch: &[Input],
+) -> Result<Vec<Input>, StoreFault> {
+    let mut store = MemoryStore::new(alloc, nz(rt));
+    append_and_load(&mut store, batch)
+}
+
 /// Asserts that the store has the two records.
 fn assert_two(rt: &impl Abort, store: &mut MemoryStore) {
-    let records = store.load().expect(rt, "memory");
+    let records = loaded(rt, store);
     assert!(rt; are_two(&records));
     drop(records);
 }
 
 /// Asserts that the store has that many records.
 fn assert_count(rt: &impl Abort, store: &mut MemoryStore, count: usize) {
-    let records = store.load().expect(rt, "memory");
+    let records = loaded(rt, store);
     assert_same(rt, records.len(), count);
     drop(records);
 }
 
 /// A page of the store.
 fn page(rt: &impl Abort, store: &mut MemoryStore, from: u64, most: u64) -> Vec<Input> {
-    store.load_page(from, most).expect(rt, "memory")
+    let page = again!(store.load_page(from, most), Err(StoreFault::NoMemory) => ());
+    page.expect(rt, "no fault of the store")
 }
 
-/// Asserts what comes of appending these records.
-fn append(
+/// Asserts what comes of appending the batch to a store that has so many records.
+fn assert_append(
     rt: &impl Abort,
     store: &mut MemoryStore,
-    batch: Vec<Input>,
+    records: usize,
+    batch: &[Input],
     expected: Result<(), StoreFault>,
 ) {
-    assert_same(rt, store.append(&batch), expected);
-    drop(batch);
+    assert_same(rt, append(rt, store, records, batch), expected);
 }
 
 #[test]
 fn records_are_kept_in_their_order(rt: HostRuntime) {
     let alloc = rt.alloc();
+    let batch = two(&rt, alloc);
     let mut store = MemoryStore::new(alloc, nz(&rt));
     assert_same(&rt, store.node(), nz(&rt));
-    append(&rt, &mut store, two(&rt, alloc), Ok(()));
+    assert_append(&rt, &mut store, 0, &batch, Ok(()));
     assert_two(&rt, &mut store);
     assert_same(&rt, store.reopen(), Ok(()));
     assert_two(&rt, &mut store);
@@ -97,14 +113,18 @@ fn records_are_kept_in_their_order(rt: HostRuntime) {
     assert!(rt; third.is_empty());
     drop(third);
     assert_same(&rt, store.fault_count(), 0);
+    drop(batch);
 }
 
 #[test]
 fn a_store_through_its_bound(rt: HostRuntime) {
     let alloc = rt.alloc();
-    let mut store = MemoryStore::new(alloc, nz(&rt));
     let batch = two(&rt, alloc);
-    let records = append_and_load(&mut store, &batch).expect(&rt, "memory");
+    let records = again!(
+        appended_and_loaded(&rt, alloc, &batch),
+        Err(StoreFault::NoMemory) => ()
+    );
+    let records = records.expect(&rt, "no fault of the store");
     assert!(rt; are_two(&records));
     drop(records);
     drop(batch);
@@ -113,32 +133,33 @@ fn a_store_through_its_bound(rt: HostRuntime) {
 #[test]
 fn the_fuse_keeps_the_whole_batch(rt: HostRuntime) {
     let alloc = rt.alloc();
+    let batch = two(&rt, alloc);
     let mut store = MemoryStore::fused(alloc, nz(&rt), 0, Kept::All);
-    append(&rt, &mut store, Vec::new(alloc), Ok(()));
-    append(&rt, &mut store, two(&rt, alloc), Err(StoreFault::Device));
-    assert_same(&rt, store.load().err(), Some(StoreFault::Reopen));
-    append(&rt, &mut store, Vec::new(alloc), Err(StoreFault::Reopen));
+    assert_append(&rt, &mut store, 0, &[], Ok(()));
+    assert_append(&rt, &mut store, 0, &batch, Err(StoreFault::Device));
+    assert_same(&rt, load(&mut store).err(), Some(StoreFault::Reopen));
+    assert_append(&rt, &mut store, 2, &[], Err(StoreFault::Reopen));
     assert_same(&rt, store.fault_count(), 1);
     assert_same(&rt, store.reopen(), Ok(()));
     assert_two(&rt, &mut store);
-    append(&rt, &mut store, two(&rt, alloc), Ok(()));
+    assert_append(&rt, &mut store, 2, &batch, Ok(()));
     assert_count(&rt, &mut store, 4);
-}
-
-/// An acknowledgement.
-fn one(rt: &impl Abort, alloc: Global) -> Vec<Input> {
-    Vec::from_array(alloc, [Input::Ack(number(rt, 7))]).expect(rt, "memory")
+    drop(batch);
 }
 
 #[test]
 fn the_fuse_keeps_nothing(rt: HostRuntime) {
     let alloc = rt.alloc();
+    let ack = one(&rt, alloc);
+    let batch = two(&rt, alloc);
     let mut store = MemoryStore::fused(alloc, nz(&rt), 1, Kept::None);
-    append(&rt, &mut store, Vec::new(alloc), Ok(()));
-    append(&rt, &mut store, one(&rt, alloc), Ok(()));
-    append(&rt, &mut store, two(&rt, alloc), Err(StoreFault::Device));
+    assert_append(&rt, &mut store, 0, &[], Ok(()));
+    assert_append(&rt, &mut store, 0, &ack, Ok(()));
+    assert_append(&rt, &mut store, 1, &batch, Err(StoreFault::Device));
     assert_same(&rt, store.reopen(), Ok(()));
     assert_count(&rt, &mut store, 1);
-    append(&rt, &mut store, two(&rt, alloc), Ok(()));
+    assert_append(&rt, &mut store, 1, &batch, Ok(()));
     assert_count(&rt, &mut store, 3);
+    drop(batch);
+    drop(ack);
 }

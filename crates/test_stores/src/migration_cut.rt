@@ -1,13 +1,20 @@
-use crate::fused_files::{FOREVER, Stored, after_a_crash, open_as, opened, registry, with_bytes};
+use crate::calls::loaded;
+use crate::fused_files::{
+    FOREVER, RoomyFiles, after_losses, have_blown, open_as, opened, registry, with_bytes,
+};
 use crate::links::new_core;
 use crate::old_stores::{PROPOSE_ONE, old_files};
 use crate::records::{PROPOSE, has_text};
+use crate::same::assert_same;
 use desk::State;
+use desk::stores::{NodeStore, StoreFault};
 use protocol::NodeCore;
-use protocol::wire::{decode_input_v1, encode};
+use protocol::units::refusal_code::OUT_OF_MEMORY;
+use protocol::units::{NoMemory, Refusal};
+use protocol::wire::{Input, decode_input_v1, encode};
 use std::alloc::Global;
 use std::process::Abort;
-use stores::{NodeStore, StoreFault};
+use test_support::{READING, again};
 use world::Core;
 
 /// How many records the store has that is cut.
@@ -41,18 +48,36 @@ fn texts_at(place: usize) -> (&'static str, &'static str) {
 fn old_texts(rt: &impl Abort, alloc: Global) -> Vec<&'static str> {
     let mut texts = Vec::new(alloc);
     for place in 0..RECORDS {
-        texts.push(texts_at(place).0).expect(rt, "memory");
+        texts.push(texts_at(place).0).expect(rt, READING);
     }
     texts
 }
 
-/// The core that these records of format 1 lead to.
-fn core_of(rt: &impl Abort, alloc: Global, texts: &[&str]) -> Core {
-    let mut core = new_core(rt, alloc, registry(rt, "NZ"));
+/// The records of these texts in format 1.
+fn old_records(rt: &impl Abort, alloc: Global, texts: &[&str]) -> Vec<Input> {
+    let mut records = Vec::new(alloc);
     for text in texts {
-        let input = decode_input_v1(alloc, text.as_bytes()).expect(rt, "a record");
-        assert!(rt; core.step(&input).is_ok());
-        drop(input);
+        let record = decode_input_v1(alloc, text.as_bytes()).expect(rt, READING);
+        records.push(record).expect(rt, READING);
+    }
+    records
+}
+
+/// Steps the core, which changes nothing where memory ran out.
+fn step(rt: &impl Abort, core: &mut Core, input: &Input) {
+    let records = core.records();
+    let stepped = again!(
+        core.step(input),
+        Err(Refusal { code: OUT_OF_MEMORY }) => assert_same(rt, core.records(), records)
+    );
+    assert!(rt; stepped.is_ok());
+}
+
+/// The core that these records lead to.
+fn core_of(rt: &impl Abort, alloc: Global, records: &[Input]) -> Core {
+    let mut core = new_core(rt, alloc, registry(rt, "NZ"));
+    for record in records {
+        step(rt, &mut core, record);
     }
     core
 }
@@ -61,8 +86,10 @@ fn core_of(rt: &impl Abort, alloc: Global, texts: &[&str]) -> Core {
 fn send_alike(rt: &impl Abort, alloc: Global, one: &Core, other: &Core, key: usize) -> bool {
     match (one.outbox(key), other.outbox(key)) {
         (Some(one), Some(other)) => {
-            let one = encode(alloc, one).expect(rt, "memory");
-            let other = encode(alloc, other).expect(rt, "memory");
+            let one = again!(encode(alloc, one), Err(NoMemory) => ());
+            let one = one.expect(rt, "a text");
+            let other = again!(encode(alloc, other), Err(NoMemory) => ());
+            let other = other.expect(rt, "a text");
             let alike = one.as_slice() == other.as_slice();
             drop(one);
             drop(other);
@@ -73,16 +100,26 @@ fn send_alike(rt: &impl Abort, alloc: Global, one: &Core, other: &Core, key: usi
     }
 }
 
+/// The core that the store's records lead to.
+fn core_in<S: NodeStore>(
+    rt: &impl Abort,
+    alloc: Global,
+    store: &mut S,
+) -> Result<Core, StoreFault> {
+    let core = new_core(rt, alloc, registry(rt, "NZ"));
+    Ok(State::load_from(alloc, core, store)?.into_core())
+}
+
 /// Asserts that the store has the records, and that they lead to the core that they led to before.
 fn assert_whole<S: NodeStore>(rt: &impl Abort, alloc: Global, store: &mut S, before: &Core) {
-    let records = store.load().expect(rt, "no fault of the store");
+    let records = loaded(rt, store);
     assert!(rt; records.len() == RECORDS);
     for (place, record) in records.iter().enumerate() {
         assert!(rt; has_text(alloc, record, texts_at(place).1));
     }
     drop(records);
-    let state = State::load_from(alloc, new_core(rt, alloc, registry(rt, "NZ")), store);
-    let core = state.ok().expect(rt, "a state").into_core();
+    let core = again!(core_in(rt, alloc, store), Err(StoreFault::NoMemory) => ());
+    let core = core.expect(rt, "a state");
     assert!(rt; core.records() == before.records() && core.sends() == before.sends());
     for key in 0..before.sends() {
         assert!(rt; send_alike(rt, alloc, &core, before, key));
@@ -99,16 +136,16 @@ enum Opening {
 
 /// Opens the store of format 1 in files of which that many calls may be made, and again after a crash where it fails:
 /// it has its records then, in whichever format.
-fn cut_at(rt: &impl Abort, alloc: Global, files: Stored, before: &Core) -> Opening {
+fn cut_at(rt: &impl Abort, alloc: Global, files: RoomyFiles, before: &Core) -> Opening {
     match opened(rt, alloc, files, "NZ") {
         Ok(mut store) => {
             assert_whole(rt, alloc, &mut store, before);
             drop(store);
             Opening::Done
         }
-        Err((fault, files)) => {
-            assert!(rt; fault == StoreFault::Device);
-            let mut store = open_as(rt, alloc, after_a_crash(files), "NZ");
+        Err((fault, mut files)) => {
+            assert!(rt; fault == StoreFault::Device && have_blown(&mut files));
+            let mut store = open_as(rt, alloc, after_losses(rt, alloc, files), "NZ");
             assert_whole(rt, alloc, &mut store, before);
             drop(store);
             Opening::Failed
@@ -126,7 +163,9 @@ enum Fused {
 /// The calls of one file fail from the first on, then from the second on, until an opening meets no failure.
 fn cut_everywhere(rt: &impl Abort, alloc: Global, fused: Fused) {
     let texts = old_texts(rt, alloc);
-    let before = core_of(rt, alloc, &texts);
+    let records = old_records(rt, alloc, &texts);
+    let before = core_of(rt, alloc, &records);
+    drop(records);
     let files = old_files(rt, alloc, &texts);
     for calls in 0..MOST_CALLS {
         let (log_calls, db_calls) = match fused {

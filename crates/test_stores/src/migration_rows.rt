@@ -1,12 +1,14 @@
-use crate::fused_files::{Stored, assert_refused, changed, closed, open_as, refused, registry};
+use crate::fused_files::{RoomyFiles, assert_refused, changed, closed, open_as, refused, registry};
 use crate::old_stores::{
     ACCEPTED_ONE, PROPOSE_ONE, assert_format, old_files, old_files_entries_first,
 };
 use crate::records::{ACCEPTED, PROPOSE};
+use crate::same::{assert_same, room};
+use desk::stores::{NodeStore, StoreFault};
 use operator::show;
 use std::alloc::Global;
 use std::process::Abort;
-use stores::{NodeStore, StoreFault};
+use test_support::{READING, again};
 
 /// A message whose unit has a number of 13 digits, as format 1 would have it: format 1 has no such number.
 const RECEIVED_OF_13_DIGITS: &str =
@@ -21,37 +23,63 @@ const RECORD_OF_FORMAT_TWO: &str =
     r#"UPDATE entries SET body = '{"account":1,"input":"propose","to_account":7,"to_registry":"JP","units":["NZ:1:1-100:AAU"],"v":2}' WHERE place = 0"#;
 
 /// The files of NZ's store of format 1 with its two records.
-fn two_in_format_one(rt: &impl Abort, alloc: Global) -> Stored {
+fn two_in_format_one(rt: &impl Abort, alloc: Global) -> RoomyFiles {
     old_files(rt, alloc, &[PROPOSE_ONE, ACCEPTED_ONE])
 }
 
-/// Asserts that the store of NZ is shown with these records.
-fn assert_shown<S: NodeStore>(rt: &impl Abort, alloc: Global, store: &mut S, records: &[&str]) {
-    let mut wanted = String::new(alloc);
+/// The status of a command that found no memory.
+const OUT_OF_MEMORY: u8 = 5;
+
+/// The lines that show these records.
+fn lines_of(rt: &impl Abort, alloc: Global, records: &[&str]) -> String {
+    let mut lines = String::new(alloc);
     for (place, record) in records.iter().enumerate() {
-        let line = format!(in alloc; "{place} {record}\n").expect(rt, "memory");
-        wanted.push_str(&line).expect(rt, "memory");
+        let line = format!(in alloc; "{place} {record}\n").expect(rt, READING);
+        lines.push_str(&line).expect(rt, READING);
     }
-    wanted.push_str("end\n").expect(rt, "memory");
-    let mut written = Vec::new(alloc);
-    assert!(rt; show(alloc, registry(rt, "NZ"), store, &mut written).is_ok());
-    assert!(rt; written.as_slice() == wanted.as_bytes());
-    drop(wanted);
+    lines.push_str("end\n").expect(rt, READING);
+    lines
+}
+
+/// Shows the store of NZ. Returns the status of a fault.
+fn shown<S: NodeStore>(
+    rt: &impl Abort,
+    alloc: Global,
+    store: &mut S,
+    written: &mut Vec<u8>,
+) -> Result<(), u8> {
+    match show(alloc, registry(rt, "NZ"), store, written) {
+        Ok(()) => Ok(()),
+        Err(fault) => Err(fault.status()),
+    }
+}
+
+/// Asserts that the store of NZ is shown with these lines. Of a page there is all or nothing where memory ran out.
+fn assert_shown<S: NodeStore>(rt: &impl Abort, alloc: Global, store: &mut S, lines: &str) {
+    let mut written = room(rt, alloc);
+    let done = again!(
+        shown(rt, alloc, store, &mut written),
+        Err(OUT_OF_MEMORY) => assert!(rt; written.is_empty())
+    );
+    assert_same(rt, done, Ok(()));
+    assert!(rt; written.as_slice() == lines.as_bytes());
     drop(written);
 }
 
-/// Asserts that an opening of the files makes a store of format 2 with these records, or finds one. Gives the files
-/// back.
-fn reopened(rt: &impl Abort, alloc: Global, files: Stored, records: &[&str]) -> Stored {
+/// Asserts that an opening of the files makes a store of format 2 with the records of these lines, or finds one. Gives
+/// the files back.
+fn reopened(rt: &impl Abort, alloc: Global, files: RoomyFiles, lines: &str) -> RoomyFiles {
     let mut store = open_as(rt, alloc, files, "NZ");
-    assert_shown(rt, alloc, &mut store, records);
+    assert_shown(rt, alloc, &mut store, lines);
     assert_format(rt, alloc, closed(store), 2)
 }
 
 /// Asserts that an opening of the files makes a store of format 2 with these records, and that another one finds it.
-fn assert_migrated(rt: &impl Abort, alloc: Global, files: Stored, records: &[&str]) {
-    let files = reopened(rt, alloc, files, records);
-    drop(reopened(rt, alloc, files, records));
+fn assert_migrated(rt: &impl Abort, alloc: Global, files: RoomyFiles, records: &[&str]) {
+    let lines = lines_of(rt, alloc, records);
+    let files = reopened(rt, alloc, files, &lines);
+    drop(reopened(rt, alloc, files, &lines));
+    drop(lines);
 }
 
 #[test]

@@ -1,18 +1,17 @@
 //! Stores of format 1, which no program makes any more: made by statements.
 
-use crate::fused_files::{FOREVER, Stored, execute_all, new_files, open_database, store_of};
+use crate::fused_files::{FOREVER, RoomyFiles, execute_all, new_files, open_database, store_of};
 use sqlite::types::ValueRef;
-use sqlite::{Alter, Connection, Transaction};
+use sqlite::{Alter, Connection, Error as SqlError, ErrorCode, Transaction};
 use std::alloc::Global;
 use std::process::Abort;
+use test_support::{again, texts};
 
 /// What NZ proposes, as format 1 has it.
-pub const PROPOSE_ONE: &str =
-    r#"{"account":1,"input":"propose","to_account":7,"to_registry":"JP","units":["NZ:1:1-100:AAU"]}"#;
+pub const PROPOSE_ONE: &str = texts::PROPOSE_RECORD_1;
 
 /// That it is accepted, as format 1 has it.
-pub const ACCEPTED_ONE: &str =
-    r#"{"input":"received","message":{"call":"AcceptNotification","codes":[],"from":"ITL","status":"Accepted","to":"NZ","transaction":"NZ1"},"moment":1335830400}"#;
+pub const ACCEPTED_ONE: &str = texts::ACCEPTED_RECORD_1;
 
 const ABOUT: &str =
     "CREATE TABLE about (id INTEGER PRIMARY KEY CHECK (id = 1), format INTEGER NOT NULL, node TEXT NOT NULL) STRICT";
@@ -22,21 +21,30 @@ const ENTRIES: &str = "CREATE TABLE entries (place INTEGER PRIMARY KEY, body TEX
 const OWNER: &str = "INSERT INTO about (id, format, node) VALUES (1, 1, 'NZ')";
 
 /// Puts a record, within the transaction.
-fn put<S: Alter>(rt: &impl Abort, tx: &mut Transaction<'_, S>, place: usize, text: &str) {
+fn put<S: Alter>(
+    rt: &impl Abort,
+    tx: &mut Transaction<'_, S>,
+    place: usize,
+    text: &str,
+) -> Result<(), SqlError> {
     let place = i64::try_from(place).expect(rt, "a place");
     let values = [ValueRef::Int(place), ValueRef::Text(text.as_bytes())];
-    let statement = "INSERT INTO entries (place, body) VALUES (?1, ?2)";
-    assert!(rt; tx.execute(statement, &values).is_ok());
+    tx.execute("INSERT INTO entries (place, body) VALUES (?1, ?2)", &values)?;
+    Ok(())
 }
 
 /// Puts the records, in one transaction.
-fn put_all<S: Alter>(rt: &impl Abort, conn: &mut Connection<S>, texts: &[&str]) {
+fn put_all<S: Alter>(
+    rt: &impl Abort,
+    conn: &mut Connection<S>,
+    texts: &[&str],
+) -> Result<(), SqlError> {
     assert!(rt; conn.is_autocommit());
     let mut tx = conn.transaction();
     for (place, text) in texts.iter().enumerate() {
-        put(rt, &mut tx, place, text);
+        put(rt, &mut tx, place, text)?;
     }
-    assert!(rt; tx.commit().is_ok());
+    tx.commit()
 }
 
 // These are generic, as a connection over files whose type is known costs half a minute of proof for each call.
@@ -49,36 +57,51 @@ fn made_by<S: Alter + Drop>(
     texts: &[&str],
 ) -> S {
     execute_all(rt, &mut conn, statements);
-    put_all(rt, &mut conn, texts);
+    let done = again!(
+        put_all(rt, &mut conn, texts),
+        Err(SqlError::SqliteFailure(ErrorCode::OutOfMemory)) => ()
+    );
+    assert!(rt; done.is_ok());
     store_of(conn)
 }
 
 /// The files of a store that these statements make, with these records.
-fn files_made_by(rt: &impl Abort, alloc: Global, statements: &[&str], texts: &[&str]) -> Stored {
-    let conn = open_database(rt, alloc, new_files(alloc, FOREVER, FOREVER));
+fn files_made_by(
+    rt: &impl Abort,
+    alloc: Global,
+    statements: &[&str],
+    texts: &[&str],
+) -> RoomyFiles {
+    let conn = open_database(rt, alloc, new_files(rt, alloc, FOREVER, FOREVER));
     made_by(rt, conn, statements, texts).close()
 }
 
 /// Makes NZ's store of format 1 with these records at the path in these files.
 pub fn make_old_store_at(rt: &impl Abort, files: &HostRuntime, path: &str, texts: &[&str]) {
-    let opened = Connection::open(files, path);
+    let opened = again!(
+        Connection::open(files, path),
+        Err(SqlError::SqliteFailure(ErrorCode::OutOfMemory)) => ()
+    );
     let conn = opened.ok().expect(rt, "a database");
     drop(made_by(rt, conn, &[ABOUT, ENTRIES, OWNER], texts));
 }
 
 /// The files of NZ's store of format 1 with these records.
-pub fn old_files(rt: &impl Abort, alloc: Global, texts: &[&str]) -> Stored {
+pub fn old_files(rt: &impl Abort, alloc: Global, texts: &[&str]) -> RoomyFiles {
     files_made_by(rt, alloc, &[ABOUT, ENTRIES, OWNER], texts)
 }
 
 /// The same, where `entries` was made first.
-pub fn old_files_entries_first(rt: &impl Abort, alloc: Global, texts: &[&str]) -> Stored {
+pub fn old_files_entries_first(rt: &impl Abort, alloc: Global, texts: &[&str]) -> RoomyFiles {
     files_made_by(rt, alloc, &[ENTRIES, ABOUT, OWNER], texts)
 }
 
 /// The format of the store that the connection has open.
 fn format_of<S: Alter>(rt: &impl Abort, conn: &mut Connection<S>) -> i64 {
-    let rows = conn.query_all("SELECT format FROM about", &[]);
+    let rows = again!(
+        conn.query_all("SELECT format FROM about", &[]),
+        Err(SqlError::SqliteFailure(ErrorCode::OutOfMemory)) => ()
+    );
     let rows = rows.ok().expect(rt, "the owner's row");
     let row = rows.first().expect(rt, "an owner");
     let format: i64 = row.get(0).ok().expect(rt, "a number");
@@ -92,6 +115,6 @@ fn with_format<S: Alter + Drop>(rt: &impl Abort, mut conn: Connection<S>, wanted
 }
 
 /// Asserts that the store in the files has that format. Gives them back.
-pub fn assert_format(rt: &impl Abort, alloc: Global, files: Stored, wanted: i64) -> Stored {
+pub fn assert_format(rt: &impl Abort, alloc: Global, files: RoomyFiles, wanted: i64) -> RoomyFiles {
     with_format(rt, open_database(rt, alloc, files), wanted).close()
 }

@@ -1,19 +1,20 @@
-use crate::file_store_rows::{append_two, assert_two};
-use crate::fused_files::{FOREVER, Stored, closed, memory_with, new_files, open_as, opened};
+use crate::calls::{append_two, assert_two, reopen, waits};
+use crate::fused_files::{FOREVER, RoomyFiles, closed, file_with, new_files, open_as, opened};
+use crate::roomy::Roomy;
 use crate::stumble::Stumble;
+use desk::stores::{NodeStore, StoreFault};
 use sqlite::Files;
-use sqlite_disk::{Disk, Memory};
+use sqlite_disk::Disk;
 use std::alloc::Global;
 use std::process::Abort;
 use store_files::durable::SqlStore;
-use stores::{NodeStore, StoreFault};
 
 /// The two files of a store, in memory, of each of which one call may fail.
-type Stumbling = Files<Stumble<Memory>>;
+type Stumbling = Files<Stumble<Roomy>>;
 
 /// The files of NZ's store of two records.
-fn files_of_two(rt: &impl Abort, alloc: Global) -> Stored {
-    let mut store = open_as(rt, alloc, new_files(alloc, FOREVER, FOREVER), "NZ");
+fn files_of_two(rt: &impl Abort, alloc: Global) -> RoomyFiles {
+    let mut store = open_as(rt, alloc, new_files(rt, alloc, FOREVER, FOREVER), "NZ");
     append_two(rt, alloc, &mut store);
     closed(store)
 }
@@ -22,13 +23,13 @@ fn files_of_two(rt: &impl Abort, alloc: Global) -> Stored {
 fn stumbling(
     rt: &impl Abort,
     alloc: Global,
-    files: &Stored,
+    files: &RoomyFiles,
     log_call: u64,
     db_call: u64,
 ) -> Stumbling {
     Files {
-        log: Stumble::new(memory_with(rt, alloc, files.log.inner().bytes()), log_call),
-        db: Stumble::new(memory_with(rt, alloc, files.db.inner().bytes()), db_call),
+        log: Stumble::new(file_with(rt, alloc, files.log.inner().bytes()), log_call),
+        db: Stumble::new(file_with(rt, alloc, files.db.inner().bytes()), db_call),
     }
 }
 
@@ -47,8 +48,8 @@ enum Outcome {
 
 /// Whether the store of two records, of which a reopening failed, can be opened once more. It has its records then.
 fn reopens<S: NodeStore>(rt: &impl Abort, alloc: Global, store: &mut S) -> bool {
-    assert!(rt; store.load().err() == Some(StoreFault::Reopen));
-    if store.reopen().is_err() {
+    assert!(rt; waits(store));
+    if reopen(rt, store).is_err() {
         return false;
     }
     assert_two(rt, alloc, store);
@@ -77,7 +78,7 @@ fn reopen_in<D: Disk + Drop>(rt: &impl Abort, alloc: Global, files: Files<D>) ->
     let Ok(mut store) = opened(rt, alloc, files, "NZ") else {
         return Outcome::Unopened;
     };
-    match store.reopen() {
+    match reopen(rt, &mut store) {
         Ok(()) => {
             assert_two(rt, alloc, &mut store);
             drop(store);

@@ -1,10 +1,12 @@
 use crate::named::{block, id};
 use crate::same::assert_same;
-use accounts::{HeldBlock, Holdings};
 use protocol::status::TransactionId;
+use protocol::units::refusal_code::OUT_OF_MEMORY;
 use protocol::units::{Block, NoMemory, Refusal};
+use registry_core::accounts::{HeldBlock, Holdings};
 use std::alloc::Global;
 use std::process::Abort;
+use test_support::again;
 
 fn refusal(code: u16) -> Result<(), Refusal> {
     Err(Refusal { code })
@@ -28,13 +30,33 @@ fn credited(alloc: Global, block: Block) -> Result<Holdings, NoMemory> {
 
 /// Accounts 1 and 2, and a hundred units in the first.
 fn hundred(rt: &impl Abort, alloc: Global) -> Holdings {
-    credited(alloc, block(rt, "NZ:1:1-100:AAU")).expect(rt, "memory")
+    let block = block(rt, "NZ:1:1-100:AAU");
+    let holdings = again!(credited(alloc, block), Err(NoMemory) => ());
+    holdings.expect(rt, "memory")
+}
+
+/// The lines of the holdings.
+fn lines(rt: &impl Abort, holdings: &Holdings, alloc: Global) -> Vec<HeldBlock> {
+    let lines = again!(holdings.lines(alloc), Err(NoMemory) => ());
+    lines.expect(rt, "memory")
 }
 
 /// The holdings are these lines.
 fn assert_lines(rt: &impl Abort, holdings: &Holdings, alloc: Global, wanted: &[HeldBlock]) {
-    let lines = holdings.lines(alloc).expect(rt, "memory");
+    let lines = lines(rt, holdings, alloc);
     assert!(rt; lines.as_slice() == wanted);
+}
+
+/// The holdings are these lines, and that many units of account 1 are free.
+fn assert_held(
+    rt: &impl Abort,
+    holdings: &Holdings,
+    alloc: Global,
+    wanted: &[HeldBlock],
+    free: u64,
+) {
+    assert_lines(rt, holdings, alloc, wanted);
+    assert_same(rt, holdings.free_count(1), free);
 }
 
 /// `check` refuses the block of that text with the code, and so does `reserve` for NZ2.
@@ -49,11 +71,16 @@ fn assert_refused(rt: &impl Abort, holdings: &mut Holdings, account: u64, text: 
 fn assert_reserved(
     rt: &impl Abort,
     holdings: &mut Holdings,
+    alloc: Global,
     blocks: &[Block],
     id: TransactionId,
     free: u64,
 ) {
-    let reserved = holdings.reserve(1, blocks, id);
+    let (old, old_free) = (lines(rt, holdings, alloc), holdings.free_count(1));
+    let reserved = again!(
+        holdings.reserve(1, blocks, id),
+        Err(Refusal { code: OUT_OF_MEMORY }) => assert_held(rt, holdings, alloc, &old, old_free)
+    );
     assert_same(rt, (reserved, holdings.free_count(1)), (Ok(()), free));
 }
 
@@ -69,8 +96,8 @@ fn assert_removed(rt: &impl Abort, holdings: &mut Holdings, id: TransactionId, f
     assert_same(rt, holdings.free_count(1), free);
 }
 
-/// An account, a block, and the code by which an order of the block from the account is refused, where the first sixty of
-/// a hundred units are reserved.
+/// An account, a block, and the code by which an order of the block from the account is refused, where the first sixty
+/// of a hundred units are reserved.
 const REFUSED: &[(u64, &str, u16)] = &[
     (1, "NZ:1:60-61:AAU", 106),
     (1, "NZ:1:100-101:AAU", 105),
@@ -89,8 +116,9 @@ fn assert_all_refused(rt: &impl Abort, holdings: &mut Holdings) {
 fn holdings_are_reserved_once(rt: HostRuntime) {
     let first = id(&rt, "NZ1");
     let sixty = [block(&rt, "NZ:1:1-60:AAU")];
-    let mut holdings = hundred(&rt, rt.alloc());
-    assert_reserved(&rt, &mut holdings, &sixty, first, 40);
+    let alloc = rt.alloc();
+    let mut holdings = hundred(&rt, alloc);
+    assert_reserved(&rt, &mut holdings, alloc, &sixty, first, 40);
     assert_all_refused(&rt, &mut holdings);
     assert_released(&rt, &mut holdings, id(&rt, "NZ2"), 40);
     assert_released(&rt, &mut holdings, first, 100);
@@ -102,12 +130,13 @@ fn holdings_are_taken_out(rt: HostRuntime) {
     let first = id(&rt, "NZ1");
     let blocks = [block(&rt, "NZ:1:1-30:AAU"), block(&rt, "NZ:1:31-60:AAU")];
     let left = line(&rt, "NZ:1:61-100:AAU", None);
-    let mut holdings = hundred(&rt, rt.alloc());
-    assert_reserved(&rt, &mut holdings, &blocks, first, 40);
+    let alloc = rt.alloc();
+    let mut holdings = hundred(&rt, alloc);
+    assert_reserved(&rt, &mut holdings, alloc, &blocks, first, 40);
     assert_removed(&rt, &mut holdings, first, 40);
     assert!(rt; !holdings.holds_any(&blocks));
     assert!(rt; holdings.holds_any(&[blocks[0], left.block]));
-    assert_lines(&rt, &holdings, rt.alloc(), &[left]);
+    assert_lines(&rt, &holdings, alloc, &[left]);
     drop(holdings);
 }
 
@@ -116,11 +145,12 @@ fn one_transaction_reserves_twice(rt: HostRuntime) {
     let first = id(&rt, "NZ1");
     let shared = [block(&rt, "NZ:1:1-30:AAU"), block(&rt, "NZ:1:21-40:AAU")];
     let others = [block(&rt, "NZ:1:91-95:AAU")];
-    let mut holdings = hundred(&rt, rt.alloc());
-    assert_reserved(&rt, &mut holdings, &shared, first, 60);
-    assert_reserved(&rt, &mut holdings, &others, first, 55);
+    let alloc = rt.alloc();
+    let mut holdings = hundred(&rt, alloc);
+    assert_reserved(&rt, &mut holdings, alloc, &shared, first, 60);
+    assert_reserved(&rt, &mut holdings, alloc, &others, first, 55);
     assert_released(&rt, &mut holdings, first, 100);
-    assert_reserved(&rt, &mut holdings, &shared, first, 60);
+    assert_reserved(&rt, &mut holdings, alloc, &shared, first, 60);
     assert_removed(&rt, &mut holdings, first, 60);
     assert_same(&rt, holdings.unit_holding(&shared[0].first_unit()), None);
     drop(holdings);
@@ -136,8 +166,8 @@ fn pieces(rt: HostRuntime) {
     let joined = line(&rt, "NZ:1:31-100:AAU", None);
     let alloc = rt.alloc();
     let mut holdings = hundred(&rt, alloc);
-    assert_reserved(&rt, &mut holdings, &[of_first.block], first, 89);
-    assert_reserved(&rt, &mut holdings, &[of_second.block], second, 79);
+    assert_reserved(&rt, &mut holdings, alloc, &[of_first.block], first, 89);
+    assert_reserved(&rt, &mut holdings, alloc, &[of_second.block], second, 79);
     assert_lines(&rt, &holdings, alloc, &[low, of_first, of_second, high]);
     assert_same(&rt, holdings.pieces().len(), 4);
     assert_released(&rt, &mut holdings, second, 89);
@@ -224,8 +254,9 @@ const AFTER_REMOVAL: &[(Call, u64, Option<u16>)] = &[
 fn accounts_may_be_closed_and_opened(rt: HostRuntime) {
     let first = id(&rt, "NZ1");
     let whole = [block(&rt, "NZ:1:1-100:AAU")];
-    let mut holdings = hundred(&rt, rt.alloc());
-    assert_reserved(&rt, &mut holdings, &whole, first, 0);
+    let alloc = rt.alloc();
+    let mut holdings = hundred(&rt, alloc);
+    assert_reserved(&rt, &mut holdings, alloc, &whole, first, 0);
     assert_calls(&rt, &mut holdings, WHILE_RESERVED);
     assert_removed(&rt, &mut holdings, first, 0);
     assert_calls(&rt, &mut holdings, AFTER_REMOVAL);

@@ -4,27 +4,23 @@ use crate::given::{Given, input_of};
 use crate::same::{assert_same, assert_same_in};
 use protocol::Outcome::{Late, Recorded, Refused, Repeat};
 use protocol::scheme::Scheme;
-use protocol::units::{Node, Refusal};
+use protocol::units::refusal_code::OUT_OF_MEMORY;
+use protocol::units::{NoMemory, Node, Refusal};
 use protocol::wire::{Input, Message, encode};
 use protocol::{NodeCore, Outcome, Stepped, replay};
 use std::alloc::Global;
 use std::process::Abort;
+use test_support::texts::SCHEME;
+use test_support::{READING, again};
 
 /// The room of the worked scheme's journals.
 pub const ROOM: &str = "1000";
 
-const RECORDS: &str = r#"{"records":"#;
-
-const REGISTRIES: &str =
-    r#","registries":[{"accounts":[7,8],"allotted":[],"code":"JP","eligible":true,"kinds":["AAU","CER"]},{"accounts":[1,2],"allotted":[{"account":1,"units":["NZ:1:1-100:AAU"]}],"code":"NZ","eligible":true,"kinds":["AAU","RMU","ERU","CER","tCER","lCER"]}]}"#;
-
 /// The worked scheme, with room for that many records.
 pub fn scheme(rt: &impl Abort, alloc: Global, room: &str) -> Scheme {
-    let mut text = String::new(alloc);
-    for piece in [RECORDS, room, REGISTRIES] {
-        text.push_str(piece).expect(rt, "memory");
-    }
-    Scheme::read(alloc, text.as_bytes()).expect(rt, "a scheme")
+    let (before, after) = SCHEME.split_once(ROOM).expect(rt, READING);
+    let text = format!(in alloc; "{before}{room}{after}").expect(rt, READING);
+    Scheme::read(alloc, text.as_bytes()).expect(rt, READING)
 }
 
 /// A core whose tables can be seen.
@@ -55,17 +51,21 @@ fn outcome(stepped: Result<Stepped, Refusal>) -> Outcome {
     }
 }
 
-/// Steps the core by the input. Where memory ran out nothing has changed, and the core is stepped once more.
-fn step<C: Seen>(rt: &impl Abort, core: &mut C, input: &Input) -> Outcome {
-    let (records, sends) = (core.records(), core.sends());
-    let first = core.step(input);
-    if first != Err(Refusal::NO_MEMORY) {
-        return outcome(first);
-    }
+/// Asserts that the core has that many records and messages, and is as its journal says.
+fn assert_unchanged<C: Seen>(rt: &impl Abort, core: &C, records: usize, sends: usize) {
     assert_same(rt, core.records(), records);
     assert_same(rt, core.sends(), sends);
     assert_as_replayed(rt, core);
-    outcome(core.step(input))
+}
+
+/// Steps the core by the input. Where memory ran out nothing has changed, and the core is stepped once more.
+fn step<C: Seen>(rt: &impl Abort, core: &mut C, input: &Input) -> Outcome {
+    let (records, sends) = (core.records(), core.sends());
+    let stepped = again!(
+        core.step(input),
+        Err(Refusal { code: OUT_OF_MEMORY }) => assert_unchanged(rt, core, records, sends)
+    );
+    outcome(stepped)
 }
 
 /// What comes of a step by what is given.
@@ -86,7 +86,8 @@ pub fn walk<C: Seen>(rt: &impl Abort, alloc: Global, core: &mut C, row: &[(Given
 
 /// Asserts that the message has that text.
 pub fn assert_text(rt: &impl Abort, alloc: Global, message: &Message, expected: &str) {
-    let text = encode(alloc, message).expect(rt, "memory");
+    let text = again!(encode(alloc, message), Err(NoMemory) => ());
+    let text = text.expect(rt, "memory");
     assert_same(rt, text.as_slice(), expected.as_bytes());
 }
 

@@ -4,6 +4,7 @@ use crate::registries::{assert_none_held, registry};
 use crate::same::assert_same;
 use protocol::Outcome;
 use protocol::Outcome::{Late, Recorded, Refused, Repeat};
+use test_support::texts;
 
 const CLOSE_7: Given = Event("close JP 7");
 
@@ -17,13 +18,9 @@ const SECOND: Given = Message(
     r#"{"account":1,"call":"AcceptProposal","from":"ITL","status":"Checked","to":"JP","to_account":7,"to_registry":"JP","transaction":"NZ2","units":["NZ:1:1-10:AAU"]}"#,
 );
 
-const COMPLETED: Given = Message(
-    r#"{"call":"AcceptNotification","codes":[],"from":"ITL","status":"Completed","to":"JP","transaction":"NZ1"}"#,
-);
+const COMPLETED: Given = Message(texts::COMPLETED_TO_JP);
 
-const CANCELLED: Given = Message(
-    r#"{"call":"AcceptNotification","codes":[],"from":"ITL","status":"Cancelled","to":"JP","transaction":"NZ1"}"#,
-);
+const CANCELLED: Given = Message(texts::CANCELLED_TO_JP);
 
 const TRANSFER_IN: &[(Given, Outcome)] = &[
     (CLOSE_8, Recorded(0)),
@@ -152,12 +149,7 @@ const CANCELLED_TRANSFERS: &[(Given, Outcome)] = &[
     (PROPOSAL, Late),
     (COMPLETED, Refused(46)),
     (SECOND, Recorded(1)),
-    (
-        Message(
-            r#"{"call":"AcceptNotification","codes":[],"from":"ITL","status":"Cancelled","to":"JP","transaction":"NZ2"}"#,
-        ),
-        Recorded(2),
-    ),
+    (Message(texts::SECOND_CANCELLED_TO_JP), Recorded(2)),
     (CLOSE_7, Recorded(3)),
 ];
 

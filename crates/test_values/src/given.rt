@@ -6,6 +6,7 @@ use protocol::status::Moment;
 use protocol::wire::{Input, decode};
 use std::alloc::Global;
 use std::process::Abort;
+use test_support::READING;
 
 /// What a row gives a node.
 #[derive(Clone, Copy, Debug)]
@@ -17,6 +18,12 @@ pub enum Given {
     /// The message of that text, a second later.
     LaterMessage(&'static str),
 }
+
+/// The line of NZ's order for its hundred units.
+pub const PROPOSE: &str = "propose NZ 1 JP 7 NZ:1:1-100:AAU";
+
+/// The line of its order for the first sixty of them.
+pub const PROPOSE_SIXTY: &str = "propose NZ 1 JP 7 NZ:1:1-60:AAU";
 
 /// When messages come, in seconds: 2012-05-01T00:00:00Z.
 const MOMENT: u64 = 1_335_830_400;
@@ -34,7 +41,7 @@ fn taken(event: WorldEvent) -> Option<Input> {
 
 /// The message of that text, which comes at that moment.
 fn received(rt: &impl Abort, alloc: Global, text: &str, seconds: u64) -> Input {
-    let message = decode(alloc, text.as_bytes()).expect(rt, "a message");
+    let message = decode(alloc, text.as_bytes()).expect(rt, READING);
     let moment = Moment::new(seconds).expect(rt, "in 2012");
     Input::Received { message, moment }
 }
@@ -43,10 +50,20 @@ fn received(rt: &impl Abort, alloc: Global, text: &str, seconds: u64) -> Input {
 pub fn input_of(rt: &impl Abort, alloc: Global, given: Given) -> Input {
     match given {
         Given::Event(line) => {
-            let event = event_of(alloc, line.as_bytes()).expect(rt, "an event");
+            let event = event_of(alloc, line.as_bytes()).expect(rt, READING);
             taken(event).expect(rt, "an input")
         }
         Given::Message(text) => received(rt, alloc, text, MOMENT),
         Given::LaterMessage(text) => received(rt, alloc, text, MOMENT + 1),
     }
+}
+
+/// The inputs that are given.
+pub fn inputs(rt: &impl Abort, alloc: Global, all: &[Given]) -> Vec<Input> {
+    let mut inputs = Vec::new(alloc);
+    for given in all {
+        let input = input_of(rt, alloc, *given);
+        inputs.push(input).expect(rt, READING);
+    }
+    inputs
 }

@@ -1,5 +1,5 @@
 //! The limits of inputs, from both sides, and the texts of the faults.
-use crate::same::{assert_same, assert_same_in};
+use crate::same::{assert_same, assert_same_in, room};
 use command_faults::{Cause, OpFault, read_scheme, write_out};
 use protocol::units::{Code, Node};
 use rehearse::rehearse;
@@ -7,11 +7,14 @@ use std::alloc::Global;
 use std::io::{self, ErrorKind, Read, Write};
 use std::process::Abort;
 use stores::StoreFault;
+use test_support::{READING, again};
 
-const SCHEME: &str =
+/// A scheme of two registries that have nothing.
+pub const SCHEME: &str =
     r#"{"records":9,"registries":[{"accounts":[],"allotted":[],"code":"JP","eligible":true,"kinds":[]},{"accounts":[],"allotted":[],"code":"NZ","eligible":true,"kinds":[]}]}"#;
 
-const EVENT: &str = "commit NZ 0\n";
+/// The line of an event.
+pub const EVENT: &str = "commit NZ 0\n";
 
 fn nz(rt: &impl Abort) -> Node {
     Node::Registry(Code::read("NZ").expect(rt, "a code"))
@@ -21,7 +24,8 @@ fn nz(rt: &impl Abort) -> Node {
 
 /// Asserts that the fault is told by this text and ends the program with this status.
 fn assert_told(rt: &impl Abort, alloc: Global, fault: OpFault, text: &str, status: u8) {
-    let told = format!(in alloc; "{fault}").expect(rt, "memory");
+    let told = again!(format!(in alloc; "{fault}"), Err(_) => ());
+    let told = told.expect(rt, "memory");
     assert!(rt; told.as_str() == text);
     assert_same_in(rt, fault.status(), status, fault);
 }
@@ -86,7 +90,11 @@ impl Read for Interrupted {
 
 /// Why no scheme was read after that many interrupted reads.
 fn fault_after(alloc: Global, left: u64) -> Option<OpFault> {
-    read_scheme(alloc, &mut Interrupted { left }).err()
+    let read = again!(
+        read_scheme(alloc, &mut Interrupted { left }),
+        Err(OpFault::NoMemory) => ()
+    );
+    read.err()
 }
 
 #[test]
@@ -136,7 +144,7 @@ fn a_write_is_interrupted_so_often(rt: HostRuntime) {
 /// Adds that many letters to the text.
 fn add_letters(rt: &impl Abort, text: &mut String, letter: &str, count: usize) {
     for _ in 0..count {
-        text.push_str(letter).expect(rt, "memory");
+        text.push_str(letter).expect(rt, READING);
     }
 }
 
@@ -144,15 +152,18 @@ fn add_letters(rt: &impl Abort, text: &mut String, letter: &str, count: usize) {
 fn scheme_line(rt: &impl Abort, alloc: Global, spaces: usize) -> String {
     let mut text = String::new(alloc);
     add_letters(rt, &mut text, " ", spaces);
-    text.push_str(SCHEME).expect(rt, "memory");
-    text.push_str("\n").expect(rt, "memory");
+    text.push_str(SCHEME).expect(rt, READING);
+    text.push_str("\n").expect(rt, READING);
     text
 }
 
 /// Asserts how a rehearsal of the input ends.
 fn assert_ended(rt: &impl Abort, alloc: Global, input: &str, wanted: Result<(), OpFault>) {
-    let mut writer = Vec::new(alloc);
-    let ended = rehearse(alloc, &mut input.as_bytes(), &mut writer);
+    let mut writer = room(rt, alloc);
+    let ended = again!(
+        rehearse(alloc, &mut input.as_bytes(), &mut writer),
+        Err(OpFault::NoMemory) => assert!(rt; writer.is_empty())
+    );
     drop(writer);
     assert_same(rt, ended, wanted);
 }
@@ -161,7 +172,7 @@ fn assert_ended(rt: &impl Abort, alloc: Global, input: &str, wanted: Result<(), 
 fn assert_line(rt: &impl Abort, alloc: Global, length: usize, cause: Cause) {
     let mut input = scheme_line(rt, alloc, 0);
     add_letters(rt, &mut input, "x", length);
-    input.push_str("\n").expect(rt, "memory");
+    input.push_str("\n").expect(rt, READING);
     let fault = OpFault::Input { line: 2, cause };
     assert_ended(rt, alloc, input.as_str(), Err(fault));
     drop(input);
@@ -176,15 +187,15 @@ fn a_line_has_a_mebibyte(rt: HostRuntime) {
 /// An order of sixteen blocks, as a line.
 fn long_order(rt: &impl Abort, alloc: Global) -> String {
     let mut text = String::new(alloc);
-    text.push_str("propose NZ 1 JP 7 ").expect(rt, "memory");
+    text.push_str("propose NZ 1 JP 7 ").expect(rt, READING);
     for number in 0..16 {
         if number > 0 {
-            text.push_str(" ").expect(rt, "memory");
+            text.push_str(" ").expect(rt, READING);
         }
         text.push_str("NZ:1:100000000000000-100000000000000:tCER")
-            .expect(rt, "memory");
+            .expect(rt, READING);
     }
-    text.push_str("\n").expect(rt, "memory");
+    text.push_str("\n").expect(rt, READING);
     text
 }
 
@@ -199,7 +210,7 @@ fn whole_input(rt: &impl Abort, alloc: Global) -> (String, u64) {
     let mut input = scheme_line(rt, alloc, room % length);
     let orders = room / length;
     for _ in 0..orders {
-        input.push_str(order.as_str()).expect(rt, "memory");
+        input.push_str(order.as_str()).expect(rt, READING);
     }
     drop(order);
     (input, orders as u64)
@@ -211,7 +222,7 @@ fn an_input_has_sixteen_mebibytes(rt: HostRuntime) {
     let (mut input, orders) = whole_input(&rt, alloc);
     assert_same(&rt, input.len(), MOST);
     assert_ended(&rt, alloc, input.as_str(), Ok(()));
-    input.push_str("\n").expect(&rt, "memory");
+    input.push_str("\n").expect(&rt, READING);
     let fault = OpFault::Input {
         line: orders.saturating_add(2),
         cause: Cause::TooLong,

@@ -1,9 +1,11 @@
-use crate::message_rows::{NOTIFICATION, PROPOSAL, REQUEST, assert_written};
+use crate::message_rows::assert_written;
 use crate::same::assert_same;
 use protocol::units::Items;
 use std::alloc::Global;
 use std::process::Abort;
 use streams::{Line, LineFault, Splitter, Truncated};
+use test_support::texts::{ACCEPTED, PROPOSED, REQUEST};
+use test_support::{READING, again};
 
 const LIMIT: usize = 8192;
 
@@ -16,9 +18,14 @@ enum Fed {
     NoMemory,
 }
 
-/// What the splitter returns for the piece.
+/// The lines of the piece. Where memory ran out, the stream still ends as it did, and the piece is fed once more.
 fn lines_of(rt: &impl Abort, splitter: &mut Splitter, piece: &[u8]) -> Items<Line> {
-    splitter.feed(piece).expect(rt, "lines")
+    let end = splitter.finish();
+    let fed = again!(
+        splitter.feed(piece),
+        Err(LineFault::NoMemory) => assert_same(rt, splitter.finish(), end)
+    );
+    fed.expect(rt, "lines")
 }
 
 /// How many lines those are.
@@ -28,7 +35,7 @@ fn count(lines: Items<Line>) -> usize {
     count
 }
 
-fn feed(splitter: &mut Splitter, piece: &[u8]) -> Fed {
+fn feed_once(splitter: &mut Splitter, piece: &[u8]) -> Fed {
     match splitter.feed(piece) {
         Ok(lines) => Fed::Lines(count(lines)),
         Err(LineFault::TooLong(lines)) => Fed::TooLong(count(lines)),
@@ -37,13 +44,23 @@ fn feed(splitter: &mut Splitter, piece: &[u8]) -> Fed {
     }
 }
 
+/// What the splitter returns for the piece. Where memory ran out, the stream still ends as it did, and the piece is fed
+/// once more.
+fn feed(rt: &impl Abort, splitter: &mut Splitter, piece: &[u8]) -> Fed {
+    let end = splitter.finish();
+    again!(
+        feed_once(splitter, piece),
+        Fed::NoMemory => assert_same(rt, splitter.finish(), end)
+    )
+}
+
 #[test]
 fn a_line_over_the_limit(rt: HostRuntime) {
     let alloc = rt.alloc();
-    let bytes = vec![in alloc; b'a'; LIMIT + 1].expect(&rt, "memory");
+    let bytes = vec![in alloc; b'a'; LIMIT + 1].expect(&rt, READING);
     let mut splitter = Splitter::new(alloc, LIMIT);
-    assert_same(&rt, feed(&mut splitter, &bytes), Fed::TooLong(0));
-    assert_same(&rt, feed(&mut splitter, b"\n"), Fed::Closed);
+    assert_same(&rt, feed(&rt, &mut splitter, &bytes), Fed::TooLong(0));
+    assert_same(&rt, feed(&rt, &mut splitter, b"\n"), Fed::Closed);
     assert_same(&rt, splitter.finish(), Err(Truncated));
 }
 
@@ -64,9 +81,9 @@ fn assert_lines(rt: &impl Abort, lines: Items<Line>, wanted: &[&[u8]]) {
 #[test]
 fn a_line_of_the_limit(rt: HostRuntime) {
     let alloc = rt.alloc();
-    let bytes = vec![in alloc; b'a'; LIMIT].expect(&rt, "memory");
-    let mut stream = Vec::from_slice(alloc, &bytes).expect(&rt, "memory");
-    stream.push(b'\n').expect(&rt, "memory");
+    let bytes = vec![in alloc; b'a'; LIMIT].expect(&rt, READING);
+    let mut stream = Vec::from_slice(alloc, &bytes).expect(&rt, READING);
+    stream.push(b'\n').expect(&rt, READING);
     let mut splitter = Splitter::new(alloc, LIMIT);
     let lines = lines_of(&rt, &mut splitter, &stream);
     assert_same(&rt, lines.as_slice().len(), 1);
@@ -80,7 +97,7 @@ fn a_line_of_the_limit(rt: HostRuntime) {
 fn fed_up_to_the_limit(rt: &impl Abort, alloc: Global) -> Splitter {
     let mut splitter = Splitter::new(alloc, LIMIT);
     for _ in 0..LIMIT {
-        assert!(rt; feed(&mut splitter, b"a") == Fed::Lines(0));
+        assert!(rt; feed(rt, &mut splitter, b"a") == Fed::Lines(0));
     }
     splitter
 }
@@ -88,7 +105,7 @@ fn fed_up_to_the_limit(rt: &impl Abort, alloc: Global) -> Splitter {
 #[test]
 fn a_line_of_the_limit_byte_by_byte(rt: HostRuntime) {
     let alloc = rt.alloc();
-    let bytes = vec![in alloc; b'a'; LIMIT].expect(&rt, "memory");
+    let bytes = vec![in alloc; b'a'; LIMIT].expect(&rt, READING);
     let mut splitter = fed_up_to_the_limit(&rt, alloc);
     assert_lines(
         &rt,
@@ -101,31 +118,23 @@ fn a_line_of_the_limit_byte_by_byte(rt: HostRuntime) {
 #[test]
 fn a_line_over_the_limit_byte_by_byte(rt: HostRuntime) {
     let mut splitter = fed_up_to_the_limit(&rt, rt.alloc());
-    assert_same(&rt, feed(&mut splitter, b"a"), Fed::TooLong(0));
-    assert_same(&rt, feed(&mut splitter, b"\n"), Fed::Closed);
-}
-
-/// The lines of the piece, which is fed once more where an allocation was refused.
-fn lines_again(rt: &impl Abort, splitter: &mut Splitter, piece: &[u8]) -> Items<Line> {
-    match splitter.feed(piece) {
-        Err(LineFault::NoMemory) => lines_of(rt, splitter, piece),
-        fed => fed.expect(rt, "lines"),
-    }
+    assert_same(&rt, feed(&rt, &mut splitter, b"a"), Fed::TooLong(0));
+    assert_same(&rt, feed(&rt, &mut splitter, b"\n"), Fed::Closed);
 }
 
 #[test]
 fn pieces_fed_again(rt: HostRuntime) {
     let mut splitter = Splitter::new(rt.alloc(), LIMIT);
-    assert_lines(&rt, lines_again(&rt, &mut splitter, b"ab"), &[]);
+    assert_lines(&rt, lines_of(&rt, &mut splitter, b"ab"), &[]);
     let wanted = [b"abc".as_slice(), b"".as_slice(), b"d".as_slice()];
     assert_lines(
         &rt,
-        lines_again(&rt, &mut splitter, b"c\n\nd\nlonger"),
+        lines_of(&rt, &mut splitter, b"c\n\nd\nlonger"),
         &wanted,
     );
     assert_lines(
         &rt,
-        lines_again(&rt, &mut splitter, b"\n"),
+        lines_of(&rt, &mut splitter, b"\n"),
         &[b"longer".as_slice()],
     );
     assert_same(&rt, splitter.finish(), Ok(()));
@@ -134,7 +143,7 @@ fn pieces_fed_again(rt: HostRuntime) {
 #[test]
 fn a_stream_that_ends_within_a_line(rt: HostRuntime) {
     let mut splitter = Splitter::new(rt.alloc(), LIMIT);
-    assert_same(&rt, feed(&mut splitter, b"ab"), Fed::Lines(0));
+    assert_same(&rt, feed(&rt, &mut splitter, b"ab"), Fed::Lines(0));
     assert_same(&rt, splitter.finish(), Err(Truncated));
 }
 
@@ -194,8 +203,8 @@ fn assert_one_line(rt: &impl Abort, alloc: Global, before: &[u8], after: &[u8], 
 }
 
 fn assert_cut_everywhere(rt: &impl Abort, alloc: Global, text: &str) {
-    let mut stream = Vec::from_slice(alloc, text.as_bytes()).expect(rt, "memory");
-    stream.push(b'\n').expect(rt, "memory");
+    let mut stream = Vec::from_slice(alloc, text.as_bytes()).expect(rt, READING);
+    stream.push(b'\n').expect(rt, READING);
     for cut in 0..=stream.len() {
         assert_one_line(rt, alloc, &stream[..cut], &stream[cut..], text);
     }
@@ -203,7 +212,7 @@ fn assert_cut_everywhere(rt: &impl Abort, alloc: Global, text: &str) {
 
 #[test]
 fn a_message_in_two_pieces(rt: HostRuntime) {
-    for text in [PROPOSAL, NOTIFICATION, REQUEST] {
+    for text in [PROPOSED, ACCEPTED, REQUEST] {
         assert_cut_everywhere(&rt, rt.alloc(), text);
     }
 }

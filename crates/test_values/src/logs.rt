@@ -5,10 +5,11 @@ use crate::same::assert_same;
 use checks::{BookEntry, Register};
 use log_core::LogCore;
 use protocol::scheme::Scheme;
-use protocol::units::{Block, Code, UnitMap};
+use protocol::units::{Block, Code, NoMemory, UnitMap};
 use std::alloc::Global;
 use std::collections::BTreeMap;
 use std::process::Abort;
+use test_support::again;
 
 /// A unit of each part of what is allotted, as blocks of it.
 const UNITS: [&str; 4] = [
@@ -21,22 +22,30 @@ const UNITS: [&str; 4] = [
 /// The log of the worked scheme, with room for that many records.
 pub fn log(rt: &impl Abort, alloc: Global, room: &str) -> LogCore {
     let scheme = scheme(rt, alloc, room);
-    let log = LogCore::new(alloc, &scheme).expect(rt, "memory");
+    let log = again!(LogCore::new(alloc, &scheme), Err(NoMemory) => ());
     drop(scheme);
-    log
+    log.expect(rt, "memory")
 }
 
-/// What the log of the worked scheme knows of units and registries at the start: all units are NZ's.
-pub fn opening_register(rt: &impl Abort, alloc: Global, scheme: &Scheme) -> Register {
+/// The book of the worked scheme's log at the start: all units are NZ's.
+fn opening_book(rt: &impl Abort, alloc: Global) -> UnitMap<BookEntry> {
     let registry = Code::read("NZ").expect(rt, "a code");
+    let block = Block::read("NZ:1:1-100:AAU").expect(rt, "a block");
     let mut book = UnitMap::new(alloc);
-    book.set(
-        &Block::read("NZ:1:1-100:AAU").expect(rt, "a block"),
-        Some(BookEntry { registry }),
-    )
-    .expect(rt, "memory");
+    let set = again!(
+        book.set(&block, Some(BookEntry { registry })),
+        Err(NoMemory) => assert!(rt; book.pieces().is_empty())
+    );
+    set.expect(rt, "memory");
+    book
+}
+
+/// What the log of the worked scheme knows of units and registries at the start.
+pub fn opening_register(rt: &impl Abort, alloc: Global, scheme: &Scheme) -> Register {
+    let book = opening_book(rt, alloc);
+    let allotments = again!(scheme.allotments(alloc), Err(NoMemory) => ());
     Register {
-        allotments: scheme.allotments(alloc).expect(rt, "memory"),
+        allotments: allotments.expect(rt, "memory"),
         book,
         under_way: UnitMap::new(alloc),
         orders: BTreeMap::new(alloc),

@@ -1,22 +1,16 @@
 use crate::named::{block, code, id};
 use crate::same::assert_same;
 use protocol::status::Content;
-use protocol::units::{Code, Items, Node, Refusal};
+use protocol::units::refusal_code::OUT_OF_MEMORY;
+use protocol::units::{Code, Items, NoMemory, Node, Refusal};
 use protocol::wire::{
     AcquirerCodes, LogCodes, Message, Notification, NotifiedStatus, Proposal, ProposalStatus,
     Request, decode, encode,
 };
 use std::alloc::Global;
 use std::process::Abort;
-
-pub const PROPOSAL: &str =
-    r#"{"account":1,"call":"AcceptProposal","from":"NZ","status":"Proposed","to":"ITL","to_account":7,"to_registry":"JP","transaction":"NZ1","units":["NZ:1:1-100:AAU"]}"#;
-
-pub const NOTIFICATION: &str =
-    r#"{"call":"AcceptNotification","codes":[],"from":"JP","status":"Accepted","to":"ITL","transaction":"NZ1"}"#;
-
-pub const REQUEST: &str =
-    r#"{"call":"RequestCancellation","from":"NZ","to":"ITL","transaction":"NZ1"}"#;
+use test_support::texts::{ACCEPTED, PROPOSED, REJECTED, REQUEST, TERMINATED_TO_NZ};
+use test_support::{READING, again};
 
 const LIMIT: usize = 8192;
 
@@ -28,17 +22,17 @@ const SIXTEEN: &str =
 fn changed(rt: &impl Abort, alloc: Global, text: &str, old: &str, new: &str) -> String {
     let (before, after) = text.split_once(old).expect(rt, "it stands there");
     assert!(rt; !after.contains(old));
-    format!(in alloc; "{before}{new}{after}").expect(rt, "memory")
+    format!(in alloc; "{before}{new}{after}").expect(rt, READING)
 }
 
 fn rejected(rt: &impl Abort, alloc: Global, codes: &[u16]) -> NotifiedStatus {
-    let codes = Vec::from_slice(alloc, codes).expect(rt, "memory");
+    let codes = Vec::from_slice(alloc, codes).expect(rt, READING);
     let codes = AcquirerCodes::new(Items::from_vec(codes)).expect(rt, "codes");
     NotifiedStatus::Rejected(codes)
 }
 
 fn terminated(rt: &impl Abort, alloc: Global, codes: &[u16]) -> NotifiedStatus {
-    let codes = Vec::from_slice(alloc, codes).expect(rt, "memory");
+    let codes = Vec::from_slice(alloc, codes).expect(rt, READING);
     let codes = LogCodes::new(Items::from_vec(codes)).expect(rt, "codes");
     NotifiedStatus::Terminated(codes)
 }
@@ -64,7 +58,7 @@ fn request(rt: &impl Abort, from: Node) -> Message {
 fn content(rt: &impl Abort, alloc: Global, acquirer: Code) -> Content {
     let mut blocks = Vec::new(alloc);
     for text in ["NZ:1:1-100:AAU", "CH:2:5-999999999999999:lCER"] {
-        blocks.push(block(rt, text)).expect(rt, "memory");
+        blocks.push(block(rt, text)).expect(rt, READING);
     }
     let made = Content::new(999_999_999, acquirer, 7, Items::from_vec(blocks));
     made.expect(rt, "a content")
@@ -82,7 +76,8 @@ fn checked_proposal(rt: &impl Abort, alloc: Global, acquirer: Code) -> Message {
 
 /// The message is written as that text.
 fn assert_encoded(rt: &impl Abort, alloc: Global, message: &Message, text: &str) {
-    let line = encode(alloc, message).expect(rt, "memory");
+    let line = again!(encode(alloc, message), Err(NoMemory) => ());
+    let line = line.expect(rt, "memory");
     assert_same(rt, line.as_slice(), text.as_bytes());
 }
 
@@ -92,21 +87,27 @@ fn assert_built(rt: &impl Abort, alloc: Global, message: Message, text: &str) {
     drop(message);
 }
 
+/// What the line is read as.
+fn decoded(alloc: Global, line: &[u8]) -> Result<Message, Refusal> {
+    again!(decode(alloc, line), Err(Refusal { code: OUT_OF_MEMORY }) => ())
+}
+
 /// The line is a message, which is written as that text.
 pub fn assert_written(rt: &impl Abort, alloc: Global, line: &[u8], text: &str) {
-    assert_built(rt, alloc, decode(alloc, line).expect(rt, text), text);
+    assert_built(rt, alloc, decoded(alloc, line).expect(rt, text), text);
 }
 
 /// The line is no message.
 fn assert_refused(rt: &impl Abort, alloc: Global, line: &[u8]) {
-    let fault = decode(alloc, line).err();
+    let fault = decoded(alloc, line).err();
     assert_same(rt, fault, Some(Refusal { code: 41 }));
 }
 
 /// The copy of the text's message is the same, and is written as it was read.
 fn assert_copied(rt: &impl Abort, alloc: Global, text: &str) {
-    let message = decode(alloc, text.as_bytes()).expect(rt, "a message");
-    let copy = message.copy().expect(rt, "memory");
+    let message = decoded(alloc, text.as_bytes()).expect(rt, "a message");
+    let copy = again!(message.copy(), Err(NoMemory) => ());
+    let copy = copy.expect(rt, "memory");
     assert!(rt; copy.same(&message));
     drop(message);
     assert_built(rt, alloc, copy, text);
@@ -114,18 +115,12 @@ fn assert_copied(rt: &impl Abort, alloc: Global, text: &str) {
 
 #[test]
 fn texts_are_written_and_read_back(rt: HostRuntime) {
-    for (text, length) in [(PROPOSAL, 161), (NOTIFICATION, 103), (REQUEST, 73)] {
+    for (text, length) in [(PROPOSED, 161), (ACCEPTED, 103), (REQUEST, 73)] {
         assert_same(&rt, text.len(), length);
         assert_written(&rt, rt.alloc(), text.as_bytes(), text);
         assert_copied(&rt, rt.alloc(), text);
     }
 }
-
-const REJECTED: &str =
-    r#"{"call":"AcceptNotification","codes":[301,303],"from":"JP","status":"Rejected","to":"ITL","transaction":"NZ1"}"#;
-
-const TERMINATED: &str =
-    r#"{"call":"AcceptNotification","codes":[207],"from":"ITL","status":"Terminated","to":"NZ","transaction":"NZ1"}"#;
 
 const CHECKED: &str =
     r#"{"account":999999999,"call":"AcceptProposal","from":"ITL","status":"Checked","to":"JP","to_account":7,"to_registry":"JP","transaction":"NZ999999","units":["NZ:1:1-100:AAU","CH:2:5-999999999999999:lCER"]}"#;
@@ -139,7 +134,7 @@ fn messages_built_from_parts(rt: HostRuntime) {
     assert_built(&rt, alloc, rejected, REJECTED);
     let terminated = terminated(&rt, alloc, &[207]);
     let terminated = notification(&rt, Node::Itl, nz, terminated);
-    assert_built(&rt, alloc, terminated, TERMINATED);
+    assert_built(&rt, alloc, terminated, TERMINATED_TO_NZ);
     assert_built(&rt, alloc, request(&rt, nz), REQUEST);
     assert_built(&rt, alloc, checked_proposal(&rt, alloc, jp), CHECKED);
 }
@@ -249,12 +244,12 @@ const WRONG_IN_NOTIFICATION: &[(&str, &str)] = &[
 
 #[test]
 fn a_proposal_with_something_wrong_in_it(rt: HostRuntime) {
-    assert_wrong(&rt, rt.alloc(), PROPOSAL, WRONG_IN_PROPOSAL);
+    assert_wrong(&rt, rt.alloc(), PROPOSED, WRONG_IN_PROPOSAL);
 }
 
 #[test]
 fn a_notification_with_something_wrong_in_it(rt: HostRuntime) {
-    assert_wrong(&rt, rt.alloc(), NOTIFICATION, WRONG_IN_NOTIFICATION);
+    assert_wrong(&rt, rt.alloc(), ACCEPTED, WRONG_IN_NOTIFICATION);
 }
 
 /// What stands in a request, and what makes it no message in its place.
@@ -309,7 +304,7 @@ const CODES: &[(&str, &str, bool)] = &[
 
 /// The line is a message that is written as it was read, or is refused as none.
 fn assert_read(rt: &impl Abort, alloc: Global, line: &str, is_message: bool) {
-    match decode(alloc, line.as_bytes()) {
+    match decoded(alloc, line.as_bytes()) {
         Ok(message) => {
             assert!(rt; is_message, "{line}");
             assert_built(rt, alloc, message, line);
@@ -326,7 +321,7 @@ fn notification_text(rt: &impl Abort, alloc: Global, status: &str, codes: &str) 
     let text = format!(in alloc;
         "{{\"call\":\"AcceptNotification\",\"codes\":{codes},\"from\":\"JP\",\"status\":\"{status}\",\"to\":\"ITL\",\"transaction\":\"NZ1\"}}"
     );
-    text.expect(rt, "memory")
+    text.expect(rt, READING)
 }
 
 #[test]
@@ -359,9 +354,9 @@ fn lines_that_are_no_message(rt: HostRuntime) {
 
 #[test]
 fn bytes_that_are_no_text(rt: HostRuntime) {
-    for at in 0..PROPOSAL.len() {
-        let line = Vec::from_slice(rt.alloc(), PROPOSAL.as_bytes());
-        let mut line = line.expect(&rt, "memory");
+    for at in 0..PROPOSED.len() {
+        let line = Vec::from_slice(rt.alloc(), PROPOSED.as_bytes());
+        let mut line = line.expect(&rt, READING);
         line[at] = 0xff;
         assert_refused(&rt, rt.alloc(), &line);
     }
@@ -385,20 +380,20 @@ const RIGHT_IN_PROPOSAL: &[(&str, &str)] = &[
 #[test]
 fn the_limits_of_a_proposal(rt: HostRuntime) {
     for (old, new) in RIGHT_IN_PROPOSAL {
-        let line = changed(&rt, rt.alloc(), PROPOSAL, old, new);
+        let line = changed(&rt, rt.alloc(), PROPOSED, old, new);
         assert_written(&rt, rt.alloc(), line.as_bytes(), line.as_str());
     }
-    let more = format!(in rt.alloc(); "{SIXTEEN},\"NZ:1:1-1:AAU\"").expect(&rt, "memory");
+    let more = format!(in rt.alloc(); "{SIXTEEN},\"NZ:1:1-1:AAU\"").expect(&rt, READING);
     let old = r#""NZ:1:1-100:AAU""#;
-    let line = changed(&rt, rt.alloc(), PROPOSAL, old, more.as_str());
+    let line = changed(&rt, rt.alloc(), PROPOSED, old, more.as_str());
     assert_refused(&rt, rt.alloc(), line.as_bytes());
 }
 
 /// The proposal with so many spaces after it that the line has that length.
 fn padded(rt: &impl Abort, alloc: Global, length: usize) -> Vec<u8> {
-    let mut line = Vec::from_slice(alloc, PROPOSAL.as_bytes()).expect(rt, "memory");
-    for _ in PROPOSAL.len()..length {
-        line.push(b' ').expect(rt, "memory");
+    let mut line = Vec::from_slice(alloc, PROPOSED.as_bytes()).expect(rt, READING);
+    for _ in PROPOSED.len()..length {
+        line.push(b' ').expect(rt, READING);
     }
     line
 }
@@ -406,7 +401,7 @@ fn padded(rt: &impl Abort, alloc: Global, length: usize) -> Vec<u8> {
 #[test]
 fn the_longest_line(rt: HostRuntime) {
     let alloc = rt.alloc();
-    assert_written(&rt, alloc, &padded(&rt, alloc, LIMIT), PROPOSAL);
+    assert_written(&rt, alloc, &padded(&rt, alloc, LIMIT), PROPOSED);
     assert_refused(&rt, alloc, &padded(&rt, alloc, LIMIT + 1));
 }
 
@@ -415,11 +410,11 @@ fn keys_in_another_order_and_spaces(rt: HostRuntime) {
     for (line, text) in [
         (
             " { \"units\" : [ \"NZ:1:1-100:AAU\" ] , \"transaction\":\"NZ1\",\t\"to_registry\":\"JP\",\"to_account\":  7,\"to\":\"ITL\",\r\"status\":\"Proposed\",\"from\":\"NZ\",\"call\":\"AcceptProposal\",\"account\":1 }\t",
-            PROPOSAL,
+            PROPOSED,
         ),
         (
             r#"{"transaction":"NZ\u0031","to":"ITL","status":"Accepted","from":"JP","codes":[ ],"call":"AcceptNotification"}"#,
-            NOTIFICATION,
+            ACCEPTED,
         ),
     ] {
         assert_written(&rt, rt.alloc(), line.as_bytes(), text);

@@ -1,10 +1,11 @@
 use crate::same::assert_same;
 use outbox::Outbox;
 use protocol::status::TransactionId;
-use protocol::units::{Code, Node};
+use protocol::units::{Code, NoMemory, Node};
 use protocol::wire::{Message, Request};
 use std::alloc::Global;
 use std::process::Abort;
+use test_support::{READING, again};
 
 fn nz(rt: &impl Abort) -> Code {
     Code::read("NZ").expect(rt, "a code")
@@ -17,18 +18,45 @@ fn requests(rt: &impl Abort, alloc: Global, count: u32) -> Vec<Message> {
     for number in 1..=count {
         let id = TransactionId::new(nz(rt), number).expect(rt, "an identifier");
         let message = Message::Request(Request { from, to, id });
-        messages.push(message).expect(rt, "memory");
+        messages.push(message).expect(rt, READING);
     }
     messages
 }
 
+/// Asserts that the outbox has no record.
+fn assert_empty(rt: &impl Abort, outbox: &Outbox) {
+    assert_same(rt, (outbox.records(), outbox.sends()), (0, 0));
+    assert_same(rt, outbox.next_unacknowledged(Node::Itl, 0), None);
+}
+
+/// An outbox of one record, which sends two requests.
+fn recorded(rt: &impl Abort, alloc: Global) -> Outbox {
+    let mut outbox = Outbox::new(alloc);
+    let done = again!(
+        outbox.record(requests(rt, alloc, 2)),
+        Err(NoMemory) => assert_empty(rt, &outbox)
+    );
+    done.expect(rt, "memory");
+    outbox
+}
+
+/// Asserts that the outbox has one record, of two requests, and that neither is acknowledged.
+fn assert_unacknowledged(rt: &impl Abort, outbox: &Outbox) {
+    assert_same(rt, (outbox.records(), outbox.sends()), (1, 2));
+    assert!(rt; !outbox.is_acknowledged(0) && !outbox.is_acknowledged(1));
+    assert_same(rt, outbox.next_unacknowledged(Node::Itl, 0), Some(0));
+}
+
 /// An outbox of two requests, the first acknowledged.
 fn acknowledged(rt: &impl Abort, alloc: Global) -> Outbox {
-    let mut outbox = Outbox::new(alloc);
-    outbox.record(requests(rt, alloc, 2)).expect(rt, "memory");
-    assert_same(rt, outbox.next_unacknowledged(Node::Itl, 0), Some(0));
+    let mut outbox = recorded(rt, alloc);
+    assert_unacknowledged(rt, &outbox);
     if outbox.sends() > 0 {
-        outbox.acknowledge(0).expect(rt, "memory");
+        let done = again!(
+            outbox.acknowledge(0),
+            Err(NoMemory) => assert_unacknowledged(rt, &outbox)
+        );
+        done.expect(rt, "memory");
     }
     outbox
 }
@@ -59,9 +87,12 @@ fn messages_are_acknowledged(rt: HostRuntime) {
 fn the_last_record_is_taken_back(rt: HostRuntime) {
     let alloc = rt.alloc();
     let mut outbox = Outbox::new(alloc);
-    outbox.record(requests(&rt, alloc, 3)).expect(&rt, "memory");
+    let done = again!(
+        outbox.record(requests(&rt, alloc, 3)),
+        Err(NoMemory) => assert_empty(&rt, &outbox)
+    );
+    done.expect(&rt, "memory");
     outbox.take_back();
-    assert_same(&rt, (outbox.records(), outbox.sends()), (0, 0));
-    assert_same(&rt, outbox.next_unacknowledged(Node::Itl, 0), None);
+    assert_empty(&rt, &outbox);
     drop(outbox);
 }

@@ -1,14 +1,16 @@
 //! Parts of messages: their copies, and when they are the same.
 
-use crate::message_rows::{NOTIFICATION, PROPOSAL, REQUEST};
 use crate::same::assert_same;
 use protocol::status::Status;
+use protocol::units::NoMemory;
 use protocol::wire::{Message, Notification, NotifiedStatus, Proposal, Request, decode};
 use std::alloc::Global;
 use std::process::Abort;
+use test_support::texts::{ACCEPTED, CHECKED, PROPOSED, REJECTED, REQUEST, TERMINATED_TO_NZ};
+use test_support::{READING, again};
 
 fn message(rt: &impl Abort, alloc: Global, text: &str) -> Message {
-    decode(alloc, text.as_bytes()).expect(rt, "a message")
+    decode(alloc, text.as_bytes()).expect(rt, READING)
 }
 
 fn proposal(rt: &impl Abort, alloc: Global, text: &str) -> Proposal {
@@ -41,18 +43,15 @@ fn request(rt: &impl Abort, alloc: Global, text: &str) -> Request {
     }
 }
 
-/// The log's proposal of the same transfer.
-const CHECKED: &str =
-    r#"{"account":1,"call":"AcceptProposal","from":"ITL","status":"Checked","to":"JP","to_account":7,"to_registry":"JP","transaction":"NZ1","units":["NZ:1:1-100:AAU"]}"#;
-
 #[test]
 fn proposals(rt: HostRuntime) {
     let alloc = rt.alloc();
     let (first, second) = (
-        proposal(&rt, alloc, PROPOSAL),
+        proposal(&rt, alloc, PROPOSED),
         proposal(&rt, alloc, CHECKED),
     );
-    let copy = first.copy().expect(&rt, "memory");
+    let copy = again!(first.copy(), Err(NoMemory) => ());
+    let copy = copy.expect(&rt, "memory");
     assert_same(&rt, (copy.same(&first), copy.same(&second)), (true, false));
     assert_same(&rt, copy.status.status(), Status::Proposed);
     assert_same(&rt, second.status.status(), Status::Checked);
@@ -61,28 +60,23 @@ fn proposals(rt: HostRuntime) {
     drop(first);
 }
 
-const REJECTED: &str =
-    r#"{"call":"AcceptNotification","codes":[301,303],"from":"JP","status":"Rejected","to":"ITL","transaction":"NZ1"}"#;
-
 const REJECTED_ONCE: &str =
     r#"{"call":"AcceptNotification","codes":[301],"from":"JP","status":"Rejected","to":"ITL","transaction":"NZ1"}"#;
-
-const TERMINATED: &str =
-    r#"{"call":"AcceptNotification","codes":[207],"from":"ITL","status":"Terminated","to":"NZ","transaction":"NZ1"}"#;
 
 #[test]
 fn notifications(rt: HostRuntime) {
     let alloc = rt.alloc();
     for (text, other) in [
-        (NOTIFICATION, REJECTED),
+        (ACCEPTED, REJECTED),
         (REJECTED, REJECTED_ONCE),
-        (TERMINATED, NOTIFICATION),
+        (TERMINATED_TO_NZ, ACCEPTED),
     ] {
         let (first, second) = (
             notification(&rt, alloc, text),
             notification(&rt, alloc, other),
         );
-        let copy = first.copy().expect(&rt, "memory");
+        let copy = again!(first.copy(), Err(NoMemory) => ());
+        let copy = copy.expect(&rt, "memory");
         assert_same(&rt, (copy.same(&first), copy.same(&second)), (true, false));
         drop(copy);
         drop(second);
@@ -101,7 +95,8 @@ fn assert_notified(
 ) {
     assert_same(rt, notified.status(), status);
     assert_same(rt, notified.codes(), codes);
-    let copy = notified.copy().expect(rt, "memory");
+    let copy = again!(notified.copy(), Err(NoMemory) => ());
+    let copy = copy.expect(rt, "memory");
     assert_same(rt, (copy.same(notified), copy.same(other)), (true, false));
     drop(copy);
 }
@@ -111,9 +106,9 @@ fn notified_statuses(rt: HostRuntime) {
     let alloc = rt.alloc();
     let other = notification(&rt, alloc, REJECTED_ONCE);
     for (text, status, codes) in [
-        (NOTIFICATION, Status::Accepted, NO_CODES),
+        (ACCEPTED, Status::Accepted, NO_CODES),
         (REJECTED, Status::Rejected, &[301, 303]),
-        (TERMINATED, Status::Terminated, &[207]),
+        (TERMINATED_TO_NZ, Status::Terminated, &[207]),
     ] {
         let told = notification(&rt, alloc, text);
         assert_notified(&rt, &told.notified, status, codes, &other.notified);
@@ -128,7 +123,8 @@ const NO_CODES: &[u16] = &[];
 fn assert_codes_copied(rt: &impl Abort, notified: &NotifiedStatus, expected: &[u16]) {
     match notified {
         NotifiedStatus::Terminated(codes) => {
-            let copy = codes.copy().expect(rt, "memory");
+            let copy = again!(codes.copy(), Err(NoMemory) => ());
+            let copy = copy.expect(rt, "memory");
             assert_same(rt, copy.as_slice(), expected);
             drop(copy);
         }
@@ -138,7 +134,7 @@ fn assert_codes_copied(rt: &impl Abort, notified: &NotifiedStatus, expected: &[u
 
 #[test]
 fn codes_of_the_log(rt: HostRuntime) {
-    let told = notification(&rt, rt.alloc(), TERMINATED);
+    let told = notification(&rt, rt.alloc(), TERMINATED_TO_NZ);
     assert_codes_copied(&rt, &told.notified, &[207]);
     drop(told);
 }

@@ -1,12 +1,11 @@
 use crate::same::assert_same;
 use protocol::status::{Moment, Order, TransactionId};
-use protocol::units::{Code, Items, RawBlock};
+use protocol::units::{Code, Items, NoMemory, RawBlock};
 use protocol::wire::{Input, Number, TextFault, decode_input, decode_input_v1, encode_input};
 use std::alloc::Global;
 use std::process::Abort;
-
-const PROPOSE: &str =
-    r#"{"account":1,"input":"propose","to_account":7,"to_registry":"JP","units":["NZ:1:1-100:AAU"],"v":2}"#;
+use test_support::texts::{ACCEPTED_RECORD, ACCEPTED_RECORD_1, PROPOSE_RECORD, PROPOSE_RECORD_1};
+use test_support::{READING, again};
 
 const CLOSE: &str = r#"{"account":8,"input":"close","v":2}"#;
 
@@ -21,8 +20,8 @@ const ELIGIBLE: &str = r#"{"input":"eligible","may":false,"registry":"NZ","v":2}
 const REQUEST: &str = r#"{"input":"request","transaction":"NZ1","v":2}"#;
 
 const RECORDS: [&str; 9] = [
-    PROPOSE,
-    r#"{"input":"received","message":{"call":"AcceptNotification","codes":[],"from":"ITL","status":"Accepted","to":"NZ","transaction":"NZ1"},"moment":1335830400,"v":2}"#,
+    PROPOSE_RECORD,
+    ACCEPTED_RECORD,
     CLOSE,
     OPEN,
     ACK,
@@ -34,8 +33,8 @@ const RECORDS: [&str; 9] = [
 
 /// The same records in the first format, in the order of `RECORDS`.
 const FIRST_FORMAT: [&str; 9] = [
-    r#"{"account":1,"input":"propose","to_account":7,"to_registry":"JP","units":["NZ:1:1-100:AAU"]}"#,
-    r#"{"input":"received","message":{"call":"AcceptNotification","codes":[],"from":"ITL","status":"Accepted","to":"NZ","transaction":"NZ1"},"moment":1335830400}"#,
+    PROPOSE_RECORD_1,
+    ACCEPTED_RECORD_1,
     r#"{"account":8,"input":"close"}"#,
     r#"{"account":8,"input":"open"}"#,
     r#"{"input":"ack","key":0}"#,
@@ -60,7 +59,8 @@ const KEPT: &[&str] = &[
 
 /// The record is written as that text.
 fn assert_encoded(rt: &impl Abort, alloc: Global, input: &Input, text: &str) {
-    let line = encode_input(alloc, input).expect(rt, "memory");
+    let line = again!(encode_input(alloc, input), Err(NoMemory) => ());
+    let line = line.expect(rt, "memory");
     assert_same(rt, line.as_slice(), text.as_bytes());
 }
 
@@ -70,10 +70,21 @@ fn assert_built(rt: &impl Abort, alloc: Global, input: Input, text: &str) {
     drop(input);
 }
 
+/// What the text is read as.
+fn decoded(alloc: Global, text: &str) -> Result<Input, TextFault> {
+    again!(decode_input(alloc, text.as_bytes()), Err(TextFault::NoMemory) => ())
+}
+
+/// What the text is read as in the first format.
+fn decoded_v1(alloc: Global, text: &str) -> Result<Input, TextFault> {
+    again!(decode_input_v1(alloc, text.as_bytes()), Err(TextFault::NoMemory) => ())
+}
+
 /// The text is a record. Its copy is the same, and is written as it was read.
 fn assert_copied(rt: &impl Abort, alloc: Global, text: &str) {
-    let input = decode_input(alloc, text.as_bytes()).expect(rt, text);
-    let copy = input.copy().expect(rt, "memory");
+    let input = decoded(alloc, text).expect(rt, text);
+    let copy = again!(input.copy(), Err(NoMemory) => ());
+    let copy = copy.expect(rt, "memory");
     assert!(rt; copy.same(&input));
     drop(input);
     assert_built(rt, alloc, copy, text);
@@ -88,7 +99,7 @@ fn records_are_written_and_read_back(rt: HostRuntime) {
 
 fn order(rt: &impl Abort, alloc: Global) -> Input {
     let block = RawBlock::read("NZ:1:1-100:AAU").expect(rt, "a block");
-    let units = Vec::from_slice(alloc, &[block]).expect(rt, "memory");
+    let units = Vec::from_slice(alloc, &[block]).expect(rt, READING);
     let jp = Code::read("JP").expect(rt, "a code");
     let order = Order::new(1, jp, 7, Items::from_vec(units)).expect(rt, "an order");
     Input::Propose(order)
@@ -103,7 +114,7 @@ fn inputs_built_from_parts(rt: HostRuntime) {
     let id = TransactionId::read("NZ1").expect(&rt, "a transaction");
     let may = false;
     let alloc = rt.alloc();
-    assert_built(&rt, alloc, order(&rt, alloc), PROPOSE);
+    assert_built(&rt, alloc, order(&rt, alloc), PROPOSE_RECORD);
     assert_built(&rt, alloc, Input::CloseAccount(eight), CLOSE);
     assert_built(&rt, alloc, Input::OpenAccount(eight), OPEN);
     assert_built(&rt, alloc, Input::Ack(key), ACK);
@@ -121,8 +132,8 @@ fn an_order_is_kept_as_it_was_given(rt: HostRuntime) {
 
 /// The texts are records that differ.
 fn assert_differ(rt: &impl Abort, alloc: Global, one: &str, other: &str) {
-    let input = decode_input(alloc, one.as_bytes()).expect(rt, one);
-    let other = decode_input(alloc, other.as_bytes()).expect(rt, other);
+    let input = decoded(alloc, one).expect(rt, one);
+    let other = decoded(alloc, other).expect(rt, other);
     assert!(rt; !input.same(&other));
     drop(other);
     drop(input);
@@ -182,21 +193,21 @@ const NO_RECORDS: &[&str] = &[
 #[test]
 fn what_is_no_record(rt: HostRuntime) {
     for text in NO_RECORDS {
-        let fault = decode_input(rt.alloc(), text.as_bytes()).err();
+        let fault = decoded(rt.alloc(), text).err();
         assert_same(&rt, fault, Some(TextFault::Shape));
     }
 }
 
 /// The texts write one record in the two formats, and neither is read in the other format.
 fn assert_formats(rt: &impl Abort, alloc: Global, first: &str, second: &str) {
-    let old = decode_input_v1(alloc, first.as_bytes()).expect(rt, first);
-    let input = decode_input(alloc, second.as_bytes()).expect(rt, second);
+    let old = decoded_v1(alloc, first).expect(rt, first);
+    let input = decoded(alloc, second).expect(rt, second);
     assert!(rt; input.same(&old));
     drop(input);
     drop(old);
-    let fault = decode_input(alloc, first.as_bytes()).err();
+    let fault = decoded(alloc, first).err();
     assert_same(rt, fault, Some(TextFault::Shape));
-    let fault = decode_input_v1(alloc, second.as_bytes()).err();
+    let fault = decoded_v1(alloc, second).err();
     assert_same(rt, fault, Some(TextFault::Shape));
 }
 
@@ -241,7 +252,7 @@ const GREATER_UNITS: &[(&str, &str)] = &[
 #[test]
 fn units_beyond_the_first_format(rt: HostRuntime) {
     for (first, second) in GREATER_UNITS {
-        let fault = decode_input_v1(rt.alloc(), first.as_bytes()).err();
+        let fault = decoded_v1(rt.alloc(), first).err();
         assert_same(&rt, fault, Some(TextFault::Shape));
         assert_copied(&rt, rt.alloc(), second);
     }

@@ -1,10 +1,11 @@
 //! Registries of the worked scheme.
 
 use crate::cores::{Seen, scheme};
-use protocol::units::{Block, Code};
+use protocol::units::{Block, Code, NoMemory};
 use registry_core::RegistryCore;
 use std::alloc::Global;
 use std::process::Abort;
+use test_support::again;
 
 /// The accounts of both registries.
 const ACCOUNTS: [u64; 4] = [1, 2, 7, 8];
@@ -13,9 +14,9 @@ const ACCOUNTS: [u64; 4] = [1, 2, 7, 8];
 pub fn registry(rt: &impl Abort, alloc: Global, code: &str, room: &str) -> RegistryCore {
     let scheme = scheme(rt, alloc, room);
     let code = Code::read(code).expect(rt, "a code");
-    let registry = RegistryCore::new(alloc, &scheme, code).expect(rt, "memory");
+    let registry = again!(RegistryCore::new(alloc, &scheme, code), Err(NoMemory) => ());
     drop(scheme);
-    registry
+    registry.expect(rt, "memory")
 }
 
 impl Seen for RegistryCore {

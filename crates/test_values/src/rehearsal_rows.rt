@@ -1,5 +1,6 @@
 use crate::failing_streams::Full;
-use crate::same::assert_same;
+use crate::limit_rows::{EVENT, SCHEME};
+use crate::same::{assert_same, room};
 use command_faults::{Cause, OpFault};
 use operator::{Action, UsageFault, parse_words};
 use rehearse::rehearse;
@@ -7,10 +8,12 @@ use std::alloc::Global;
 use std::io::{self, ErrorKind, Read, Write};
 use std::process::Abort;
 use streams::{Calls, ReadFault, read_input, write_text};
+use test_support::{READING, again};
 
 /// A scheme, and one event.
-const INPUT: &str =
-    "{\"records\":9,\"registries\":[{\"accounts\":[],\"allotted\":[],\"code\":\"JP\",\"eligible\":true,\"kinds\":[]},{\"accounts\":[],\"allotted\":[],\"code\":\"NZ\",\"eligible\":true,\"kinds\":[]}]}\ncommit NZ 0\n";
+fn input(rt: &impl Abort, alloc: Global) -> String {
+    format!(in alloc; "{SCHEME}\n{EVENT}").expect(rt, READING)
+}
 
 const REPORT: &str = "\
 1 done
@@ -20,19 +23,17 @@ owed 0
 end
 ";
 
-/// What an input comes to: the result, and what was written.
-fn rehearsed(alloc: Global, input: &str) -> (Result<(), OpFault>, Vec<u8>) {
-    let mut reader = input.as_bytes();
-    let mut writer = Vec::new(alloc);
-    let ended = rehearse(alloc, &mut reader, &mut writer);
-    (ended, writer)
-}
-
 #[test]
 fn writes_a_report(rt: HostRuntime) {
-    let (ended, written) = rehearsed(rt.alloc(), INPUT);
+    let alloc = rt.alloc();
+    let input = input(&rt, alloc);
+    let mut writer = room(&rt, alloc);
+    let ended = again!(
+        rehearse(alloc, &mut input.as_bytes(), &mut writer),
+        Err(OpFault::NoMemory) => assert!(rt; writer.is_empty())
+    );
     assert_same(&rt, ended, Ok(()));
-    assert!(rt; written.as_slice() == REPORT.as_bytes());
+    assert!(rt; writer.as_slice() == REPORT.as_bytes());
 }
 
 /// Gives its bytes one by one, with an error before the byte at `at`.
@@ -59,15 +60,22 @@ impl Read for Interrupted {
     }
 }
 
-/// Where the reader fails with `kind` after two bytes, `rehearse` fails with `fault` and writes nothing.
-fn assert_interrupted(rt: &impl Abort, alloc: Global, kind: ErrorKind, fault: OpFault) {
-    let mut reader = Interrupted {
+/// A reader of three bytes that fails with `kind` once, after the second.
+fn broken_once(kind: ErrorKind) -> Interrupted {
+    Interrupted {
         bytes: b"{}\n",
         at: 2,
         kind,
-    };
-    let mut writer = Vec::new(alloc);
-    let ended = rehearse(alloc, &mut reader, &mut writer);
+    }
+}
+
+/// Where the reader fails with `kind` after two bytes, `rehearse` fails with `fault` and writes nothing.
+fn assert_interrupted(rt: &impl Abort, alloc: Global, kind: ErrorKind, fault: OpFault) {
+    let mut writer = room(rt, alloc);
+    let ended = again!(
+        rehearse(alloc, &mut broken_once(kind), &mut writer),
+        Err(OpFault::NoMemory) => assert!(rt; writer.is_empty())
+    );
     assert_same(rt, ended, Err(fault));
     assert!(rt; writer.is_empty());
 }
@@ -93,13 +101,11 @@ fn reads_of(fault: ReadFault) -> Calls {
 
 #[test]
 fn tells_how_often_it_read(rt: HostRuntime) {
-    let mut reader = Interrupted {
-        bytes: b"{}\n",
-        at: 2,
-        kind: ErrorKind::Other,
-    };
-    let read = read_input(rt.alloc(), &mut reader).err();
-    let calls = reads_of(read.expect(&rt, "a fault"));
+    let read = again!(
+        read_input(rt.alloc(), &mut broken_once(ErrorKind::Other)),
+        Err(ReadFault::NoMemory(calls)) => assert_same(&rt, calls.failures(), 0)
+    );
+    let calls = reads_of(read.err().expect(&rt, "a fault"));
     assert_same(
         &rt,
         (calls.count(), calls.failures(), calls.interruptions()),
@@ -143,13 +149,13 @@ fn tells_how_often_it_was_interrupted(rt: HostRuntime) {
 
 #[test]
 fn tells_how_much_was_written(rt: HostRuntime) {
-    let mut reader = INPUT.as_bytes();
+    let input = input(&rt, rt.alloc());
     let mut writer = Full { room: 15 };
-    assert_same(
-        &rt,
-        rehearse(rt.alloc(), &mut reader, &mut writer),
-        Err(OpFault::Write(15)),
+    let ended = again!(
+        rehearse(rt.alloc(), &mut input.as_bytes(), &mut writer),
+        Err(OpFault::NoMemory) => assert_same(&rt, writer.room, 15)
     );
+    assert_same(&rt, ended, Err(OpFault::Write(15)));
 }
 
 /// Takes one byte at every third write. The other writes are interrupted.
@@ -178,12 +184,16 @@ impl Write for Halting {
 
 #[test]
 fn writes_on_after_interruptions(rt: HostRuntime) {
-    let mut reader = INPUT.as_bytes();
+    let input = input(&rt, rt.alloc());
     let mut writer = Halting {
         interrupted: 0,
         taken: 0,
     };
-    assert_same(&rt, rehearse(rt.alloc(), &mut reader, &mut writer), Ok(()));
+    let ended = again!(
+        rehearse(rt.alloc(), &mut input.as_bytes(), &mut writer),
+        Err(OpFault::NoMemory) => assert_same(&rt, (writer.interrupted, writer.taken), (0, 0))
+    );
+    assert_same(&rt, ended, Ok(()));
     assert_same(&rt, writer.taken, REPORT.len());
 }
 
@@ -200,7 +210,7 @@ enum Outcome {
     NoMemory,
 }
 
-fn outcome_of(alloc: Global, words: &[&str]) -> Outcome {
+fn parsed_once(alloc: Global, words: &[&str]) -> Outcome {
     let parsed = parse_words(alloc, words);
     let outcome = match &parsed {
         Ok(Action::Rehearse) => Outcome::Rehearse,
@@ -214,6 +224,10 @@ fn outcome_of(alloc: Global, words: &[&str]) -> Outcome {
     };
     drop(parsed);
     outcome
+}
+
+fn outcome_of(alloc: Global, words: &[&str]) -> Outcome {
+    again!(parsed_once(alloc, words), Outcome::NoMemory => ())
 }
 
 const COMMANDS: &[(&[&str], Outcome)] = &[
@@ -281,7 +295,8 @@ fn assert_show(rt: &impl Abort, action: &Action, words: [&str; 3]) {
 
 /// What the words of a command line ask for.
 fn action(rt: &impl Abort, alloc: Global, words: &[&str]) -> Action {
-    parse_words(alloc, words).ok().expect(rt, "an action")
+    let parsed = again!(parse_words(alloc, words), Err(UsageFault::NoMemory) => ());
+    parsed.ok().expect(rt, "an action")
 }
 
 #[test]

@@ -1,5 +1,7 @@
 use crate::same::assert_same;
 use protocol::wire::{Reply, ReplyCode, ReplyFault};
+use std::alloc::Global;
+use test_support::again;
 
 const TEXTS: &[(u16, &str)] = &[
     (0, r#"{"code":0,"result":"received"}"#),
@@ -23,13 +25,18 @@ fn reply(number: u16) -> Option<Reply> {
     Some(Reply::Refused(ReplyCode::new(number)?))
 }
 
+/// What the line is read as.
+fn read(alloc: Global, line: &str) -> Result<Reply, ReplyFault> {
+    again!(Reply::read(alloc, line.as_bytes()), Err(ReplyFault::NoMemory) => ())
+}
+
 #[test]
 fn a_reply_is_written_and_read_back(rt: HostRuntime) {
     let alloc = rt.alloc();
     for (number, text) in TEXTS {
         let reply = reply(*number).expect(&rt, "a reply's number");
         assert_same(&rt, reply.write().as_slice(), text.as_bytes());
-        assert_same(&rt, Reply::read(alloc, text.as_bytes()), Ok(reply));
+        assert_same(&rt, read(alloc, text), Ok(reply));
     }
 }
 
@@ -37,7 +44,7 @@ fn a_reply_is_written_and_read_back(rt: HostRuntime) {
 fn blanks_and_another_order_are_read(rt: HostRuntime) {
     let alloc = rt.alloc();
     let line = " { \"result\" : \"refused\",\t\"code\":46 } ";
-    assert_same(&rt, Reply::read(alloc, line.as_bytes()).ok(), reply(46));
+    assert_same(&rt, read(alloc, line).ok(), reply(46));
 }
 
 const NO_REPLIES: &[&str] = &[
@@ -61,8 +68,7 @@ const NO_REPLIES: &[&str] = &[
 fn what_is_no_reply_is_told(rt: HostRuntime) {
     let alloc = rt.alloc();
     for line in NO_REPLIES {
-        let read = Reply::read(alloc, line.as_bytes());
-        assert_same(&rt, read, Err(ReplyFault::NotReply));
+        assert_same(&rt, read(alloc, line), Err(ReplyFault::NotReply));
     }
     assert!(rt; ReplyCode::new(40).is_none() && ReplyCode::new(51).is_none());
 }

@@ -1,8 +1,10 @@
+use crate::cores::{ROOM, scheme};
 use crate::same::assert_same;
 use protocol::scheme::{Allotment, Holder, Scheme, SchemeFault, SchemeRegistry};
-use protocol::units::{Block, Code, Kind, Period, Unit, UnitMap};
+use protocol::units::{Block, Code, Kind, NoMemory, Period, Unit, UnitMap};
 use std::alloc::Global;
 use std::process::Abort;
+use test_support::{READING, again};
 
 const JP: &str =
     r#"{"accounts":[7,8],"allotted":[],"code":"JP","eligible":true,"kinds":["AAU","CER"]}"#;
@@ -11,11 +13,16 @@ const NZ: &str =
     r#"{"accounts":[1,2],"allotted":[{"account":1,"units":["NZ:1:1-100:AAU"]}],"code":"NZ","eligible":true,"kinds":["AAU","RMU","ERU","CER","tCER","lCER"]}"#;
 
 fn text_of(rt: &impl Abort, alloc: Global, registries: &str) -> String {
-    format!(in alloc; "{{\"records\":1000,\"registries\":[{registries}]}}").expect(rt, "memory")
+    format!(in alloc; "{{\"records\":1000,\"registries\":[{registries}]}}").expect(rt, READING)
+}
+
+/// What the text is read as.
+fn read_text(alloc: Global, text: &str) -> Result<Scheme, SchemeFault> {
+    again!(Scheme::read(alloc, text.as_bytes()), Err(SchemeFault::NoMemory) => ())
 }
 
 fn read(rt: &impl Abort, alloc: Global, registries: &str) -> Result<Scheme, SchemeFault> {
-    Scheme::read(alloc, text_of(rt, alloc, registries).as_bytes())
+    read_text(alloc, text_of(rt, alloc, registries).as_str())
 }
 
 /// Asserts that this is wrong with the registries, or nothing.
@@ -27,7 +34,7 @@ fn registry(rt: &impl Abort, alloc: Global, code: &str, accounts: &str, allotted
     let text = format!(in alloc;
         "{{\"accounts\":[{accounts}],\"allotted\":[{allotted}],\"code\":\"{code}\",\"eligible\":false,\"kinds\":[]}}"
     );
-    text.expect(rt, "memory")
+    text.expect(rt, READING)
 }
 
 /// Asserts that this is wrong with JP and a registry NZ of those accounts and allotments, or nothing.
@@ -39,7 +46,7 @@ fn assert_beside_jp(
     wanted: Option<SchemeFault>,
 ) {
     let nz = registry(rt, alloc, "NZ", accounts, allotted);
-    let both = format!(in alloc; "{JP},{nz}").expect(rt, "memory");
+    let both = format!(in alloc; "{JP},{nz}").expect(rt, READING);
     assert_fault(rt, alloc, both.as_str(), wanted);
 }
 
@@ -48,8 +55,8 @@ fn repeated(rt: &impl Abort, alloc: Global, count: u64, before: &str, after: &st
     let mut text = String::new(alloc);
     for i in 1..=count {
         let comma = if i > 1 { "," } else { "" };
-        let next = format!(in alloc; "{comma}{before}{i}{after}").expect(rt, "memory");
-        text.push_str(next.as_str()).expect(rt, "memory");
+        let next = format!(in alloc; "{comma}{before}{i}{after}").expect(rt, READING);
+        text.push_str(next.as_str()).expect(rt, READING);
     }
     text
 }
@@ -88,9 +95,10 @@ fn assert_worked(rt: &impl Abort, scheme: &Scheme) {
 
 /// The scheme of these registries is that of JP and NZ, and so is its copy.
 fn assert_read(rt: &impl Abort, alloc: Global, first: &str, second: &str) {
-    let registries = format!(in alloc; "{first},{second}").expect(rt, "memory");
+    let registries = format!(in alloc; "{first},{second}").expect(rt, READING);
     let scheme = read(rt, alloc, registries.as_str()).expect(rt, "a scheme");
-    let copy = scheme.copy(alloc).expect(rt, "memory");
+    let copy = again!(scheme.copy(alloc), Err(NoMemory) => ());
+    let copy = copy.expect(rt, "memory");
     assert_worked(rt, &scheme);
     assert_worked(rt, &copy);
     drop(copy);
@@ -101,12 +109,6 @@ fn assert_read(rt: &impl Abort, alloc: Global, first: &str, second: &str) {
 fn a_scheme_is_read_and_copied(rt: HostRuntime) {
     assert_read(&rt, rt.alloc(), JP, NZ);
     assert_read(&rt, rt.alloc(), NZ, JP);
-}
-
-/// The scheme of JP and NZ.
-fn worked(rt: &impl Abort, alloc: Global) -> Scheme {
-    let registries = format!(in alloc; "{JP},{NZ}").expect(rt, "memory");
-    read(rt, alloc, registries.as_str()).expect(rt, "a scheme")
 }
 
 /// The unit of that number, of those that NZ allotted in the first period.
@@ -140,8 +142,9 @@ fn a_holder_is_found(rt: HostRuntime) {
         account,
         kind,
     };
-    let scheme = worked(&rt, rt.alloc());
-    let allotments = scheme.allotments(rt.alloc()).expect(&rt, "memory");
+    let scheme = scheme(&rt, rt.alloc(), ROOM);
+    let allotments = again!(scheme.allotments(rt.alloc()), Err(NoMemory) => ());
+    let allotments = allotments.expect(&rt, "memory");
     assert!(rt; scheme.member(registry).is_some());
     let (last, next) = (unit(registry, 100), unit(registry, 101));
     assert_holder(&rt, &scheme, &allotments, &last, Some(holder));
@@ -152,9 +155,9 @@ fn a_holder_is_found(rt: HostRuntime) {
 
 #[test]
 fn what_is_no_scheme(rt: HostRuntime) {
-    let empty = Scheme::read(rt.alloc(), b"");
+    let empty = read_text(rt.alloc(), "");
     assert_same(&rt, empty.err(), Some(SchemeFault::NotJson));
-    let list = Scheme::read(rt.alloc(), b"[]");
+    let list = read_text(rt.alloc(), "[]");
     assert_same(&rt, list.err(), Some(SchemeFault::Shape));
 }
 
@@ -190,7 +193,7 @@ fn faults_of_allotments(rt: HostRuntime) {
 fn faults_of_registries(rt: HostRuntime) {
     let alloc = rt.alloc();
     let twice = registry(&rt, alloc, "JP", "7,7", "");
-    let codes = format!(in alloc; "{JP},{twice}").expect(&rt, "memory");
+    let codes = format!(in alloc; "{JP},{twice}").expect(&rt, READING);
     assert_fault(&rt, alloc, "{}", Some(SchemeFault::Shape));
     assert_fault(&rt, alloc, JP, Some(SchemeFault::TooFew));
     assert_fault(&rt, alloc, twice.as_str(), Some(SchemeFault::TooFew));

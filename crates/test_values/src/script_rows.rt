@@ -5,6 +5,7 @@ use protocol::wire::Input;
 use std::alloc::Global;
 use std::process::Abort;
 use std::test::Fail;
+use test_support::again;
 
 /// What a line of a script is.
 #[derive(Clone, Copy, Debug, PartialEq, Eq)]
@@ -36,10 +37,16 @@ fn kind_of(line: &ScriptLine) -> Kind {
     }
 }
 
+/// The lines of the script, read from its start.
+fn script(alloc: Global, text: &str) -> Result<Vec<ScriptLine>, OpFault> {
+    let mut reader = text.as_bytes();
+    read_script(alloc, &mut reader)
+}
+
 /// The first line with a fault, and the fault.
 fn fault_in(alloc: Global, text: &str) -> Result<(u64, Cause), Fail> {
-    let mut reader = text.as_bytes();
-    match read_script(alloc, &mut reader).err() {
+    let read = again!(script(alloc, text), Err(OpFault::NoMemory) => ());
+    match read.err() {
         Some(OpFault::Input { line, cause }) => Ok((line, cause)),
         _ => Err("no fault".into()),
     }
@@ -78,16 +85,21 @@ fn assert_kinds(rt: &impl Abort, lines: &[ScriptLine], kinds: &[Kind]) {
 
 #[test]
 fn reads_each_line(rt: HostRuntime) -> Result<(), Fail> {
-    let mut reader = LINES.as_bytes();
-    let lines = read_script(rt.alloc(), &mut reader).map_err(|_| "no script")?;
+    let lines = again!(script(rt.alloc(), LINES), Err(OpFault::NoMemory) => ());
+    let lines = lines.map_err(|_| "no script")?;
     assert_kinds(&rt, lines.as_slice(), KINDS);
     drop(lines);
     Ok(())
 }
 
+/// The line of that text.
+fn line_of(alloc: Global, text: &str) -> Result<ScriptLine, WordsFault> {
+    again!(script_line_of(alloc, text.as_bytes()), Err(WordsFault::NoMemory) => ())
+}
+
 /// The text is a line of that kind.
 fn assert_kind(rt: &impl Abort, alloc: Global, text: &str, kind: Kind) {
-    let line = script_line_of(alloc, text.as_bytes()).expect(rt, "a line");
+    let line = line_of(alloc, text).expect(rt, "a line");
     assert_same(rt, kind_of(&line), kind);
     drop(line);
 }
@@ -97,7 +109,7 @@ fn reads_a_line_by_itself(rt: HostRuntime) {
     for (text, kind) in LINES.lines().zip(KINDS) {
         assert_kind(&rt, rt.alloc(), text, *kind);
     }
-    let fault = script_line_of(rt.alloc(), b"ack NZ 0").err();
+    let fault = line_of(rt.alloc(), "ack NZ 0").err();
     assert_same(&rt, fault, Some(WordsFault::Order));
 }
 

@@ -1,7 +1,7 @@
 use crate::failing_streams::Full;
 use crate::given::Given::{self, Event, Message};
-use crate::given::input_of;
-use crate::same::assert_same;
+use crate::given::{PROPOSE, inputs};
+use crate::same::{assert_same, room};
 use command_faults::{Cause, OpFault, node_of, read_scheme};
 use operator::show;
 use protocol::scheme::Scheme;
@@ -10,12 +10,11 @@ use std::alloc::Global;
 use std::io::{self, ErrorKind, Read};
 use std::process::Abort;
 use stores::{Kept, MemoryStore, NodeStore, StoreFault};
+use test_support::{READING, again, texts};
 
-const ORDER: Given = Event("propose NZ 1 JP 7 NZ:1:1-100:AAU");
+const ORDER: Given = Event(PROPOSE);
 
-const ACCEPTED: Given = Message(
-    r#"{"call":"AcceptNotification","codes":[],"from":"ITL","status":"Accepted","to":"NZ","transaction":"NZ1"}"#,
-);
+const ACCEPTED: Given = Message(texts::ACCEPTED_TO_NZ);
 
 const SHOWN: &str =
     r#"0 {"account":1,"input":"propose","to_account":7,"to_registry":"JP","units":["NZ:1:1-100:AAU"],"v":2}
@@ -30,6 +29,14 @@ fn nz(rt: &impl Abort) -> Node {
     Node::Registry(Code::read("NZ").expect(rt, "a code"))
 }
 
+/// Reopens a store that found no memory, and asserts that it has no record.
+fn reopen_empty(rt: &impl Abort, store: &mut MemoryStore) {
+    assert!(rt; store.reopen().is_ok());
+    let kept = store.load().ok().expect(rt, "the records");
+    assert_same(rt, kept.len(), 0);
+    drop(kept);
+}
+
 /// Has the store append the two records, and asserts what that comes to.
 fn append_two(
     rt: &impl Abort,
@@ -37,15 +44,23 @@ fn append_two(
     store: &mut MemoryStore,
     wanted: Result<(), StoreFault>,
 ) {
-    let records = [input_of(rt, alloc, ORDER), input_of(rt, alloc, ACCEPTED)];
-    assert_same(rt, store.append(&records), wanted);
+    let records = inputs(rt, alloc, &[ORDER, ACCEPTED]);
+    let done = again!(
+        store.append(&records),
+        Err(StoreFault::NoMemory) => reopen_empty(rt, store)
+    );
+    assert_same(rt, done, wanted);
     drop(records);
 }
 
 /// Asserts that the node's store is shown as that text.
 fn assert_shown(rt: &impl Abort, alloc: Global, node: Node, store: &mut MemoryStore, text: &str) {
-    let mut writer = Vec::new(alloc);
-    assert_same(rt, show(alloc, node, store, &mut writer), Ok(()));
+    let mut writer = room(rt, alloc);
+    let shown = again!(
+        show(alloc, node, store, &mut writer),
+        Err(OpFault::NoMemory) => assert!(rt; writer.is_empty())
+    );
+    assert_same(rt, shown, Ok(()));
     assert!(rt; writer.as_slice() == text.as_bytes());
 }
 
@@ -65,7 +80,10 @@ fn tells_how_much_was_shown(rt: HostRuntime) {
     let mut store = MemoryStore::new(alloc, nz(&rt));
     append_two(&rt, alloc, &mut store, Ok(()));
     let mut writer = Full { room: 103 };
-    let shown = show(alloc, nz(&rt), &mut store, &mut writer);
+    let shown = again!(
+        show(alloc, nz(&rt), &mut store, &mut writer),
+        Err(OpFault::NoMemory) => assert_same(&rt, writer.room, 103)
+    );
     assert_same(&rt, shown, Err(OpFault::Write(103)));
 }
 
@@ -74,9 +92,12 @@ fn shows_no_store_that_waits(rt: HostRuntime) {
     let (alloc, node) = (rt.alloc(), nz(&rt));
     let mut store = MemoryStore::fused(alloc, node, 0, Kept::None);
     append_two(&rt, alloc, &mut store, Err(StoreFault::Device));
-    let mut writer = Vec::new(alloc);
+    let mut writer = room(&rt, alloc);
     let fault = StoreFault::Reopen;
-    let shown = show(alloc, node, &mut store, &mut writer);
+    let shown = again!(
+        show(alloc, node, &mut store, &mut writer),
+        Err(OpFault::NoMemory) => assert!(rt; writer.is_empty())
+    );
     assert_same(&rt, shown, Err(OpFault::Store { node, fault }));
     assert!(rt; writer.is_empty());
 }
@@ -100,9 +121,11 @@ impl Read for Broken {
 
 #[test]
 fn reads_no_broken_file(rt: HostRuntime) {
-    let mut reader = Broken { room: 3 };
-    let fault = read_scheme(rt.alloc(), &mut reader).err();
-    assert_same(&rt, fault, Some(OpFault::Read));
+    let read = again!(
+        read_scheme(rt.alloc(), &mut Broken { room: 3 }),
+        Err(OpFault::NoMemory) => ()
+    );
+    assert_same(&rt, read.err(), Some(OpFault::Read));
 }
 
 /// How many records the scheme allows.
@@ -114,8 +137,11 @@ fn records(scheme: Scheme) -> u64 {
 
 /// Asserts what a file with that text comes to: how many records the scheme allows, or the cause of its fault.
 fn assert_file(rt: &impl Abort, alloc: Global, text: &str, wanted: Result<u64, Cause>) {
-    let mut reader = text.as_bytes();
-    let read = match read_scheme(alloc, &mut reader) {
+    let read = again!(
+        read_scheme(alloc, &mut text.as_bytes()),
+        Err(OpFault::NoMemory) => ()
+    );
+    let read = match read {
         Ok(scheme) => Ok(records(scheme)),
         Err(OpFault::Input { line: 1, cause }) => Err(cause),
         Err(_) => Err(Cause::Order),
@@ -141,7 +167,7 @@ const NO_SCHEMES: &[(&str, Cause)] = &[
 fn reads_a_file(rt: HostRuntime) {
     let alloc = rt.alloc();
     for (end, wanted) in ENDS {
-        let text = format!(in alloc; "{SCHEME}{end}").expect(&rt, "memory");
+        let text = format!(in alloc; "{SCHEME}{end}").expect(&rt, READING);
         assert_file(&rt, alloc, text.as_str(), *wanted);
     }
     for (text, cause) in NO_SCHEMES {
@@ -151,11 +177,11 @@ fn reads_a_file(rt: HostRuntime) {
 
 /// The scheme with spaces after it, 1,048,576 bytes in all, and then that end.
 fn longest(rt: &impl Abort, alloc: Global, end: &str) -> String {
-    let mut text = String::from_str(alloc, SCHEME).expect(rt, "memory");
+    let mut text = String::from_str(alloc, SCHEME).expect(rt, READING);
     for _ in SCHEME.len()..1_048_576 {
-        text.push_str(" ").expect(rt, "memory");
+        text.push_str(" ").expect(rt, READING);
     }
-    text.push_str(end).expect(rt, "memory");
+    text.push_str(end).expect(rt, READING);
     text
 }
 
@@ -174,7 +200,7 @@ fn reads_a_file_of_a_mebibyte(rt: HostRuntime) {
 
 #[test]
 fn nodes_of_a_scheme(rt: HostRuntime) {
-    let scheme = Scheme::read(rt.alloc(), SCHEME.as_bytes()).expect(&rt, "a scheme");
+    let scheme = Scheme::read(rt.alloc(), SCHEME.as_bytes()).expect(&rt, READING);
     let nz = nz(&rt);
     let cause = Cause::Order;
     let fault = OpFault::Input { line: 1, cause };

@@ -4,9 +4,10 @@ use protocol::status::{
     Content, Moment, MomentFault, Order, RecordedStatus, Role, Row, RowInput, Status,
     TransactionId, row,
 };
-use protocol::units::{Block, Code, Items, Kind, Period, RawBlock};
+use protocol::units::{Block, Code, Items, Kind, NoMemory, Period, RawBlock};
 use std::alloc::Global;
 use std::process::Abort;
+use test_support::{READING, again};
 
 const TOO_LONG: u64 = 1_000_000_000_000_000_000;
 
@@ -22,7 +23,7 @@ fn content(
     let mut blocks = Vec::new(alloc);
     for text in units {
         let block = Block::read(text).expect(rt, "a block");
-        blocks.push(block).expect(rt, "memory");
+        blocks.push(block).expect(rt, READING);
     }
     let units = Items::from_vec(blocks);
     Content::new(account, code(rt, acquirer), to_account, units)
@@ -44,7 +45,7 @@ fn order(
         first,
         last,
     };
-    let units = Vec::from_slice(alloc, &[block]).expect(rt, "memory");
+    let units = Vec::from_slice(alloc, &[block]).expect(rt, READING);
     Order::new(account, code(rt, "JP"), to_account, Items::from_vec(units))
 }
 
@@ -73,7 +74,8 @@ fn moment_texts(rt: HostRuntime) {
 fn an_identifier_is_written_as_it_was_read(rt: HostRuntime) {
     let id = TransactionId::new(code(&rt, "NZ"), 999_999).expect(&rt, "the last number");
     assert_same(&rt, TransactionId::read("NZ999999"), Some(id));
-    let written = id.write(rt.alloc()).expect(&rt, "memory");
+    let written = again!(id.write(rt.alloc()), Err(NoMemory) => ());
+    let written = written.expect(&rt, "memory");
     assert_same(&rt, written.as_str(), "NZ999999");
 }
 
@@ -237,7 +239,8 @@ fn made(
 #[test]
 fn a_content_and_its_copy(rt: HostRuntime) {
     let one = made(&rt, rt.alloc(), 1, "JP", 7, &BLOCKS);
-    let copy = one.copy().expect(&rt, "memory");
+    let copy = again!(one.copy(), Err(NoMemory) => ());
+    let copy = copy.expect(&rt, "memory");
     assert_compared(&rt, &one, &copy, true);
     drop(copy);
     drop(one);
@@ -263,7 +266,8 @@ fn assert_copied(
     first: u64,
     last: u64,
 ) {
-    let copy = order.copy().expect(rt, "memory");
+    let copy = again!(order.copy(), Err(NoMemory) => ());
+    let copy = copy.expect(rt, "memory");
     assert!(rt; copy.same(order));
     let accounts = (copy.account(), copy.to_account());
     assert_same(rt, accounts, (account, to_account));

@@ -1,10 +1,12 @@
 use crate::same::assert_same;
+use protocol::units::refusal_code::OUT_OF_MEMORY;
 use protocol::units::{
-    Block, BlockFault, BlockSet, Code, Interval, Items, Kind, Node, Period, RawBlock, Refusal,
-    Unit, UnitMap, cut, number, overlaps,
+    Block, BlockFault, BlockSet, Code, Interval, Items, Kind, NoMemory, Node, Period, RawBlock,
+    Refusal, Unit, UnitMap, cut, number, overlaps,
 };
 use std::alloc::Global;
 use std::process::Abort;
+use test_support::{READING, again};
 
 #[test]
 fn block_texts(rt: HostRuntime) {
@@ -31,6 +33,13 @@ fn block_texts(rt: HostRuntime) {
     );
 }
 
+/// The block is written as that text.
+fn assert_written(rt: &impl Abort, alloc: Global, block: &Block, text: &str) {
+    let written = again!(block.write(alloc), Err(NoMemory) => ());
+    let written = written.expect(rt, "memory");
+    assert_same(rt, written.as_str(), text);
+}
+
 #[test]
 fn a_block_is_written_as_it_was_read(rt: HostRuntime) {
     let text = "CH:2:101-250:tCER";
@@ -38,8 +47,7 @@ fn a_block_is_written_as_it_was_read(rt: HostRuntime) {
     let block = Block::new(origin, Period::Second, Kind::Tcer, 101, 250).expect(&rt, "a block");
     assert_same(&rt, Block::read(text), Ok(block));
     assert_same(&rt, RawBlock::read(text), Some(block.raw));
-    let written = block.write(rt.alloc()).expect(&rt, "memory");
-    assert_same(&rt, written.as_str(), text);
+    assert_written(&rt, rt.alloc(), &block, text);
     assert_same(&rt, block.count(), 150);
     let (period, number) = (Period::Second, 250);
     assert!(rt;
@@ -72,9 +80,10 @@ fn the_pieces_of_texts(rt: HostRuntime) {
 #[test]
 fn a_list_and_its_copy(rt: HostRuntime) {
     let alloc = rt.alloc();
-    let numbers = Vec::from_slice(alloc, &[3u64, 1, 2]).expect(&rt, "memory");
+    let numbers = Vec::from_slice(alloc, &[3u64, 1, 2]).expect(&rt, READING);
     let list = Items::from_vec(numbers);
-    let copy = list.copy().expect(&rt, "memory");
+    let copy = again!(list.copy(), Err(NoMemory) => ());
+    let copy = copy.expect(&rt, "memory");
     assert_same(&rt, list.as_slice(), [3, 1, 2].as_slice());
     assert_same(&rt, copy.into_vec().as_slice(), [3, 1, 2].as_slice());
     let none: Items<u64> = Items::new(alloc);
@@ -96,14 +105,29 @@ fn refusal(code: u16) -> Result<(), Refusal> {
     Err(Refusal { code })
 }
 
+/// How many units the set has, and in how many intervals.
+fn size(set: &BlockSet) -> (u64, usize) {
+    (set.count(), set.pieces().len())
+}
+
 /// Adds the block to the set, and asserts what comes of it.
 fn assert_added(rt: &impl Abort, set: &mut BlockSet, block: Block, wanted: Result<(), Refusal>) {
-    assert_same(rt, set.add(block), wanted);
+    let old = size(set);
+    let added = again!(
+        set.add(block),
+        Err(Refusal { code: OUT_OF_MEMORY }) => assert_same(rt, size(set), old)
+    );
+    assert_same(rt, added, wanted);
 }
 
 /// Takes the block out of the set, and asserts what comes of it.
 fn assert_taken(rt: &impl Abort, set: &mut BlockSet, block: Block, wanted: Result<(), Refusal>) {
-    assert_same(rt, set.take(block), wanted);
+    let old = size(set);
+    let taken = again!(
+        set.take(block),
+        Err(Refusal { code: OUT_OF_MEMORY }) => assert_same(rt, size(set), old)
+    );
+    assert_same(rt, taken, wanted);
 }
 
 /// A hundred units, put in as two blocks.
@@ -118,7 +142,8 @@ fn hundred(rt: &impl Abort, alloc: Global) -> BlockSet {
 /// The set is these blocks, and has `count` units.
 fn assert_set(rt: &impl Abort, set: &BlockSet, alloc: Global, wanted: &[Block], count: u64) {
     assert_same(rt, set.count(), count);
-    let blocks = set.canonical(alloc).expect(rt, "memory");
+    let blocks = again!(set.canonical(alloc), Err(NoMemory) => ());
+    let blocks = blocks.expect(rt, "memory");
     assert!(rt; blocks.as_slice() == wanted);
 }
 
@@ -135,10 +160,9 @@ fn block_set(rt: HostRuntime) {
     assert_set(&rt, &set, alloc, &[low, high], 80);
     assert_added(&rt, &mut set, middle, Ok(()));
     assert_set(&rt, &set, alloc, &[low, middle, high], 100);
-    let written = high.write(alloc).expect(&rt, "memory");
-    assert_same(&rt, written.as_str(), "NZ:1:61-100:AAU");
-    drop(written);
-    let copy = set.copy().expect(&rt, "memory");
+    assert_written(&rt, alloc, &high, "NZ:1:61-100:AAU");
+    let copy = again!(set.copy(), Err(NoMemory) => ());
+    let copy = copy.expect(&rt, "memory");
     assert_set(&rt, &copy, alloc, &[low, middle, high], 100);
     drop(copy);
     drop(set);
@@ -161,9 +185,34 @@ fn blocks_of_a_set(rt: HostRuntime) {
     drop(set);
 }
 
-/// The set has that many units, in that many intervals.
-fn assert_size(rt: &impl Abort, set: &BlockSet, units: u64, intervals: usize) {
-    assert_same(rt, (set.count(), set.pieces().len()), (units, intervals));
+/// Adds the blocks to the set, and asserts what comes of it.
+fn assert_all_added(
+    rt: &impl Abort,
+    set: &mut BlockSet,
+    blocks: &[Block],
+    wanted: Result<(), Refusal>,
+) {
+    let old = size(set);
+    let added = again!(
+        set.add_all(blocks),
+        Err(Refusal { code: OUT_OF_MEMORY }) => assert_same(rt, size(set), old)
+    );
+    assert_same(rt, added, wanted);
+}
+
+/// Takes the blocks out of the set, and asserts what comes of it.
+fn assert_all_taken(
+    rt: &impl Abort,
+    set: &mut BlockSet,
+    blocks: &[Block],
+    wanted: Result<(), Refusal>,
+) {
+    let old = size(set);
+    let taken = again!(
+        set.take_all(blocks),
+        Err(Refusal { code: OUT_OF_MEMORY }) => assert_same(rt, size(set), old)
+    );
+    assert_same(rt, taken, wanted);
 }
 
 #[test]
@@ -173,12 +222,12 @@ fn several_blocks_at_once(rt: HostRuntime) {
     let beyond = [aau(&rt, 2, 3), aau(&rt, 8, 11)];
     let inside = [aau(&rt, 2, 3), aau(&rt, 5, 6)];
     let mut set = BlockSet::new(rt.alloc());
-    assert_same(&rt, set.add_all(&blocks), Ok(()));
-    assert_same(&rt, set.add_all(&shared), refusal(103));
-    assert_same(&rt, set.take_all(&beyond), refusal(105));
-    assert_size(&rt, &set, 10, 1);
-    assert_same(&rt, set.take_all(&inside), Ok(()));
-    assert_size(&rt, &set, 6, 3);
+    assert_all_added(&rt, &mut set, &blocks, Ok(()));
+    assert_all_added(&rt, &mut set, &shared, refusal(103));
+    assert_all_taken(&rt, &mut set, &beyond, refusal(105));
+    assert_same(&rt, size(&set), (10, 1));
+    assert_all_taken(&rt, &mut set, &inside, Ok(()));
+    assert_same(&rt, size(&set), (6, 3));
     drop(set);
 }
 
@@ -191,7 +240,12 @@ fn blocks_that_share_a_unit(rt: HostRuntime) {
 
 /// Gives the units of the block that label, or none.
 fn label(rt: &impl Abort, kinds: &mut UnitMap<Kind>, block: &Block, kind: Option<Kind>) {
-    kinds.set(block, kind).expect(rt, "memory");
+    let old = (kinds.count_where(|_| true), kinds.pieces().len());
+    let set = again!(
+        kinds.set(block, kind),
+        Err(NoMemory) => assert_same(rt, (kinds.count_where(|_| true), kinds.pieces().len()), old)
+    );
+    set.expect(rt, "memory");
 }
 
 #[test]
@@ -210,7 +264,8 @@ fn labels_of_units(rt: HostRuntime) {
     assert_same(&rt, kinds.count_where(|kind| kind == Kind::Aau), 7);
     assert!(rt; kinds.has_some_of(&block, |kind| kind == Kind::Cer));
     assert_same(&rt, kinds.pieces().len(), 3);
-    let copy = kinds.copy().expect(&rt, "memory");
+    let copy = again!(kinds.copy(), Err(NoMemory) => ());
+    let copy = copy.expect(&rt, "memory");
     label(&rt, &mut kinds, &block, None);
     assert_same(&rt, kinds.get(&unit), None);
     drop(kinds);

@@ -3,9 +3,10 @@ use protocol::units::Items;
 use protocol::wire::{AcquirerCodes, LogCodes, Number};
 use std::alloc::Global;
 use std::process::Abort;
+use test_support::READING;
 
 fn items(rt: &impl Abort, alloc: Global, codes: &[u16]) -> Items<u16> {
-    Items::from_vec(Vec::from_slice(alloc, codes).expect(rt, "memory"))
+    Items::from_vec(Vec::from_slice(alloc, codes).expect(rt, READING))
 }
 
 const LOG_CODES: &[(&[u16], bool)] = &[

@@ -1,5 +1,6 @@
 use crate::cores::{ROOM, walk};
 use crate::given::Given::{self, Event, Message};
+use crate::given::{PROPOSE, PROPOSE_SIXTY};
 use crate::named::{id, unit};
 use crate::registries::registry;
 use crate::same::{assert_same, assert_same_in};
@@ -11,10 +12,15 @@ use protocol::Outcome::{Recorded, Refused};
 use protocol::status::Status::{Accepted, Cancelled, Completed, Proposed, Rejected};
 use registry_core::RegistryCore;
 use std::process::Abort;
+use test_support::texts::{
+    ACCEPTED, ACCEPTED_TO_NZ, CANCELLED_TO_NZ, CHECKED, COMPLETED, COMPLETED_TO_JP, PROPOSED,
+    SECOND_ACCEPTED, SECOND_ACCEPTED_TO_NZ, SECOND_CHECKED, SECOND_COMPLETED,
+    SECOND_COMPLETED_TO_JP, SECOND_PROPOSED,
+};
 
 /// The events of the example `one_transfer`. Those before the last two are the example `in_transit`.
 const ONE_TRANSFER: [&str; 20] = [
-    "propose NZ 1 JP 7 NZ:1:1-100:AAU",
+    PROPOSE,
     "commit NZ 1",
     "post NZ 0",
     "deliver 0 2012-05-01T00:00:00Z",
@@ -37,46 +43,22 @@ const ONE_TRANSFER: [&str; 20] = [
 ];
 
 /// What NZ proposes.
-const HUNDRED: Given = Event("propose NZ 1 JP 7 NZ:1:1-100:AAU");
-
-/// The proposal that NZ sends to the log.
-const ASKED: &str =
-    r#"{"account":1,"call":"AcceptProposal","from":"NZ","status":"Proposed","to":"ITL","to_account":7,"to_registry":"JP","transaction":"NZ1","units":["NZ:1:1-100:AAU"]}"#;
-
-/// The same from the log to JP.
-const CHECKED: &str =
-    r#"{"account":1,"call":"AcceptProposal","from":"ITL","status":"Checked","to":"JP","to_account":7,"to_registry":"JP","transaction":"NZ1","units":["NZ:1:1-100:AAU"]}"#;
-
-/// That JP accepts, to the log.
-const ACCEPTED: &str =
-    r#"{"call":"AcceptNotification","codes":[],"from":"JP","status":"Accepted","to":"ITL","transaction":"NZ1"}"#;
-
-/// The same from the log to NZ.
-const TOLD_NZ: &str =
-    r#"{"call":"AcceptNotification","codes":[],"from":"ITL","status":"Accepted","to":"NZ","transaction":"NZ1"}"#;
-
-/// That NZ has completed, to the log.
-const COMPLETED: &str =
-    r#"{"call":"AcceptNotification","codes":[],"from":"NZ","status":"Completed","to":"ITL","transaction":"NZ1"}"#;
-
-/// The same from the log to JP.
-const TOLD_JP: &str =
-    r#"{"call":"AcceptNotification","codes":[],"from":"ITL","status":"Completed","to":"JP","transaction":"NZ1"}"#;
+const HUNDRED: Given = Event(PROPOSE);
 
 const SIX_POSTED: &[(&str, u64, &str)] = &[
-    ("NZ", 0, ASKED),
+    ("NZ", 0, PROPOSED),
     ("ITL", 0, CHECKED),
     ("JP", 0, ACCEPTED),
-    ("ITL", 1, TOLD_NZ),
+    ("ITL", 1, ACCEPTED_TO_NZ),
     ("NZ", 1, COMPLETED),
-    ("ITL", 2, TOLD_JP),
+    ("ITL", 2, COMPLETED_TO_JP),
 ];
 
-const LOG: &[Given] = &[Message(ASKED), Message(ACCEPTED), Message(COMPLETED)];
+const LOG: &[Given] = &[Message(PROPOSED), Message(ACCEPTED), Message(COMPLETED)];
 
-const JP: &[Given] = &[Message(CHECKED), Message(TOLD_JP)];
+const JP: &[Given] = &[Message(CHECKED), Message(COMPLETED_TO_JP)];
 
-const NZ: &[Given] = &[HUNDRED, Message(TOLD_NZ)];
+const NZ: &[Given] = &[HUNDRED, Message(ACCEPTED_TO_NZ)];
 
 const NO_LINES: &[Line] = &[];
 
@@ -140,16 +122,15 @@ fn owed_in_transit(rt: HostRuntime) {
 }
 
 /// NZ's order for the first sixty units.
-const SIXTY: Given = Event("propose NZ 1 JP 7 NZ:1:1-60:AAU");
+const SIXTY: Given = Event(PROPOSE_SIXTY);
 
-/// One for a unit of these and all others.
-const OVERLAPPING: Given = Event("propose NZ 1 JP 7 NZ:1:60-100:AAU");
+/// The line of one for a unit of these and all others.
+const PROPOSE_OVERLAPPING: &str = "propose NZ 1 JP 7 NZ:1:60-100:AAU";
+
+const OVERLAPPING: Given = Event(PROPOSE_OVERLAPPING);
 
 /// The events of the example `reserved_overlap`.
-const RESERVED_OVERLAP: [&str; 2] = [
-    "propose NZ 1 JP 7 NZ:1:1-60:AAU",
-    "propose NZ 1 JP 7 NZ:1:60-100:AAU",
-];
+const RESERVED_OVERLAP: [&str; 2] = [PROPOSE_SIXTY, PROPOSE_OVERLAPPING];
 
 const SIXTY_RESERVED: &[(&str, &[Line])] = &[
     ("JP", NO_LINES),
@@ -193,7 +174,7 @@ fn spendable_at_a_reserved_overlap(rt: HostRuntime) {
 
 /// The events of the example `stale_proposal`.
 const STALE_PROPOSAL: [&str; 34] = [
-    "propose NZ 1 JP 7 NZ:1:1-100:AAU",
+    PROPOSE,
     "commit NZ 1",
     "post NZ 0",
     "deliver 0 2012-05-01T00:00:00Z",
@@ -203,7 +184,7 @@ const STALE_PROPOSAL: [&str; 34] = [
     "commit ITL 1",
     "post ITL 1",
     "deliver 2 2012-05-01T00:00:00Z",
-    "propose NZ 1 JP 7 NZ:1:1-100:AAU",
+    PROPOSE,
     "commit NZ 2",
     "post NZ 1",
     "deliver 3 2012-05-01T00:00:00Z",
@@ -229,71 +210,43 @@ const STALE_PROPOSAL: [&str; 34] = [
     "deliver 9 2012-05-01T00:00:00Z",
 ];
 
-/// That the log has cancelled the first transfer, to NZ.
-const CANCELLED: &str =
-    r#"{"call":"AcceptNotification","codes":[],"from":"ITL","status":"Cancelled","to":"NZ","transaction":"NZ1"}"#;
-
-/// The second proposal that NZ sends to the log.
-const ASKED_AGAIN: &str =
-    r#"{"account":1,"call":"AcceptProposal","from":"NZ","status":"Proposed","to":"ITL","to_account":7,"to_registry":"JP","transaction":"NZ2","units":["NZ:1:1-100:AAU"]}"#;
-
-/// The same from the log to JP.
-const CHECKED_AGAIN: &str =
-    r#"{"account":1,"call":"AcceptProposal","from":"ITL","status":"Checked","to":"JP","to_account":7,"to_registry":"JP","transaction":"NZ2","units":["NZ:1:1-100:AAU"]}"#;
-
-/// That JP accepts the second one, to the log.
-const SECOND_ACCEPTED: &str =
-    r#"{"call":"AcceptNotification","codes":[],"from":"JP","status":"Accepted","to":"ITL","transaction":"NZ2"}"#;
-
-/// The same from the log to NZ.
-const SECOND_TOLD_NZ: &str =
-    r#"{"call":"AcceptNotification","codes":[],"from":"ITL","status":"Accepted","to":"NZ","transaction":"NZ2"}"#;
-
-/// That NZ has completed it, to the log.
-const SECOND_COMPLETED: &str =
-    r#"{"call":"AcceptNotification","codes":[],"from":"NZ","status":"Completed","to":"ITL","transaction":"NZ2"}"#;
-
-/// The same from the log to JP.
-const SECOND_TOLD_JP: &str =
-    r#"{"call":"AcceptNotification","codes":[],"from":"ITL","status":"Completed","to":"JP","transaction":"NZ2"}"#;
-
 /// That JP rejects the first one, whose units it holds, to the log.
 const REJECTED: &str =
     r#"{"call":"AcceptNotification","codes":[303],"from":"JP","status":"Rejected","to":"ITL","transaction":"NZ1"}"#;
 
 const TEN_POSTED: &[(&str, u64, &str)] = &[
-    ("NZ", 0, ASKED),
+    ("NZ", 0, PROPOSED),
     ("ITL", 0, CHECKED),
-    ("ITL", 1, CANCELLED),
-    ("NZ", 1, ASKED_AGAIN),
-    ("ITL", 3, CHECKED_AGAIN),
+    ("ITL", 1, CANCELLED_TO_NZ),
+    ("NZ", 1, SECOND_PROPOSED),
+    ("ITL", 3, SECOND_CHECKED),
     ("JP", 0, SECOND_ACCEPTED),
-    ("ITL", 4, SECOND_TOLD_NZ),
+    ("ITL", 4, SECOND_ACCEPTED_TO_NZ),
     ("NZ", 2, SECOND_COMPLETED),
-    ("ITL", 5, SECOND_TOLD_JP),
+    ("ITL", 5, SECOND_COMPLETED_TO_JP),
     ("JP", 1, REJECTED),
 ];
 
 /// The records of the log. The rejection comes too late to be one.
 const STALE_LOG: &[Given] = &[
-    Message(ASKED),
+    Message(PROPOSED),
     Event("clean-up 2012-05-02T00:00:00Z"),
-    Message(ASKED_AGAIN),
+    Message(SECOND_PROPOSED),
     Message(SECOND_ACCEPTED),
     Message(SECOND_COMPLETED),
 ];
 
 const STALE_JP: &[Given] = &[
-    Message(CHECKED_AGAIN),
-    Message(SECOND_TOLD_JP),
+    Message(SECOND_CHECKED),
+    Message(SECOND_COMPLETED_TO_JP),
     Message(CHECKED),
 ];
 
 const STALE_NZ: &[Given] = &[
     HUNDRED,
-    Message(CANCELLED),
+    Message(CANCELLED_TO_NZ),
     HUNDRED,
-    Message(SECOND_TOLD_NZ),
+    Message(SECOND_ACCEPTED_TO_NZ),
 ];
 
 #[test]
@@ -375,7 +328,10 @@ fn units_at_the_registry_of_a_reserved_overlap(rt: HostRuntime) {
 fn units_at_the_registry_that_they_leave(rt: HostRuntime) {
     let alloc = rt.alloc();
     let mut nz = registry(&rt, alloc, "NZ", ROOM);
-    let transfer = [(HUNDRED, Recorded(0)), (Message(TOLD_NZ), Recorded(1))];
+    let transfer = [
+        (HUNDRED, Recorded(0)),
+        (Message(ACCEPTED_TO_NZ), Recorded(1)),
+    ];
     walk(&rt, alloc, &mut nz, &transfer);
     assert_units(&rt, &nz, ALL_GONE);
     drop(nz);
@@ -387,7 +343,12 @@ fn units_at_the_registry_that_they_go_to(rt: HostRuntime) {
     let mut jp = registry(&rt, alloc, "JP", ROOM);
     walk(&rt, alloc, &mut jp, &[(Message(CHECKED), Recorded(0))]);
     assert_units(&rt, &jp, ALL_GONE);
-    walk(&rt, alloc, &mut jp, &[(Message(TOLD_JP), Recorded(1))]);
+    walk(
+        &rt,
+        alloc,
+        &mut jp,
+        &[(Message(COMPLETED_TO_JP), Recorded(1))],
+    );
     assert_units(&rt, &jp, ALL_FREE);
     drop(jp);
 }

@@ -4,14 +4,15 @@ use crate::cores::{ROOM, assert_text, scheme};
 use crate::given::{Given, input_of};
 use crate::named::{block, code, id, node, unit};
 use crate::same::{assert_same, assert_same_in};
-use accounts::HeldBlock;
 use input_lines::event_of;
 use protocol::WorldEvent;
 use protocol::status::Status;
-use protocol::units::Node;
+use protocol::units::{NoMemory, Node};
 use protocol::wire::{Input, Proposal};
+use registry_core::accounts::HeldBlock;
 use std::alloc::Global;
 use std::process::Abort;
+use test_support::{READING, again};
 use world::World;
 
 /// A line of a registry's holdings: the account, the block, and the transaction that reserves it, if any.
@@ -20,8 +21,8 @@ pub type Line = (u64, &'static str, Option<&'static str>);
 fn events(rt: &impl Abort, alloc: Global, lines: &[&str]) -> Vec<WorldEvent> {
     let mut events = Vec::new(alloc);
     for line in lines {
-        let event = event_of(alloc, line.as_bytes()).expect(rt, "an event");
-        events.push(event).expect(rt, "memory");
+        let event = event_of(alloc, line.as_bytes()).expect(rt, READING);
+        events.push(event).expect(rt, READING);
     }
     events
 }
@@ -30,10 +31,13 @@ fn events(rt: &impl Abort, alloc: Global, lines: &[&str]) -> Vec<WorldEvent> {
 pub fn world_of(rt: &impl Abort, alloc: Global, lines: &[&str]) -> World {
     let scheme = scheme(rt, alloc, ROOM);
     let events = events(rt, alloc, lines);
-    let world = World::run(alloc, &scheme, events.as_slice()).expect(rt, "memory");
+    let world = again!(
+        World::run(alloc, &scheme, events.as_slice()),
+        Err(NoMemory) => ()
+    );
     drop(events);
     drop(scheme);
-    world
+    world.expect(rt, "memory")
 }
 
 /// Asserts where the transaction stands at these nodes.
@@ -114,8 +118,9 @@ fn assert_lines(rt: &impl Abort, found: &[HeldBlock], expected: &[Line]) {
 
 /// Asserts what the registry holds.
 fn assert_holdings(rt: &impl Abort, world: &World, name: &str, expected: &[Line]) {
-    let found = world.holdings(code(rt, name)).expect(rt, "memory");
-    let lines = found.expect(rt, "a registry");
+    let code = code(rt, name);
+    let found = again!(world.holdings(code), Err(NoMemory) => ());
+    let lines = found.expect(rt, "memory").expect(rt, "a registry");
     assert_lines(rt, lines.as_slice(), expected);
 }
 
@@ -126,7 +131,8 @@ pub fn assert_stocks(
     world: &World,
     expected: &[(&'static str, &'static [Line])],
 ) {
-    let stocks = world.stocks(alloc).expect(rt, "memory");
+    let stocks = again!(world.stocks(alloc), Err(NoMemory) => ());
+    let stocks = stocks.expect(rt, "memory");
     assert_same(rt, stocks.len(), expected.len());
     for (stock, (name, lines)) in stocks.iter().zip(expected) {
         assert_same(rt, stock.code, code(rt, *name));
@@ -151,7 +157,9 @@ pub fn assert_unit(
 
 /// Asserts which transfers owe the first unit of the block.
 pub fn assert_owed(rt: &impl Abort, alloc: Global, world: &World, block: &str, expected: &[&str]) {
-    let owed = world.owed(alloc, &unit(rt, block)).expect(rt, "memory");
+    let unit = unit(rt, block);
+    let owed = again!(world.owed(alloc, &unit), Err(NoMemory) => ());
+    let owed = owed.expect(rt, "memory");
     assert_same(rt, owed.len(), expected.len());
     for (found, text) in owed.iter().zip(expected) {
         assert_same(rt, *found, id(rt, *text));
@@ -173,9 +181,11 @@ pub fn assert_transfers(
     all: &[&str],
     owing: &[&str],
 ) {
-    let transactions = world.transactions(alloc).expect(rt, "memory");
+    let transactions = again!(world.transactions(alloc), Err(NoMemory) => ());
+    let transactions = transactions.expect(rt, "memory");
     assert_proposals(rt, transactions.as_slice(), all);
-    let due = world.due(alloc).expect(rt, "memory");
+    let due = again!(world.due(alloc), Err(NoMemory) => ());
+    let due = due.expect(rt, "memory");
     assert_proposals(rt, due.as_slice(), owing);
 }
 
@@ -184,7 +194,8 @@ pub fn assert_no_registry(rt: &impl Abort, world: &World, name: &str, block: &st
     let (code, unit) = (code(rt, name), unit(rt, block));
     assert!(rt; world.journal(Node::Registry(code)).is_none());
     assert!(rt; world.committed(Node::Registry(code)).is_none());
-    assert!(rt; world.holdings(code).expect(rt, "memory").is_none());
+    let holdings = again!(world.holdings(code), Err(NoMemory) => ());
+    assert!(rt; holdings.expect(rt, "memory").is_none());
     assert!(rt; !world.held(code, &unit));
     assert!(rt; !world.spendable(code, &unit));
 }

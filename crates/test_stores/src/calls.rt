@@ -1,0 +1,75 @@
+//! Calls of stores, each made again where memory ran out.
+
+use crate::records::{are_two, two};
+use crate::same::assert_same;
+use desk::stores::{NodeStore, StoreFault};
+use protocol::wire::Input;
+use std::alloc::Global;
+use std::process::Abort;
+use test_support::again;
+
+/// The records of the store. It goes on as it was where memory ran out.
+pub fn load<S: NodeStore>(store: &mut S) -> Result<Vec<Input>, StoreFault> {
+    again!(store.load(), Err(StoreFault::NoMemory) => ())
+}
+
+/// The records of a store without a fault.
+pub fn loaded<S: NodeStore>(rt: &impl Abort, store: &mut S) -> Vec<Input> {
+    load(store).expect(rt, "no fault of the store")
+}
+
+/// How many records the store has.
+pub fn count<S: NodeStore>(rt: &impl Abort, store: &mut S) -> usize {
+    let records = loaded(rt, store);
+    let count = records.len();
+    drop(records);
+    count
+}
+
+/// Asserts that the store has the two records.
+pub fn assert_two<S: NodeStore>(rt: &impl Abort, alloc: Global, store: &mut S) {
+    let records = loaded(rt, store);
+    assert!(rt; are_two(alloc, &records));
+    drop(records);
+}
+
+/// Whether the store must be opened again.
+pub fn waits<S: NodeStore>(store: &mut S) -> bool {
+    load(store).err() == Some(StoreFault::Reopen)
+}
+
+/// Opens the store again. Where memory ran out, it must still be opened again.
+pub fn reopen<S: NodeStore>(rt: &impl Abort, store: &mut S) -> Result<(), StoreFault> {
+    again!(store.reopen(), Err(StoreFault::NoMemory) => assert!(rt; waits(store)))
+}
+
+/// Opens a store again that found no memory for an append. It must be opened again then, and has as many records as
+/// before. Fails where a call of its files does.
+fn recover<S: NodeStore>(rt: &impl Abort, store: &mut S, records: usize) -> Result<(), StoreFault> {
+    assert!(rt; waits(store));
+    store.reopen()?;
+    let kept = store.load()?;
+    assert_same(rt, kept.len(), records);
+    drop(kept);
+    Ok(())
+}
+
+/// Appends the batch to a store that has so many records.
+pub fn append<S: NodeStore>(
+    rt: &impl Abort,
+    store: &mut S,
+    records: usize,
+    batch: &[Input],
+) -> Result<(), StoreFault> {
+    again!(
+        store.append(batch),
+        Err(StoreFault::NoMemory) => recover(rt, store, records)?
+    )
+}
+
+/// Appends the two records to a store that has none.
+pub fn append_two<S: NodeStore>(rt: &impl Abort, alloc: Global, store: &mut S) {
+    let batch = two(rt, alloc);
+    assert_same(rt, append(rt, store, 0, &batch), Ok(()));
+    drop(batch);
+}

@@ -129,15 +129,17 @@ class Refusing:
         build_c(SOURCE, self.library, "-std=gnu11", "-shared", "-fPIC", "-ldl")
 
     def run(self, words, text, number, test=None, thread=0):
-        """What a run of the program, or of a test's, came to, and whether an allocation was refused. None is where the number is 0."""
+        """What a run of the program, or of a test's, came to, and whether an allocation was refused. None is where the number is 0.
+        It runs in a folder of its own, since some tests make stores where they run."""
         told = self.room / f"refused-{thread}"
         told.unlink(missing_ok=True)
         given = os.environ | {"LD_PRELOAD": str(self.library), "REFUSE": str(number), "REFUSED": str(told)}
-        try:
-            words = [test or program(), *words]
-            ended = subprocess.run(words, input=text, capture_output=True, env=given, timeout=LONGEST, check=False)
-        except subprocess.TimeoutExpired:
-            return (None, b"", b"no end"), told.exists()
+        words = [test or program(), *words]
+        with tempfile.TemporaryDirectory(dir=self.room) as own:
+            try:
+                ended = subprocess.run(words, input=text, capture_output=True, env=given, cwd=own, timeout=LONGEST, check=False)
+            except subprocess.TimeoutExpired:
+                return (None, b"", b"no end"), told.exists()
         return (ended.returncode, ended.stdout, ended.stderr), told.exists()
 
 

@@ -1,4 +1,5 @@
 //! Reports of states and seats that are given.
+ghost use Rattle.std.specs.Prelude.{◌≡◌, IfOk, Some};
 
 use crate::given::Given::{self, Event};
 use crate::given::input_of;
@@ -50,24 +51,44 @@ fn take_prepared(
     state: &mut NodeState,
     seat: &mut Seat,
     input: Input,
-) -> Result<Taken, usize> {
+) -> Result<Taken, usize>
+    ensures { IfOk result (λ taken. seat.new.prepared ≡ Some taken.asked) }
+{
     let before = (seat.tickets().len(), seat.notes().len());
     let prepared = again!(
         seat.prepare_input(&input),
         Err(NoMemory) => assert_same(rt, (seat.tickets().len(), seat.notes().len()), before)
     );
-    assert_same(rt, prepared, Ok(()));
-    unless_no_memory(state.take(input))
+    match prepared {
+        Ok(()) => unless_no_memory(state.take(input)),
+        Err(NoMemory) => rt.abort(),
+    }
 }
 
-/// Has the state take the input, and tells the seat.
-fn tell(rt: &impl Abort, alloc: Global, state: &mut NodeState, seat: &mut Seat, given: Given) {
+/// As `take_prepared`, and once more where memory ran out.
+fn take_again(
+    rt: &impl Abort,
+    alloc: Global,
+    state: &mut NodeState,
+    seat: &mut Seat,
+    given: Given,
+) -> Taken
+    ensures { seat.new.prepared ≡ Some result.asked }
+{
     let before = of_state(rt, state.state());
     let taken = again!(
         take_prepared(rt, state, seat, input_of(rt, alloc, given)),
         Err(_) => assert_same(rt, of_state(rt, state.state()), before)
     );
-    let taken = taken.expect(rt, "memory");
+    match taken {
+        Ok(taken) => taken,
+        Err(_) => rt.abort(),
+    }
+}
+
+/// Has the state take the input, and tells the seat.
+fn tell(rt: &impl Abort, alloc: Global, state: &mut NodeState, seat: &mut Seat, given: Given) {
+    let taken = take_again(rt, alloc, state, seat, given);
     seat.keep(&taken);
     drop(taken);
 }

@@ -1,5 +1,6 @@
 //! What states, desks and seats have, which a call that finds no memory leaves as it is; and calls that are made again
 //! where that was so.
+ghost use Rattle.std.specs.Prelude.{◌≡◌, IfOk};
 
 use crate::given::{Given, input_of};
 use crate::registries::first_transfer;
@@ -114,7 +115,9 @@ pub fn standing_at<O: Opening, C: NodeCore, S: NodeStore, B: Bell, R: Wait + Abo
 }
 
 /// What was taken, or how many records it tells where memory ran out.
-pub fn unless_no_memory(taken: Taken) -> Result<Taken, usize> {
+pub fn unless_no_memory(taken: Taken) -> Result<Taken, usize>
+    ensures { IfOk result (λ kept. kept ≡ taken) }
+{
     if taken.told() == Told::Refused(Refusal::NO_MEMORY) {
         let records = taken.length();
         drop(taken);

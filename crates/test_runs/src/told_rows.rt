@@ -1,4 +1,5 @@
 //! What a state tells, and what a seat keeps of it.
+ghost use Rattle.std.specs.Prelude.{◌≡◌, Some};
 
 use crate::given::input_of;
 use crate::nz_desk::{TEN, nz_state, nz_stored, recorded};
@@ -13,12 +14,17 @@ use std::process::Abort;
 use test_support::again;
 
 /// Makes room at an empty seat for what is told of the transaction.
-fn prepare(rt: &impl Abort, seat: &mut Seat, id: TransactionId) {
+fn prepare(rt: &impl Abort, seat: &mut Seat, id: TransactionId)
+    ensures { seat.new.prepared ≡ Some (Asked.Query id) }
+{
     let prepared = again!(
         seat.prepare_query(id),
         Err(NoMemory) => assert_same(rt, (seat.tickets().len(), seat.notes().len()), (0, 0))
     );
-    assert_same(rt, prepared, Ok(()));
+    match prepared {
+        Ok(()) => {}
+        Err(NoMemory) => rt.abort(),
+    }
 }
 
 /// Whether the state was asked where the transaction stands.

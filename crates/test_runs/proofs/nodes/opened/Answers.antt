@@ -18,7 +18,7 @@ loop-stored-preserved g c =
     one_done c.args.loaded.items (map (λ n. n.stored) c.loop-stored.nodes.items) c.loop-stored.stored-iterator.rest.items c.next.new.self.rest.items c.in-Some.stored c.loop-stored.invariant c.in-Some.ensures.steps.0
     ∙ ap (λ l. l ++ c.next.new.self.rest.items) (sym c.in_ok-push_node.ensures)
 
-pub returns-2 : goal.returns-2
-returns-2 g c =
+pub returns : goal.returns
+returns g c =
     let rest = c.loop-stored.stored-iterator.rest in
     sym (all_done c.args.loaded.items (map (λ n. n.stored) c.loop-stored.nodes.items) rest.items c.loop-stored.invariant (sym rest.ok.0 ∙ c.in-None.ensures.steps.0))

@@ -3,8 +3,9 @@
 
 Each test of `test_values`, `test_stores` and `test_runs` is a program's run by itself. It is run once for each of its
 allocations, of which that one is refused (`no_memory.c`, loaded before the C library). It must pass: a call that found no
-memory is made again in the test, which looks before at what stands. Or it stops while it reads its own texts. A test with
-more allocations than `--most` has as many of them refused, spread over all. Not run so are the tests of EXEMPT.
+memory is made again in the test, which looks before at what stands. Or it stops while it reads its own texts. A test whose
+runs would take longer than `--seconds` together has as many of its allocations refused as that allows, spread over all. Not
+run so are the tests of EXEMPT.
 
 `rehearse` reads the input of each example, `chart` of those with a diagram, a command line is read of the examples that have
 one, and `audit` reads the stores of a whole transfer and of the one whose proposal comes too late. Each is run once with all
@@ -25,6 +26,7 @@ import sqlite3
 import subprocess
 import sys
 import tempfile
+import time
 
 from audit import MOMENT, write_stores
 from building import build_c
@@ -41,6 +43,7 @@ READING = b"the test's own texts: "
 FAILED = -signal.SIGABRT
 # How many seconds a run of a test may take.
 LONGEST = 120
+PROCESSORS = os.cpu_count() or 1
 # Threads that wait for one another end otherwise in each run; an endless session, an input at its limit and millions of
 # interrupted calls take too long to be run thousands of times.
 EXEMPT = {
@@ -171,9 +174,8 @@ def refuse_each(name, refusing, words, text, folder, wanted=None):
             runs += 1
             unwritten += came == OUT_OF_MEMORY
 
-    count = os.cpu_count() or 1
-    with concurrent.futures.ThreadPoolExecutor(count) as threads:
-        ended = list(threads.map(take, range(count)))
+    with concurrent.futures.ThreadPoolExecutor(PROCESSORS) as threads:
+        ended = list(threads.map(take, range(PROCESSORS)))
     for text in [text for _, _, others in ended for text in others]:
         print(f"{name}: {text}")
     runs, unwritten = (sum(it[part] for it in ended) for part in (0, 1))
@@ -238,12 +240,16 @@ def allocations_of(refusing, test, name):
     return low
 
 
-def refuse_each_of_test(refusing, threads, test, name, most):
-    """Whether the test passed with all its memory, and passed, or stopped in reading, with each allocation refused."""
+def refuse_each_of_test(refusing, threads, test, name, seconds):
+    """Whether the test passed with all its memory, and passed, or stopped in reading, with each allocation refused, or with as many
+    as there is time for. How many there are, how many were refused, and how often it passed and stopped in reading."""
+    begin = time.monotonic()
     whole, _ = refusing.run([name], b"", 0, test)
+    each = time.monotonic() - begin
     check_end([test, name], whole[0], (0,), whole[2])
     count = allocations_of(refusing, test, name)
-    step = max(1, count // most)
+    most = max(1, int(seconds * PROCESSORS / each))
+    step = -(-count // most) or 1
     numbers = range(1, count + 1, step)
 
     def take(number):
@@ -261,17 +267,20 @@ def refuse_each_of_test(refusing, threads, test, name, most):
     tried = "" if step == 1 else f", {len(numbers)} of them refused"
     more = f", otherwise {len(others)} times" if others else ""
     print(f"test {name}: {count} allocations{tried}; passed {passed} times, stopped in reading {reading} times{more}", flush=True)
-    return not others
+    return not others, (count, len(numbers), passed, reading)
 
 
-def refuse_each_of_tests(refusing, only, most):
-    """Whether all tests passed, or stopped in reading, each time."""
+def refuse_each_of_tests(refusing, only, seconds):
+    """Whether all tests passed, or stopped in reading, each time. Prints the sums of each program."""
     kept = True
-    with concurrent.futures.ThreadPoolExecutor(os.cpu_count() or 1) as threads:
-        for test in test_programs().values():
-            for name in tests_of(test):
-                if only in name and not any(name.startswith(it) for it in EXEMPT):
-                    kept = refuse_each_of_test(refusing, threads, test, name, most) and kept
+    with concurrent.futures.ThreadPoolExecutor(PROCESSORS) as threads:
+        for crate, test in test_programs().items():
+            names = [it for it in tests_of(test) if only in it and not any(it.startswith(exempt) for exempt in EXEMPT)]
+            ended = [refuse_each_of_test(refusing, threads, test, name, seconds) for name in names]
+            kept = all(is_kept for is_kept, _ in ended) and kept
+            counts, refused, passed, reading = (sum(it[part] for _, it in ended) for part in range(4))
+            print(f"{crate}: {len(names)} tests, {counts} allocations, {refused} of them refused; passed {passed} times, stopped in reading "
+                  f"{reading} times", flush=True)
     return kept
 
 
@@ -292,13 +301,11 @@ def refuse_each_of_audits(refusing, room):
 def main():
     words = argparse.ArgumentParser(description=__doc__, formatter_class=argparse.RawDescriptionHelpFormatter)
     words.add_argument("--tests", metavar="TEXT", help="run those tests alone whose name has that text, and no command")
-    words.add_argument("--most", type=int, default=2_000, help="how many allocations of a test are refused at most")
+    words.add_argument("--seconds", type=float, default=20, help="how long the runs of one test may take together")
     given = words.parse_args()
-    if given.most < 1:
-        words.error("--most is at least 1")
     with tempfile.TemporaryDirectory() as room:
         refusing = Refusing(room)
-        kept = refuse_each_of_tests(refusing, given.tests or "", given.most)
+        kept = refuse_each_of_tests(refusing, given.tests or "", given.seconds)
         if given.tests is None:
             program()
             kept = refuse_each_of_examples(refusing) and kept

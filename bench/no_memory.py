@@ -10,8 +10,9 @@ run so are the tests of EXEMPT.
 `rehearse` reads the input of each example, `chart` of those with a diagram, a command line is read of the examples that have
 one, and `audit` reads the stores of a whole transfer and of the one whose proposal comes too late. Each is run once with all
 the memory that it asks for, when it must write what its folder has, and then once for each of its allocations. Each time it
-must write what the first run wrote, or nothing, with `out of memory` on standard error and exit status 5; and the stores must
-have the records that they had. The exit status is 1 where that isn't so.
+must write what the first run wrote, or nothing, with `out of memory` on standard error and exit status 5; or, where the command
+went wrong and there is no memory to tell how, `out of memory` and the status of that. The stores must have the records that
+they had. The exit status is 1 where that isn't so.
 """
 
 import argparse
@@ -155,6 +156,8 @@ def refuse_each(name, refusing, words, text, folder, wanted=None):
     elif whole != wanted:
         print(f"{name}: status {whole[0]}, {len(whole[1])} bytes written, {whole[2]!r}, which isn't what its folder has")
         return False
+    # Where it went wrong, and memory lacks to tell how.
+    untold = (whole[0], *OUT_OF_MEMORY[1:]) if whole[0] else whole
     before = records_in(folder) if folder else None
     numbers = itertools.count(1)
 
@@ -165,14 +168,14 @@ def refuse_each(name, refusing, words, text, folder, wanted=None):
         while True:
             number = next(numbers)
             came, refused = refusing.run(words(own), text, number, thread=thread)
-            ends = (whole, OUT_OF_MEMORY) if refused else (whole,)
+            ends = (whole, OUT_OF_MEMORY, untold) if refused else (whole,)
             if came not in ends or (own and records_in(own) != before):
                 what = f"allocation {number}" if refused else "none"
                 others.append(f"with {what} refused: status {came[0]}, {len(came[1])} bytes written, {came[2]!r}")
             if not refused:
                 return runs, unwritten, others
             runs += 1
-            unwritten += came == OUT_OF_MEMORY
+            unwritten += came in (OUT_OF_MEMORY, untold) and came != whole
 
     with concurrent.futures.ThreadPoolExecutor(PROCESSORS) as threads:
         ended = list(threads.map(take, range(PROCESSORS)))

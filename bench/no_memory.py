@@ -40,7 +40,7 @@ SOURCE = TOP / "bench" / "no_memory.c"
 OUT_OF_MEMORY = (5, b"", b"kyoto-link: out of memory\n")
 TESTS = ("test_values", "test_stores", "test_runs")
 # What a test says that found no memory for its own texts, and how a test ends that fails.
-READING = b"the test's own texts: "
+READING = b"the test's own texts"
 FAILED = -signal.SIGABRT
 # How many seconds a run of a test may take.
 LONGEST = 120

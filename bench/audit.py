@@ -4,8 +4,9 @@
 The stores have the journals of whole transfers between 2 and between 32 registries, in three sizes, written by SQLite's
 library; the table that `audit` writes shows that each transfer is Completed. Printed are the best times in seconds with the
 ratio of each doubling, the greatest peak of memory as a multiple of the bytes of the records' texts, and, for the largest
-size, the time as a multiple of what SQLite's library takes to find the valid JSON texts in the same files. The exit status is
-1 where a limit is passed; those of memory and of SQLite are for the largest size.
+size, the time as a multiple of what SQLite's library takes to find the valid JSON texts in the same files; and how long
+`kyoto-link show` takes over the log's store, as a multiple of what the `sqlite3` shell takes to write the same records. The
+exit status is 1 where a limit is passed; those of memory, of SQLite and of the shell are for the largest size.
 """
 
 import argparse
@@ -15,16 +16,19 @@ import sys
 import tempfile
 import time
 
+from building import need
 from records import record, write_store
 from rehearse import codes_of, program, run, scheme
 
 MOST_RATIO = 2.3
-MOST_TIMES_SQLITE = 10.0
+MOST_TIMES_SQLITE = 6.0
+MOST_TIMES_SHELL = 6.0
 MOST_TIMES_BYTES = 20.0
 # Records of a whole transfer, at its three nodes.
 RECORDS_EACH = 7
 MOMENT = 1335830400
 VALID = "SELECT count(*) FROM entries WHERE json_valid(body)"
+RECORDS_OF = "SELECT place, body FROM entries ORDER BY place"
 
 
 def received(message):
@@ -78,6 +82,17 @@ def sqlite_time(folder):
     return time.perf_counter() - start
 
 
+def times_of_shell(scheme_file, folder, taken, runs):
+    """How many times as long as the `sqlite3` shell `show` takes over the log's store."""
+    ours = min(run([program(), "show", scheme_file, folder, "ITL"], scheme_file, taken)[0] for _ in range(runs))
+    shown = sum(1 for line in taken.read_text(encoding="utf-8").splitlines() if line[:1].isdigit())
+    theirs = min(run(["sqlite3", "-separator", " ", folder / "ITL.db", RECORDS_OF], scheme_file, taken)[0] for _ in range(runs))
+    wanted = sum(1 for _ in taken.open(encoding="utf-8"))
+    if shown != wanted:
+        sys.exit(f"show writes {shown} of {wanted} records")
+    return ours / theirs
+
+
 def check_table(path, name, count):
     lines = path.read_text(encoding="utf-8").splitlines()
     done = sum(1 for line in lines if line.startswith("transaction ") and line.count("Completed") == 3)
@@ -108,7 +123,9 @@ def measure(name, codes, largest, runs, room):
             if size == largest:
                 beside = min(sqlite_time(folder) for _ in range(runs))
                 kept = kept and best <= MOST_TIMES_SQLITE * beside and memory <= MOST_TIMES_BYTES
-                text += f"  {best / beside:.1f} times SQLite"
+                shell = times_of_shell(given, folder, taken, runs)
+                kept = kept and shell <= MOST_TIMES_SHELL
+                text += f"  {best / beside:.1f} times SQLite  show {shell:.1f} times the shell"
             print(text, flush=True)
             before = best
     return kept
@@ -119,13 +136,15 @@ def main():
     parser.add_argument("--runs", type=int, default=3, help="runs of each; the best one counts")
     parser.add_argument("--records", type=int, default=1_000_000, help="records of all stores in the largest size")
     words = parser.parse_args()
+    need("sqlite3", "writes records beside show")
     program()
     largest = max(4, words.records // RECORDS_EACH)
     kept = True
     with tempfile.TemporaryDirectory() as room:
         for registries in (2, 32):
             kept = measure(f"{registries} registries", codes_of(registries), largest, max(1, words.runs), room) and kept
-    print(f"limits: ratio {MOST_RATIO}, memory {MOST_TIMES_BYTES:.0f} times the records, {MOST_TIMES_SQLITE:.0f} times SQLite")
+    print(f"limits: ratio {MOST_RATIO}, memory {MOST_TIMES_BYTES:.0f} times the records, {MOST_TIMES_SQLITE:.0f} times SQLite, "
+          f"show {MOST_TIMES_SHELL:.0f} times the shell")
     sys.exit(0 if kept else 1)
 
 

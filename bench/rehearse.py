@@ -4,8 +4,9 @@
 Five loads, each in three sizes: commits of no record, orders alone, whole transfers between 2 and between 32 registries, and
 whole transfers after which each message is delivered a second time. The largest inputs are nearly as long as an input may be.
 Printed are the best times in seconds with the ratio of each doubling, the greatest peak of memory as a multiple of the input's
-bytes, and, for the largest size, the time as a multiple of what Python takes to split the same input into words and count them
-in a dictionary. The exit status is 1 where a limit is passed.
+bytes, and, for the largest size, the time as a multiple of a peer's: of orders, that of a C++ program with ordered maps which
+writes the same (bench/orders.cpp), and of all else what Python takes to split the same input into words and count them in a
+dictionary. The exit status is 1 where a limit is passed.
 """
 
 import argparse
@@ -18,13 +19,16 @@ import sys
 import tempfile
 import time
 
+from building import need
 from endings import check_end, run_to_end
 
 TOP = pathlib.Path(__file__).resolve().parent.parent
 LAUNCHER = TOP / "kyoto-link"
+ORDERS = TOP / "bench" / "orders.cpp"
 LONGEST_INPUT = 16_777_216
 MOST_RATIO = 2.3
-MOST_TIMES_PYTHON = 12.0
+MOST_TIMES_PYTHON = 1.0
+MOST_TIMES_CPP = 3.0
 MOST_TIMES_BYTES = 30.0
 MOMENT = "2012-05-01T00:00:00Z"
 COUNT_WORDS = "\n".join([
@@ -93,10 +97,12 @@ def delivered_twice(count):
         yield f"deliver {index} {MOMENT}"
 
 
+# The load that the program in C++ reads too.
+ORDERS_ALONE = "orders"
 # The name of a load, its lines for a size, and the largest size, of which a half and a quarter are run too.
 LOADS = [
     ("commits of no record", commits, 1_200_000),
-    ("orders", orders, 360_000),
+    (ORDERS_ALONE, orders, 360_000),
     ("transfers between 2 registries", lambda count: transfers(codes_of(2), count), 36_000),
     ("transfers between 32 registries", lambda count: transfers(codes_of(32), count), 36_000),
     ("everything delivered twice", delivered_twice, 24_000),
@@ -158,6 +164,29 @@ def inputs_of(name, lines_of, largest, room):
     return inputs
 
 
+@functools.cache
+def orders_in_cpp(room):
+    """The path of the program in C++, once it is built."""
+    need("g++", f"builds {ORDERS.name}")
+    built = room / "orders"
+    run_to_end(["g++", "-O2", "-std=c++17", "-Wall", "-Wextra", "-o", built, ORDERS])
+    return built
+
+
+def peer_of(name, given, taken, runs, room):
+    """The best time of the load's peer, its name, and how many times as long `rehearse` may take."""
+    if name != ORDERS_ALONE:
+        return min(run([sys.executable, "-c", COUNT_WORDS], given, taken)[0] for _ in range(runs)), "Python", MOST_TIMES_PYTHON
+    run([program(), "rehearse"], given, taken)
+    written = taken.read_bytes()
+    times = []
+    for _ in range(runs):
+        times.append(run([orders_in_cpp(room)], given, taken)[0])
+        if taken.read_bytes() != written:
+            sys.exit(f"{name}: the program in C++ writes something else")
+    return min(times), "C++", MOST_TIMES_CPP
+
+
 def measure(name, lines_of, largest, runs, room):
     """Prints a line for each size of a load, and returns whether it keeps the limits. The sizes take turns, so that a slow moment
     of the machine doesn't fall on one of them alone."""
@@ -175,9 +204,9 @@ def measure(name, lines_of, largest, runs, room):
             kept = kept and ratio <= MOST_RATIO
             text += f"  ratio {ratio:.2f}"
         if size == largest:
-            python = min(run([sys.executable, "-c", COUNT_WORDS], given, taken)[0] for _ in range(runs))
-            kept = kept and best <= MOST_TIMES_PYTHON * python
-            text += f"  {best / python:.1f} times Python"
+            other, peer, most = peer_of(name, given, taken, runs, room)
+            kept = kept and best <= most * other
+            text += f"  {best / other:.2f} times {peer}"
         print(text, flush=True)
         before = best
     return kept
@@ -194,7 +223,8 @@ def main():
         for name, lines_of, largest in LOADS:
             if words.load is None or words.load in name:
                 kept = measure(name, lines_of, largest, max(1, words.runs), pathlib.Path(folder)) and kept
-    print(f"limits: ratio {MOST_RATIO}, memory {MOST_TIMES_BYTES:.0f} times the input, {MOST_TIMES_PYTHON:.0f} times Python")
+    print(f"limits: ratio {MOST_RATIO}, memory {MOST_TIMES_BYTES:.0f} times the input, {MOST_TIMES_CPP:.0f} times C++ of orders, "
+          f"and else {MOST_TIMES_PYTHON:.0f} times Python")
     sys.exit(0 if kept else 1)
 
 

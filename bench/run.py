@@ -1,97 +1,148 @@
 #!/usr/bin/env python3
-"""How many transfers a second `kyoto-link run` makes on this disk, beside SQLite's C library and PostgreSQL.
+"""How many transfers a second `kyoto-link run` makes, beside a C program with the same exchanges, and beside PostgreSQL.
 
-Transfers of one unit each from NZ to JP, one after another (each is Completed at JP before the next one is proposed) and
-together (all are proposed, and then awaited). Printed are the transfers a second, without the time that a run without
-transfers takes; what a C program over SQLite's library takes to make as many commits of as many records, one store after
-another for transfers one after another, and all stores at a time for transfers together; and how many transfers a second
-PostgreSQL makes that moves one row each from a database to another one by PREPARE TRANSACTION in both. The exit status is 1
-where a limit is passed.
+Transfers of one unit each among 2, 8 and 31 registries, on a disk as it is and where each sync takes 0.1 and 1 milliseconds
+more (bench/slow_sync.c): one after another, each Completed at the acquiring registry before the next one is proposed, and
+together, all proposed and then awaited. The C program (bench/transfers.c) sends the same messages over as many connections
+between as many threads, and commits the same records by SQLite's library; both run in turn, and the best times count. Of
+kyoto-link's the time of a run without transfers is taken off. Transfers one after another run with a script that asks every
+20 microseconds, so that its own waiting counts little. Printed are the rates, their ratio, and the processor time of a
+transfer as a multiple of C's; how PostgreSQL does that moves one row each from a database to another one by PREPARE
+TRANSACTION in both; the system calls of a transfer; and the memory of a run with 32 registries. The exit status is 1 where a
+limit is passed.
 """
 
 import argparse
-import concurrent.futures
 import contextlib
-import json
+import dataclasses
+import os
 import pathlib
 import re
 import shutil
 import signal
-import sqlite3
 import subprocess
 import sys
 import tempfile
 import time
 
+import building
 from building import need
 from endings import check_end, run_to_end
-from rehearse import program
-from store import build_c
+from rehearse import codes_of, program, scheme
 
-LEAST_OF_C = 0.5
-TURNS = 60_000
-NODES = ("ITL", "JP", "NZ")
+BENCH = pathlib.Path(__file__).resolve().parent
+TURNS = 600_000
+# Microseconds that a script sleeps between its questions where transfers go one after another.
+NAP = 20
+LEAST_ALONE = {0: 0.6, 100: 0.6, 1_000: 0.95}
+LEAST_TOGETHER = 0.7
+# From that many microseconds of a sync on, transfers one after another are faster than PostgreSQL's.
+AHEAD_FROM = 100
+MOST_TIMES_TWO = 1.3
+MOST_MEGABYTES = 150
 POSTGRES = sorted(pathlib.Path("/usr/lib/postgresql").glob("*/bin"))
+TRACED = "futex,connect,accept4,sendto,recvfrom,write,fdatasync,fsync,clock_nanosleep"
 
 
-def scheme(units):
-    registries = [
-        {"accounts": [7], "allotted": [], "code": "JP", "eligible": True, "kinds": ["AAU"]},
-        {"accounts": [1], "allotted": [{"account": 1, "units": [f"NZ:1:1-{units}:AAU"]}], "code": "NZ", "eligible": True, "kinds": ["AAU"]},
-    ]
-    return json.dumps({"records": 1_000_000, "registries": registries}, separators=(",", ":"))
+@dataclasses.dataclass
+class Ended:
+    """What a program printed, how long it took, its processor time, and the most memory that it had in megabytes."""
+    said: str
+    seconds: float
+    busy: float
+    megabytes: float
 
 
-def script(count, together):
-    orders = [f"propose NZ 1 JP 7 NZ:1:{unit}-{unit}:AAU\n" for unit in range(1, count + 1)]
-    waits = [f"until JP NZ{unit} Completed {TURNS}\n" for unit in range(1, count + 1)]
-    if together:
+def timed(words, env=None):
+    """A program that ends with status 0."""
+    with tempfile.TemporaryFile("w+") as said, tempfile.TemporaryFile("w+") as told:
+        begin = time.monotonic()
+        started = subprocess.Popen([str(it) for it in words], stdout=said, stderr=told, env={**os.environ, **(env or {})})
+        _, status, used = os.wait4(started.pid, 0)
+        seconds = time.monotonic() - begin
+        started.returncode = os.waitstatus_to_exitcode(status)
+        said.seek(0)
+        told.seek(0)
+        check_end(words, started.returncode, said=told.read())
+        return Ended(said.read(), seconds, used.ru_utime + used.ru_stime, used.ru_maxrss / 1024)
+
+
+def parties(registries, count):
+    """The sender and the receiver of each transfer, and the sender's number of it, from 1 on."""
+    codes = codes_of(registries)
+    return [(codes[it % registries], codes[(it + 1) % registries], it // registries + 1) for it in range(count)]
+
+
+def script(registries, count, kind):
+    all_of = parties(registries, count)
+    orders = [f"propose {first} 1 {other} 1 {first}:1:{number}-{number}:AAU\n" for first, other, number in all_of]
+    waits = [f"until {other} {first}{number} Completed {TURNS}\n" for first, other, number in all_of]
+    if kind == "together":
         return "".join(orders + waits)
     return "".join(order + wait for order, wait in zip(orders, waits))
 
 
-def played(room, count, together, before=()):
-    """Seconds of a run of that many transfers with new stores, and its folder."""
-    folder = pathlib.Path(tempfile.mkdtemp(dir=room))
-    (folder / "stores").mkdir()
-    (folder / "scheme").write_text(scheme(max(count, 1)))
-    (folder / "script").write_text(script(count, together) or "status NZ NZ1\n")
-    begin = time.monotonic()
-    words = [*before, program(), "run", folder / "scheme", folder / "stores", folder / "script"]
-    ended = run_to_end(words, capture_output=True, text=True)
-    seconds = time.monotonic() - begin
-    if len(re.findall(r"^transaction .* Completed ITL Completed JP Completed$", ended.stdout, re.MULTILINE)) != count:
-        sys.exit("a transfer isn't completed")
-    return seconds, folder
+class Bench:
+    """A folder on the disk to try, with the C program and the library that makes syncs slow."""
 
+    def __init__(self, room):
+        self.room = pathlib.Path(room)
+        self.peer = self.room / "transfers"
+        self.slow = self.room / "slow_sync.so"
+        building.build_c(BENCH / "transfers.c", self.peer, "-std=c11", "-lsqlite3", "-lpthread")
+        building.build_c(BENCH / "slow_sync.c", self.slow, "-shared", "-fPIC", "-ldl")
 
-def commits(room, count, together):
-    """How often a run syncs each store's log, which it does once for each commit, and how many records each store has then."""
-    trace = pathlib.Path(room) / "trace"
-    _, folder = played(room, count, together, ["strace", "-f", "-y", "-qq", "-e", "trace=fsync,fdatasync", "-o", trace])
-    text = trace.read_text()
-    found = {}
-    for node in NODES:
-        store = sqlite3.connect(folder / "stores" / f"{node}.db")
-        records = store.execute("SELECT count(*) FROM entries").fetchone()[0]
-        store.close()
-        found[node] = (text.count(f"/{node}.db-wal>"), records)
-    return found
+    def env(self, sync, nap=0):
+        return {"LD_PRELOAD": str(self.slow), "SYNC_MICROSECONDS": str(sync), "NAP_MICROSECONDS": str(nap)}
 
+    def play(self, registries, count, kind, env=None, before=()):
+        """A run of that many transfers with new stores."""
+        folder = pathlib.Path(tempfile.mkdtemp(dir=self.room))
+        (folder / "stores").mkdir()
+        (folder / "scheme").write_text(scheme(codes_of(registries), max(count, 1)))
+        (folder / "script").write_text(script(registries, count, kind) or "status AA AA1\n")
+        words = [*before, program(), "run", folder / "scheme", folder / "stores", folder / "script"]
+        ended = timed(words, env)
+        shutil.rmtree(folder)
+        if len(re.findall(r"^transaction \S+ \S+ Completed ITL Completed \S+ Completed$", ended.said, re.MULTILINE)) != count:
+            sys.exit("a transfer isn't completed")
+        return ended
 
-def time_of_c(program, room, found, together):
-    """Seconds that the C program takes for these commits: one store after another, or all at a time."""
-    folder = pathlib.Path(tempfile.mkdtemp(dir=room))
+    def play_in_c(self, registries, count, kind, env):
+        folder = pathlib.Path(tempfile.mkdtemp(dir=self.room))
+        ended = timed([self.peer, folder, registries, count, "together" if kind == "together" else "one"], env)
+        shutil.rmtree(folder)
+        return ended
 
-    def append(node):
-        times, records = found[node]
-        words = [program, folder / node, str(records), str(max(1, round(records / times))), "0"]
-        return int(run_to_end(words, stdout=subprocess.PIPE, text=True).stdout) / 1_000_000
+    def compare(self, registries, count, kind, sync, tries):
+        """The rate, its ratio to C's, and the processor time of a transfer in milliseconds and as a multiple of C's."""
+        env = self.env(sync, 0 if kind == "together" else NAP)
+        idle = min((self.play(registries, 0, kind, env) for _ in range(2)), key=lambda it: it.seconds)
+        ours, theirs, commits = [], [], 0
+        for _ in range(tries):
+            ended = self.play(registries, count, kind, env)
+            ours.append((ended.seconds - idle.seconds, ended.busy - idle.busy))
+            ended = self.play_in_c(registries, count, kind, env)
+            micros, commits = map(int, ended.said.split())
+            theirs.append((micros / 1_000_000, ended.busy))
+        seconds, busy = map(min, zip(*ours))
+        other, other_busy = map(min, zip(*theirs))
+        print(f"{registries:3} registries, syncs of {sync / 1000} ms more, {kind}: {count / seconds:.0f} a second, C {count / other:.0f}; "
+              f"{other / seconds:.2f} of C's rate; {busy / count * 1000:.2f} ms of processor time a transfer, {busy / other_busy:.1f} "
+              f"times C's; C makes {commits / count:.1f} commits each", flush=True)
+        return count / seconds, other / seconds, busy / count
 
-    with concurrent.futures.ThreadPoolExecutor(len(NODES) if together else 1) as threads:
-        begin = time.monotonic()
-        each = list(threads.map(append, NODES))
-        return time.monotonic() - begin if together else sum(each)
+    def calls(self, registries, count):
+        """The system calls of a transfer, of those that go together."""
+        trace = self.room / "trace"
+        self.play(registries, count, "together", before=["strace", "-f", "-qq", "-c", "-e", f"trace={TRACED}", "-o", trace])
+        found = {}
+        for line in trace.read_text().splitlines():
+            fields = line.split()
+            if len(fields) >= 5 and fields[-1] in TRACED.split(","):
+                found[fields[-1]] = int(fields[3]) / count
+        print(f"{registries:3} registries, system calls of a transfer: "
+              + ", ".join(f"{name} {times:.1f}" for name, times in sorted(found.items(), key=lambda it: -it[1])), flush=True)
 
 
 class Session:
@@ -128,20 +179,32 @@ def await_server(bin, data):
     check_end(words, status)
 
 
-def postgres_rate(room, count):
-    """Transfers a second of rows between two databases of a server of our own, each prepared in both and then committed."""
+@contextlib.contextmanager
+def postgres(room, env):
+    """The folder of a server of our own, which is stopped in the end."""
     bin = POSTGRES[-1]
-    data = pathlib.Path(room) / "postgres"
+    data = pathlib.Path(tempfile.mkdtemp(dir=room))
     own = ["setpriv", "--reuid=postgres", "--regid=postgres", "--clear-groups"] if shutil.which("setpriv") else []
-    data.mkdir()
     shutil.chown(data, "postgres", "postgres")
     pathlib.Path(room).chmod(0o755)
     quiet = {"stdout": subprocess.DEVNULL, "stderr": subprocess.DEVNULL}
     run_to_end([*own, bin / "initdb", "-D", data / "data", "-A", "trust"], **quiet)
     words = [*own, bin / "postgres", "-D", data / "data", "-k", data, "-c", "listen_addresses=", "-c", "max_prepared_transactions=10"]
-    server = subprocess.Popen(words, **quiet)
+    server = subprocess.Popen(words, env={**os.environ, **env}, **quiet)
     try:
         await_server(bin, data)
+        yield data
+    finally:
+        # With this signal it stops without waiting for sessions, which are still there where a statement failed.
+        server.send_signal(signal.SIGINT)
+        status = server.wait()
+    check_end(words, status)
+
+
+def postgres_rate(room, count, env):
+    """Transfers a second of rows between two databases of a server of our own, each prepared in both and then committed."""
+    bin = POSTGRES[-1]
+    with postgres(room, env) as data:
         first = Session(bin, data, "postgres")
         first.make("CREATE DATABASE nz; ")
         first.make("CREATE DATABASE jp; ")
@@ -158,41 +221,50 @@ def postgres_rate(room, count):
         seconds = time.monotonic() - begin
         nz.end()
         jp.end()
-    finally:
-        # With this signal it stops without waiting for sessions, which are still there where a statement failed.
-        server.send_signal(signal.SIGINT)
-        status = server.wait()
-    check_end(words, status)
     return count / seconds
+
+
+def compare_all(bench, given):
+    """Whether a limit is passed by a rate or by the processor time of many registries."""
+    passed = False
+    for sync in given.syncs:
+        busy = {}
+        for registries in given.registries:
+            rate, share, _ = bench.compare(registries, given.alone, "one after another", sync, given.tries)
+            passed |= share < LEAST_ALONE.get(sync, LEAST_ALONE[0])
+            _, share, busy[registries] = bench.compare(registries, given.together, "together", sync, given.tries)
+            passed |= share < LEAST_TOGETHER
+            if POSTGRES and registries == 2:
+                other = postgres_rate(bench.room, given.alone, bench.env(sync))
+                print(f"PostgreSQL, one after another: {other:.0f} a second; kyoto-link makes {rate / other:.2f} of that", flush=True)
+                passed |= sync >= AHEAD_FROM and rate < other
+        least, most = min(busy), max(busy)
+        times = busy[most] / busy[least]
+        print(f"processor time of a transfer together at {most} registries: {times:.2f} times that at {least}", flush=True)
+        passed |= times > MOST_TIMES_TWO
+    return passed
 
 
 def main():
     words = argparse.ArgumentParser(description=__doc__, formatter_class=argparse.RawDescriptionHelpFormatter)
-    words.add_argument("--counts", type=int, nargs="*", default=[1_000, 4_000], help="how many transfers")
+    words.add_argument("--alone", type=int, default=300, help="how many transfers go one after another")
+    words.add_argument("--together", type=int, default=2_000, help="how many go together")
+    words.add_argument("--registries", type=int, nargs="+", default=[2, 8, 31], help="among how many registries")
+    words.add_argument("--syncs", type=int, nargs="+", default=[0, 100, 1_000], help="how many microseconds longer a sync takes")
+    words.add_argument("--tries", type=int, default=3, help="the best times count")
     words.add_argument("--room", default=None, help="a folder on the disk to try; a temporary one if left out")
     given = words.parse_args()
-    need("strace", "counts commits")
-    need("gcc", "builds store.c")
+    need("gcc", "builds the C program")
+    need("strace", "counts system calls")
     program()
-    passed = False
     with tempfile.TemporaryDirectory(dir=given.room) as room:
-        peer = pathlib.Path(room) / "store"
-        build_c(peer)
-        idle = min(played(room, 0, False)[0] for _ in range(3))
-        print(f"a run without transfers: {idle:.2f} s")
-        for together in (False, True):
-            found = commits(room, 200, together)
-            for count in given.counts:
-                seconds = min(played(room, count, together)[0] for _ in range(2)) - idle
-                scaled = {node: (max(1, times * count // 200), records * count // 200) for node, (times, records) in found.items()}
-                other = min(time_of_c(peer, room, scaled, together) for _ in range(2))
-                share = other / seconds
-                passed |= share < LEAST_OF_C
-                made = sum(times for times, _ in scaled.values()) / count
-                kind = "together" if together else "one after another"
-                print(f"{count} transfers {kind}: {count / seconds:.0f} a second, {made:.1f} commits each; {share:.2f} of C's rate", flush=True)
-        if POSTGRES:
-            print(f"PostgreSQL, one after another: {postgres_rate(room, 1_000):.0f} a second")
+        bench = Bench(room)
+        passed = compare_all(bench, given)
+        for registries in (min(given.registries), max(given.registries)):
+            bench.calls(registries, 200)
+        megabytes = bench.play(32, 320, "together").megabytes
+        print(f"most memory of a run with 32 registries: {megabytes:.0f} MB")
+        passed |= megabytes > MOST_MEGABYTES
     sys.exit(1 if passed else 0)
 
 

@@ -52,6 +52,11 @@ some_of (Some x) no' = refl
 pub free_from : (held : HoldingsView) (s : Serial) (unit_holding : UnitHolding) → option_map is_unreserved (get held.unit_holdings s) ≡ Some true → get held.unit_holdings s ≡ Some unit_holding → unit_holding.reserving ≡ None
 free_from held s unit_holding e is = none_of unit_holding.reserving (same_Some (is_none unit_holding.reserving) true (ap (option_map is_unreserved) (sym is) ∙ e))
 
+-- what passes both tests passes each
+pub both_pass : (p q : UnitHolding → Bool) (o : Option UnitHolding) → option_map (λ u. p u && q u) o ≡ Some true → (option_map p o ≡ Some true) × (option_map q o ≡ Some true)
+both_pass p q None e = cc
+both_pass p q (Some u) e = let two = and_parts (p u) (q u) (same_Some (p u && q u) true e) in (ap Some two.0, ap Some two.1)
+
 -- a held unit that doesn't pass is reserved
 pub reserved_from : (held : HoldingsView) (account : ℕ) (blocks : List Block) → AreHeld held account blocks → (s : Serial) → covers blocks s ≡ true → option_map is_unreserved (get held.unit_holdings s) ≢ Some true → IsReserved held blocks
 reserved_from held account blocks all s h no' =

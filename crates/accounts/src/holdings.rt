@@ -189,6 +189,29 @@ impl Holdings {
         blocks.iter().all(|block| self.is_free(block))
     }
 
+    /// Whether each of the block's units is in the account, with the block's kind, and reserved by none.
+    fn holds_free(&self, account: u64, block: &Block) -> bool
+        ensures { OnTrue result ((s : Serial) → IsTrue (has_unit block.now.raw s)
+            → IsHeldAs self.now account block.now.raw.kind s
+            × (option_map (λ unit_holding. is_none unit_holding.reserving) (map.get self.now.unit_holdings s)
+            ≡ Some true)) }
+    {
+        let kind = block.raw.kind;
+        self.unit_holdings.has_all_of(
+            block,
+            |unit_holding| unit_holding.account == account
+                && unit_holding.kind == kind
+                && unit_holding.reserving.is_none(),
+        )
+    }
+
+    /// Whether each unit of the blocks is in the account, with its block's kind, and reserved by none.
+    fn holds_each_free(&self, account: u64, blocks: &[Block]) -> bool
+        ensures { OnTrue result (AreHeld self.now account blocks.now × AreFree self.now blocks.now) }
+    {
+        blocks.iter().all(|block| self.holds_free(account, block))
+    }
+
     /// Whether the account may reserve the blocks' units: it is open and has them all with their
     /// blocks' kinds, none of them reserved. Each check looks at all units before the next one
     /// does. Refused with `ACCOUNT_NOT_OPEN`: the account is unknown or closed; `UNIT_NOT_HELD`: a
@@ -202,6 +225,10 @@ impl Holdings {
             return Err(Refusal {
                 code: ACCOUNT_NOT_OPEN,
             });
+        }
+        // Where nothing is wrong, one walk finds so. Else two of them tell what comes first in the order of refusals.
+        if self.holds_each_free(account, blocks) {
+            return Ok(());
         }
         if !self.holds_each(account, blocks) {
             return Err(Refusal::NOT_HELD);

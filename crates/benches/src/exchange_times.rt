@@ -4,7 +4,7 @@ use crate::fault::Fault;
 use crate::nz::{code, in_memory};
 use crate::work::one;
 use desk::stores::MemoryStore;
-use desk::{Desk, RoomBell, Seat, WallClock};
+use desk::{Bells, Desk, RoomBell, Seat, WallClock};
 use exchanges::{Counted, Exchange, exchange, serve_session};
 use protocol::units::Node;
 use protocol::wire::{Message, Reply, decode};
@@ -155,7 +155,7 @@ where
     R: Threads + Wait + Clock + Net<Listener = TcpListener, Stream = TcpStream> + Sync,
 {
     let node = Node::Registry(code("NZ")?);
-    let desk: NzDesk = Desk::new(in_memory(alloc)?, RoomBell::new());
+    let desk: NzDesk = Desk::new(in_memory(alloc)?, Bells::new(alloc));
     one(
         alloc,
         time_of(rt, alloc, node, &desk, count).ok_or(Fault::Exchange)?,

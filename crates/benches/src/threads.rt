@@ -6,7 +6,7 @@ use crate::fault::Fault;
 use crate::nz::{code, in_memory, order_of};
 use crate::work::one;
 use desk::stores::{MemoryStore, NodeStore, StoreFault};
-use desk::{BATCH, Bell, Desk, Ended, RoomBell, Seat, State, Stored, Taken, Told, settle};
+use desk::{BATCH, Bell, Bells, Desk, Ended, RoomBell, Seat, State, Stored, Taken, Told, settle};
 use protocol::Stepped;
 use protocol::units::{Code, Kind, Period, RawBlock};
 use protocol::wire::Input;
@@ -22,6 +22,9 @@ use std::time::{Duration, Instant};
 type NzDesk<S> = Desk<Brand, RegistryCore, S, RoomBell>;
 
 const TAKERS: u32 = 4;
+
+/// Each so many proposals a taker waits for the commit, so that all takers together have a batch committed at a time.
+const AWAITED: u64 = BATCH as u64 / TAKERS as u64;
 
 /// How far one proposal's unit is from the next one's.
 const STEP: u64 = 2;
@@ -53,18 +56,18 @@ fn confirm<S: NodeStore, R: Wait + Clock>(
     is_committed
 }
 
-/// Has the desk take the input, and waits until the last one is committed. Returns whether it was recorded, and the
-/// last one committed.
+/// Has the desk take the input, and waits until it is committed where its taker waits for this one. Returns whether it
+/// was recorded, and committed where that was awaited.
 fn take_one<S: NodeStore, R: Wait + Clock>(
     rt: &R,
     desk: &NzDesk<S>,
     seat: &mut Seat,
     input: Input,
-    is_last: bool,
+    is_awaited: bool,
 ) -> bool {
     let taken = desk.take(rt, seat, input);
     let is_recorded = matches!(taken.told(), Told::Step(Stepped::Recorded(_)));
-    if is_recorded && is_last {
+    if is_recorded && is_awaited {
         confirm(rt, desk, seat, taken)
     } else {
         drop(taken);
@@ -72,7 +75,7 @@ fn take_one<S: NodeStore, R: Wait + Clock>(
     }
 }
 
-/// Has the desk take the proposals of those numbers, and waits until the last one is committed.
+/// Has the desk take the proposals of those numbers, and waits until each `AWAITED`th and the last one is committed.
 fn take_each<S: NodeStore, R: Wait + Clock>(
     rt: &R,
     alloc: Global,
@@ -85,8 +88,9 @@ fn take_each<S: NodeStore, R: Wait + Clock>(
     let end = first.saturating_add(count);
     for number in first..end {
         let input = proposal(alloc, jp, number)?;
-        let is_last = number.saturating_add(1) == end;
-        if !take_one(rt, desk, seat, input, is_last) {
+        let next = number.saturating_add(1);
+        let is_awaited = next % AWAITED == 0 || next == end;
+        if !take_one(rt, desk, seat, input, is_awaited) {
             return Err(Fault::Recorded);
         }
     }
@@ -115,12 +119,12 @@ fn take_all<S: NodeStore, R: Wait + Clock>(
 /// Commits until the desk has stopped.
 fn commit_all<S: NodeStore, R: Wait + Clock>(rt: &R, desk: &NzDesk<S>) -> Result<(), StoreFault> {
     for _ in rt.forever() {
-        let rings = desk.bell().rings(rt);
+        let rings = desk.bells().work().rings(rt);
         if desk.commit_next(rt)? == 0 {
             if !desk.is_running(rt) {
                 return Ok(());
             }
-            desk.bell().wait(rt, rings);
+            desk.bells().work().wait(rt, rings);
         }
     }
     unreachable!()
@@ -254,7 +258,7 @@ pub fn threads_time<R: Threads + Wait + Clock + Sync, S: NodeStore + Send + Drop
         Ok(stored) => stored,
         Err(fault) => return Err(fault),
     };
-    let desk: NzDesk<S> = Desk::new(stored, RoomBell::new());
+    let desk: NzDesk<S> = Desk::new(stored, Bells::new(alloc));
     let Ok(jp) = code("JP") else {
         drop(desk);
         return Err(Fault::Input);

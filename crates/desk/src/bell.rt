@@ -10,6 +10,9 @@ pub const LONGEST_QUIET: u64 = 1;
 
 /// A number that threads can wait for to change.
 pub trait Bell: Drop {
+    /// A bell whose number is 0.
+    fn new() -> Self;
+
     /// The number now.
     fn rings<R: Wait>(&self, rt: &R) -> u64;
 
@@ -28,16 +31,6 @@ pub struct RoomBell {
     rung: Condvar,
 }
 
-impl RoomBell {
-    /// A bell whose number is 0.
-    pub fn new() -> RoomBell {
-        RoomBell {
-            rings: Mutex::new(0),
-            rung: Condvar::new(),
-        }
-    }
-}
-
 /// The number after one ring more.
 fn rung_once(rings: u64) -> u64
     ensures { result ≡ (rings + 1) % 2 ^ 64 }
@@ -46,13 +39,23 @@ fn rung_once(rings: u64) -> u64
 }
 
 impl Bell for RoomBell {
+    fn new() -> RoomBell {
+        RoomBell {
+            rings: Mutex::new(0),
+            rung: Condvar::new(),
+        }
+    }
+
     fn rings<R: Wait>(&self, rt: &R) -> u64 {
         *self.rings.lock(rt)
     }
 
     fn ring<R: Wait>(&self, rt: &R) {
-        let mut rings = self.rings.lock(rt);
-        *rings = rung_once(*rings);
+        {
+            let mut rings = self.rings.lock(rt);
+            *rings = rung_once(*rings);
+        }
+        // Whoever wakes takes the lock, so that it is let go before.
         self.rung.notify_all();
     }
 

@@ -7,14 +7,15 @@ ghost use Rattle.desk.specs.Telling.{kept};
 
 use crate::at_desk::{AtDesk, BATCH};
 use crate::bell::Bell;
+use crate::bells::Bells;
 use crate::confirmation::Confirmation;
 use crate::gate::{Gate, OpenGate, Spot};
-use crate::notes::{Asked, Told};
+use crate::notes::Asked;
 use crate::opening::Opening;
 use crate::seat::Seat;
-use crate::state::{Receipt, Taken};
+use crate::state::{Receipt, State, Taken};
 use crate::stored::Stored;
-use protocol::{NodeCore, Stepped};
+use protocol::NodeCore;
 use status::TransactionId;
 use std::rt::Clock as SystemClock;
 use std::sync::{Mutex, Wait};
@@ -30,27 +31,27 @@ pub struct Ended<C: NodeCore, S: NodeStore> {
     pub fault: Option<StoreFault>,
 }
 
-/// A node's state and its store under a lock, and a bell that rings when the state has a record more, has committed
-/// records, or has stopped. A thread brings a seat of its own to each call that tells it something.
+/// A node's state and its store under a lock, and bells that ring where a thread waits for a commit, where the state has
+/// committed records, and where it has stopped. A thread brings a seat of its own to each call that tells it something.
 #[derive(Drop)]
 pub struct Desk<O: Opening, C: NodeCore, S: NodeStore, B: Bell> {
     locked: Mutex<AtDesk<O, C, S>>,
-    bell: B,
+    bells: Bells<B>,
 }
 
 impl<O: Opening, C: NodeCore, S: NodeStore, B: Bell> Desk<O, C, S, B> {
     /// A desk with this state, which runs, and its store.
-    pub fn new(stored: Stored<C, S>, bell: B) -> Desk<O, C, S, B>
+    pub fn new(stored: Stored<C, S>, bells: Bells<B>) -> Desk<O, C, S, B>
         requires { MayOpen S.NodeStore O.opened stored }
     {
         Desk {
             locked: Mutex::new(AtDesk::new(stored)),
-            bell,
+            bells,
         }
     }
 
-    /// Has the state take an input, and returns what it tells. The seat has kept it. The bell rings where the input
-    /// was recorded.
+    /// Has the state take an input, and returns what it tells. The seat has kept it. No bell rings: the thread that
+    /// commits is woken by whoever waits in `confirm`, and looks every `LONGEST_QUIET` seconds by itself.
     ///
     /// Where memory ran out before the state was asked, it returns refusal `OUT_OF_MEMORY` with the length of the
     /// journal, and of that the seat has kept the length.
@@ -95,9 +96,6 @@ impl<O: Opening, C: NodeCore, S: NodeStore, B: Bell> Desk<O, C, S, B> {
     {
         let taken = self.take_locked(rt, input, gate);
         seat.keep(&taken);
-        if matches!(taken.told(), Told::Step(Stepped::Recorded(_))) {
-            self.bell.ring(rt);
-        }
         taken
     }
 
@@ -165,7 +163,8 @@ impl<O: Opening, C: NodeCore, S: NodeStore, B: Bell> Desk<O, C, S, B> {
     }
 
     /// Waits until all records are committed that the journal had when this was taken, and returns a receipt of it.
-    /// The seat has kept that they are. It looks when the bell rings, and every `LONGEST_QUIET` seconds by itself.
+    /// The seat has kept that they are. Where they aren't yet, the thread that commits is woken. It looks after each
+    /// commit, and every `LONGEST_QUIET` seconds by itself.
     ///
     /// Fails with `NODE_STOPPED` where the state stopped before that commit. The seat is then as it was.
     pub fn confirm<R: Wait + SystemClock>(
@@ -180,7 +179,7 @@ impl<O: Opening, C: NodeCore, S: NodeStore, B: Bell> Desk<O, C, S, B> {
             × AreStored S.NodeStore O.opened taken.length)
             (λ refusal. (refusal ≡ stopped) × (seat.new ≡ seat.old)) }
     {
-        match self.wait_for_receipt(rt, taken) {
+        match self.receipt(rt, taken) {
             Ok(receipt) => {
                 seat.confirm(&receipt);
                 Ok(receipt)
@@ -189,7 +188,25 @@ impl<O: Opening, C: NodeCore, S: NodeStore, B: Bell> Desk<O, C, S, B> {
         }
     }
 
-    fn wait_for_receipt<R: Wait + SystemClock>(
+    /// As `confirm`, for a thread that doesn't have the seat with which this was taken. Whoever has a seat keeps the
+    /// receipt with it by `Seat::confirm`.
+    pub fn receipt<R: Wait + SystemClock>(&self, rt: &R, taken: Taken) -> Result<Receipt, Refusal>
+        ensures { MatchResult result
+            (λ receipt. (receipt ≡ taken) × AreStored S.NodeStore O.opened taken.length)
+            (λ refusal. refusal ≡ stopped) }
+    {
+        match self.confirmation_locked(rt, taken) {
+            Confirmation::Committed(receipt) => Ok(receipt),
+            Confirmation::Stopped => Err(Refusal { code: NODE_STOPPED }),
+            Confirmation::Awaited(back) => {
+                self.bells.work().ring(rt);
+                self.wait_for_commit(rt, back)
+            }
+        }
+    }
+
+    /// As `receipt`, once the thread that commits is woken.
+    fn wait_for_commit<R: Wait + SystemClock>(
         &self,
         rt: &R,
         taken: Taken,
@@ -201,13 +218,13 @@ impl<O: Opening, C: NodeCore, S: NodeStore, B: Bell> Desk<O, C, S, B> {
         let mut awaited = taken;
         for _ in rt.forever() {
             // Read before the state is asked, so that no ring between the two is missed.
-            let rings = self.bell.rings(rt);
+            let rings = self.bells.commits().rings(rt);
             match self.confirmation_locked(rt, awaited) {
                 Confirmation::Committed(receipt) => return Ok(receipt),
                 Confirmation::Stopped => return Err(Refusal { code: NODE_STOPPED }),
                 Confirmation::Awaited(back) => awaited = back,
             }
-            self.bell.wait(rt, rings);
+            self.bells.commits().wait(rt, rings);
         }
         unreachable!()
     }
@@ -221,15 +238,18 @@ impl<O: Opening, C: NodeCore, S: NodeStore, B: Bell> Desk<O, C, S, B> {
 
     /// Appends the first records that aren't committed, at most `BATCH`, to the store, and returns how many: these
     /// are committed now. It holds the lock until the store has them. Where there are none, and where the state was
-    /// stopped, it returns 0, and the store is as it was. The bell rings unless it returns 0.
+    /// stopped, it returns 0, and the store is as it was. Else those are woken that wait for a commit, and the threads
+    /// that send to the receivers of what was committed.
     ///
     /// Fails as `append` of the store does. Then the state has stopped, and `end` returns the fault.
     pub fn commit_next<R: Wait>(&self, rt: &R) -> Result<usize, StoreFault>
         ensures { IsCommit S.NodeStore O.opened BATCH result }
     {
         let committed = self.commit_locked(rt);
-        if !matches!(committed, Ok(0)) {
-            self.bell.ring(rt);
+        match committed {
+            Ok(0) => {}
+            Ok(_) => self.bells.ring_commit(rt),
+            Err(_) => self.bells.ring_all(rt),
         }
         committed
     }
@@ -237,7 +257,20 @@ impl<O: Opening, C: NodeCore, S: NodeStore, B: Bell> Desk<O, C, S, B> {
     fn commit_locked<R: Wait>(&self, rt: &R) -> Result<usize, StoreFault>
         ensures { IsCommit S.NodeStore O.opened BATCH result }
     {
-        self.locked.lock(rt).commit()
+        let mut locked = self.locked.lock(rt);
+        let first = locked.state().committed_sends();
+        let committed = locked.commit();
+        self.mark_receivers(locked.state(), first);
+        committed
+    }
+
+    /// Marks the bells of the receivers of all committed messages from that key on.
+    fn mark_receivers(&self, state: &State<C>, first: usize) {
+        for key in first..state.committed_sends() {
+            if let Some(message) = state.committed_message(key) {
+                self.bells.mark(message.receiver());
+            }
+        }
     }
 
     /// The least key, from `from` on, of a message to `peer` that the committed records send and no record of the
@@ -264,17 +297,17 @@ impl<O: Opening, C: NodeCore, S: NodeStore, B: Bell> Desk<O, C, S, B> {
         self.locked.lock(rt).state().committed_count()
     }
 
-    /// The bell, for threads that wait until there is more to commit or to send: read its number, look at the desk,
-    /// and wait for another number where there is nothing to do. Such a wait also ends after `LONGEST_QUIET`
+    /// The bells, for threads that wait until there is more to commit or to send: read a bell's number, look at the
+    /// desk, and wait for another number where there is nothing to do. Such a wait also ends after `LONGEST_QUIET`
     /// seconds, so look again after it.
-    pub fn bell(&self) -> &B {
-        &self.bell
+    pub fn bells(&self) -> &Bells<B> {
+        &self.bells
     }
 
-    /// Stops the state, and rings the bell. Calls that wait in `confirm` for a commit fail then.
+    /// Stops the state, and rings all bells. Calls that wait in `confirm` for a commit fail then.
     pub fn stop<R: Wait>(&self, rt: &R) {
         self.locked.lock(rt).stop();
-        self.bell.ring(rt);
+        self.bells.ring_all(rt);
     }
 
     /// The state with its store, and the fault that stopped the store, if one did, once no thread shares the desk.
@@ -282,7 +315,7 @@ impl<O: Opening, C: NodeCore, S: NodeStore, B: Bell> Desk<O, C, S, B> {
         ensures keeps { IsKept S.NodeStore result.stored }
         ensures at { IsAtDesk S.NodeStore O.opened result.stored result.fault }
     {
-        let Desk { locked, bell: _ } = self;
+        let Desk { locked, bells: _ } = self;
         let (stored, fault) = locked.into_inner().into_parts();
         Ended { stored, fault }
     }

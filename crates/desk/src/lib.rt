@@ -4,6 +4,7 @@
 
 mod at_desk;
 mod bell;
+mod bells;
 mod clock;
 mod confirmation;
 mod counting;
@@ -22,6 +23,7 @@ mod stored;
 
 pub use at_desk::BATCH;
 pub use bell::{Bell, LONGEST_QUIET, RoomBell};
+pub use bells::Bells;
 pub use clock::{Clock, WallClock};
 pub use desk::{Desk, Ended};
 pub use gate::{Gate, OpenGate, Spot};

@@ -280,11 +280,18 @@ impl<C: NodeCore> State<C> {
         Some((key, message))
     }
 
+    /// How many messages the committed records send.
+    pub(crate) fn committed_sends(&self) -> usize
+        ensures { result ≡ length (sends (committed_past self.now)) }
+    {
+        self.core.sent_by(self.committed)
+    }
+
     /// The message with that key, if a committed record sends it.
-    fn committed_message(&self, key: usize) -> Option<&Message>
+    pub(crate) fn committed_message(&self, key: usize) -> Option<&Message>
         ensures { option_copied result ≡ slice_get (sends (committed_past self.now)) key }
     {
-        if key < self.core.sent_by(self.committed) {
+        if key < self.committed_sends() {
             self.core.outbox(key)
         } else {
             None

@@ -109,11 +109,11 @@ ended_later old between new note answer f seat (inr h) = record {
   later = λ _. inr (h.0 ∙ seat, h.1, h.2);
 }
 
-pub at_once_from :
-    (old new : SeatView) (note : Note) (said : Told) (reply : Reply) (answer : AnswerView) (line : List ℕ) → said ≡ note.told → is_without_journal said ≡ true → Gives said reply
-    → answer ≡ record { line = line; reply = reply; receipt = None } → new ≡ kept old note → EndsBy old new note answer
-at_once_from old new note said reply answer line same t gives is seat =
-    let bare : AnswerView = record { line = line; reply = reply; receipt = None } in
-    let ends : EndsBy old new note bare =
-    ended_at_once old new note bare (subst (λ (x : Told). is_without_journal x ≡ true) same t) seat refl (subst (λ (x : Told). Gives x reply) same gives) in
-    subst (λ (a : AnswerView). EndsBy old new note a) (sym is) ends
+-- the same where what was told waited
+pub ended_of :
+    (old between new : SeatView) (note waited : Note) (answer : AnswerView) → waited ≡ note → is_without_journal waited.told ≡ false → between ≡ kept old note
+    → ((new ≡ confirmed between waited) × (answer.receipt ≡ Some waited) × Gives waited.told answer.reply) ⊎ ((new ≡ between) × (answer.receipt ≡ None) × IsRefusedBy node_stopped answer.reply)
+    → EndsBy old new note answer
+ended_of old between new note waited answer same f seat end =
+    ended_later old between new note answer (subst (λ (n : Note). is_without_journal n.told ≡ false) same f) seat
+    (subst (λ (n : Note). ((new ≡ confirmed between n) × (answer.receipt ≡ Some n) × Gives n.told answer.reply) ⊎ ((new ≡ between) × (answer.receipt ≡ None) × IsRefusedBy node_stopped answer.reply)) same end)

@@ -71,6 +71,18 @@ IsAnswer line reply (Some note) = Backs line reply note
 abbrev pub given_of : List AnswerView → List Given
 given_of answers = map (λ (a : AnswerView). record { line = a.line; reply = a.reply }) answers
 
+-- a line and what was told of its message, which a journal judged
+pub record PendingView : Type 0 where
+  pub line : List ℕ
+  pub note : Note
+
+abbrev pub IsPending : List ℕ → Note → Type 0
+IsPending line note = IsOfLine line note × (is_without_journal note.told ≡ false)
+
+-- the answer has a receipt of that note and the reply that it gives, or the node stopped before there was one
+abbrev pub EndsWith : Note → AnswerView → Type 0
+EndsWith note answer = ((answer.receipt ≡ Some note) × Gives note.told answer.reply) ⊎ ((answer.receipt ≡ None) × IsRefusedBy node_stopped answer.reply)
+
 -- a clock and a seat, and the answers that were given by them
 pub record DeskAnswererView (K : Type 0) : Type 0 where
   pub clock : K

@@ -1,21 +1,15 @@
 //! What a node replies to a line.
-ghost use Rattle.std.specs.Prelude.{◌≡◌, ◌⊎◌, ℕ, List, true, false, IfOk, IfSome, None, Some, option_copied};
+ghost use Rattle.std.specs.Prelude.{◌≡◌, ◌⊎◌, ℕ, IfOk, None, Some, option_copied};
 ghost use Rattle.units.specs.RefusalCodes.{not_a_message, node_stopped, out_of_memory};
-ghost use Rattle.wire.specs.Messages.{IsLine};
-ghost use Rattle.replies.specs.Answers.{Asks, Backs, Gives, IsAnswer, IsBare, IsOfLine, IsRefusedBy, confirmed, is_without_journal};
+ghost use Rattle.replies.specs.Answers.{Backs, IsAnswer, IsBare, IsRefusedBy};
 ghost use Rattle.replies.specs.Lines.{IsUnread};
 
-use crate::job::Job;
-use desk::stores::NodeStore;
-use desk::{Bell, Clock, Desk, Gate, Opening, Receipt, Seat, Taken, Told};
-use protocol::{NodeCore, refusals_have_causes};
+use desk::Receipt;
 use std::alloc::Global;
 use std::marker::Model;
-use std::rt::Clock as SystemClock;
-use std::sync::Wait;
-use units::refusal_code::{NODE_STOPPED, OUT_OF_MEMORY};
+use units::refusal_code::NODE_STOPPED;
 use units::{NoMemory, Refusal};
-use wire::{Input, Message, Reply, ReplyCode};
+use wire::{Reply, ReplyCode};
 
 /// A line and its reply. Every reply has a receipt, but for three: `NOT_A_MESSAGE` where the line writes no message,
 /// `NODE_STOPPED` and `OUT_OF_MEMORY`. The receipt is of the line's message, and what was told of that gives the
@@ -62,7 +56,7 @@ impl Answer {
     }
 
     /// An answer without a receipt.
-    fn bare(line: Vec<u8>, reply: Reply) -> Answer
+    pub(crate) fn bare(line: Vec<u8>, reply: Reply) -> Answer
         requires { IsBare line.items reply }
         ensures { result ≡ record { line = line.items; reply = reply; receipt = None } }
     {
@@ -74,7 +68,7 @@ impl Answer {
     }
 
     /// An answer with a receipt.
-    fn backed(line: Vec<u8>, reply: Reply, receipt: Receipt) -> Answer
+    pub(crate) fn backed(line: Vec<u8>, reply: Reply, receipt: Receipt) -> Answer
         requires { Backs line.items reply receipt }
         ensures { result ≡ record { line = line.items; reply = reply; receipt = Some receipt } }
     {
@@ -109,113 +103,9 @@ impl Answer {
 }
 
 /// The reply that refuses by a code that needs no receipt.
-fn refused_by(code: u16) -> Reply
+pub(crate) fn refused_by(code: u16) -> Reply
     requires { (code ≡ not_a_message) ⊎ ((code ≡ node_stopped) ⊎ (code ≡ out_of_memory)) }
     ensures { IsRefusedBy code result }
 {
     Reply::Refused(ReplyCode { number: code })
-}
-
-/// The reply to what wasn't judged by a journal: the node had stopped, or memory ran out. `None` where it was judged.
-fn reply_at_once(told: Told) -> Option<Reply>
-    ensures some { IfSome result
-        (λ reply. (is_without_journal told ≡ true) × Gives told reply
-        × (IsRefusedBy node_stopped reply ⊎ IsRefusedBy out_of_memory reply)) }
-    ensures none { result ≡ None → is_without_journal told ≡ false }
-{
-    match told {
-        Told::Refused(refusal) if refusal.code == NODE_STOPPED || refusal.code == OUT_OF_MEMORY => {
-            Some(refused_by(refusal.code))
-        }
-        _ => None,
-    }
-}
-
-/// The reply to a message that was judged by a journal.
-fn reply_to(taken: &Taken) -> Reply
-    requires source { (line : List ℕ) × IsOfLine line taken.now }
-    requires judged { is_without_journal taken.now.told ≡ false }
-    ensures { Gives taken.now.told result }
-{
-    refusals_have_causes();
-    match taken.told() {
-        Told::Step(_) => Reply::Received,
-        Told::Refused(refusal) => match ReplyCode::new(refusal.code) {
-            Some(code) => Reply::Refused(code),
-            None => unreachable!(),
-        },
-        Told::Status(_) => unreachable!(),
-    }
-}
-
-/// Waits for the receipt of a message that was judged by a journal, and returns the answer to its line: with its reply
-/// and the receipt, or with refusal `NODE_STOPPED` where the node stopped before.
-fn answer_confirmed<O: Opening, C: NodeCore, S: NodeStore, B: Bell, R: Wait + SystemClock>(
-    rt: &R,
-    desk: &Desk<O, C, S, B>,
-    seat: &mut Seat,
-    line: Vec<u8>,
-    taken: Taken,
-) -> Answer
-    requires source { IsOfLine line.items taken }
-    requires judged { is_without_journal taken.told ≡ false }
-    ensures line { result.line ≡ line.items }
-    ensures end { ((seat.new ≡ confirmed seat.old taken) × (result.receipt ≡ Some taken)
-        × Gives taken.told result.reply)
-        ⊎ ((seat.new ≡ seat.old) × (result.receipt ≡ None) × IsRefusedBy node_stopped result.reply) }
-{
-    let reply = reply_to(&taken);
-    match desk.confirm(rt, seat, taken) {
-        Ok(receipt) => Answer::backed(line, reply, receipt),
-        Err(_) => Answer::stopped(line),
-    }
-}
-
-/// As `answer_job`, for a line and the message that it writes.
-fn answer_message<
-    O: Opening,
-    C: NodeCore,
-    S: NodeStore,
-    B: Bell,
-    K: Clock,
-    G: Gate,
-    R: Wait + SystemClock,
->(
-    rt: &R,
-    desk: &Desk<O, C, S, B>,
-    seat: &mut Seat,
-    clock: &K,
-    gate: &G,
-    line: Vec<u8>,
-    message: Message,
-) -> Answer
-    requires { IsLine line.items message }
-    ensures line { result.line ≡ line.items }
-    ensures asks { Asks (K.tells clock.now) seat.old seat.new message result }
-{
-    let moment = clock.now();
-    let taken = desk.take_at(rt, seat, Input::Received { message, moment }, gate);
-    match reply_at_once(taken.told()) {
-        Some(reply) => Answer::bare(line, reply),
-        None => answer_confirmed(rt, desk, seat, line, taken),
-    }
-}
-
-/// Has the desk take a job's message once, at the clock's moment, and returns the answer to the job's line: at once
-/// where the node had stopped or memory ran out, and else when all records are committed that the journal had then.
-/// Where the node stops before, the reply is refusal `NODE_STOPPED`. While the desk holds its lock, it passes the gate.
-pub fn answer_job<
-    O: Opening,
-    C: NodeCore,
-    S: NodeStore,
-    B: Bell,
-    K: Clock,
-    G: Gate,
-    R: Wait + SystemClock,
->(rt: &R, desk: &Desk<O, C, S, B>, seat: &mut Seat, clock: &K, gate: &G, job: Job) -> Answer
-    ensures line { result.line ≡ job.line }
-    ensures asks { Asks (K.tells clock.now) seat.old seat.new job.message result }
-{
-    let (line, message) = job.into_parts();
-    answer_message(rt, desk, seat, clock, gate, line, message)
 }

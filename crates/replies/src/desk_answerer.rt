@@ -2,8 +2,9 @@
 ghost use Rattle.std.specs.Prelude.{◌≡◌, [], IfOk, OnErr};
 ghost use Rattle.replies.specs.Answers.{Replies};
 
-use crate::answer::{Answer, answer_job};
+use crate::answer::Answer;
 use crate::job::Job;
+use crate::pending::answer_job;
 use desk::stores::NodeStore;
 use desk::{Bell, Clock, Desk, OpenGate, Opening, Seat};
 use exchanges::Answerer;

@@ -48,6 +48,11 @@ pub all_handed : {X Y Z : Type 0} (f : X → Z) (g : Y → Z) (xs : List X) (ys 
 all_handed f g xs [] all none same = sym (append-nil (map f xs)) ∙ same
 all_handed f g xs (y ∷ ys) all none same = absurd (omega (arith, none))
 
+-- while one is left, fewer have arrived than there are
+pub room_left : {X Y Z : Type 0} (f : X → Z) (g : Y → Z) (xs : List X) (ys rest : List Y) (y : Y) (all : List Z) → ys ≡ y ∷ rest → map f xs ++ map g ys ≡ all → length xs < length all
+room_left f g xs ys rest y all next same =
+    omega (arith, ap (λ l. length l) same, length-append (map f xs) (map g ys), length-map xs f, length-map ys g, ap (λ l. length l) next)
+
 -- a part of a part
 pub part_of_part : {X Y Z : Type 0} (f : Y → Z) (g : X → Y) (xs : List X) → map f (map g xs) ≡ map (λ x. f (g x)) xs
 part_of_part f g [] = refl

@@ -25,7 +25,7 @@ use std::sync::Wait;
 use std::thread;
 use std::thread::Threads;
 use std::time::Duration;
-use units::NoMemory;
+use units::{NoMemory, Node};
 use world::Core;
 
 /// What a script was told: an answer to each line, and the seats that it was told that with, one at each desk.
@@ -200,6 +200,7 @@ fn run_stations<'a, O, N, P, R>(
     alloc: Global,
     scheme: &'a Scheme,
     lines: &'a [ScriptLine],
+    names: &'a [Node],
     stations: &'a [Station<O, Core, N>],
     network: &'a Network<N>,
     watch: &mut P,
@@ -209,7 +210,8 @@ where
     N: NodeTypes,
     P: Watch,
     R: Threads + Wait + SystemClock + Sync,
-    requires { length stations.now ≡ length (nodes_in scheme.now) }
+    requires names { names.now ≡ nodes_in scheme.now }
+    requires stations { length stations.now ≡ length names.now }
     ensures taken { IfOk result
         (λ heard. AreAll (AreOfThread
         (N.Dialer.leads network.now.dialer) N.Dialer.Reader.remaining N.Dialer.Writer.contents N.Store.NodeStore
@@ -218,9 +220,8 @@ where
         (λ heard. IsPlayed scheme.now lines.now heard.script.answers.items heard.script.seats.items) }
     ensures seats { IfOk result (λ heard. vec_len heard.script.seats ≡ length (nodes_in scheme.now)) }
 {
-    let names = nodes_of(alloc, scheme)?;
     let muster = Muster::new();
-    let nodes = nodes_to_run(alloc, names.as_slice(), stations, network, &muster)?;
+    let nodes = nodes_to_run(alloc, names, stations, network, &muster)?;
     let script = Script {
         scheme,
         lines,
@@ -264,12 +265,15 @@ where
         (λ run. IsPlayed scheme.now lines.now run.heard.script.answers.items run.heard.script.seats.items) }
     ensures seats { IfOk result (λ run. vec_len run.heard.script.seats ≡ length (nodes_in scheme.now)) }
 {
-    let stations = stations_of(alloc, loaded)?;
+    let nodes = nodes_of(alloc, scheme)?;
+    let names = nodes.as_slice();
+    let stations = stations_of(alloc, names, loaded)?;
     let heard = run_stations(
         rt,
         alloc,
         scheme,
         lines,
+        names,
         stations.as_slice(),
         network,
         watch,

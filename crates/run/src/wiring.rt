@@ -3,7 +3,7 @@ ghost use Rattle.std.specs.Prelude.{◌≡◌, ◌++◌, ◌∷◌, [], ◌<◌,
 ghost use Rattle.desk.specs.Keeping.{MayOpen};
 ghost use Rattle.run.specs.Wiring.{peers_of};
 
-use desk::{Desk, Opening, RoomBell, Stored};
+use desk::{Bells, Desk, Opening, Stored};
 use sessions::{Muster, Network, NodeThreads, NodeTypes, Station};
 use std::alloc::Global;
 use units::{NoMemory, Node};
@@ -27,19 +27,30 @@ fn push<O: Opening, N: NodeTypes>(
     Ok(())
 }
 
-/// A station for each node, with a desk of its state.
+/// The nodes that the node with that index sends to: the log sends to all registries, and a registry to the log.
+fn peers_at(names: &[Node], at: usize) -> &[Node]
+    requires { at < length names.now }
+    ensures { slice_get (peers_of names.now) at ≡ Some result.now }
+{
+    if at == 0 { &names[1..] } else { &names[..1] }
+}
+
+/// A station for each node, with a desk of its state that has a bell for each node that it sends to.
 pub(crate) fn stations_of<O: Opening, N: NodeTypes>(
     alloc: Global,
+    names: &[Node],
     loaded: Vec<LoadedNode<N>>,
 ) -> Result<Vec<Station<O, Core, N>>, NoMemory>
-    requires { All (MayOpen N.Store.NodeStore O.opened) (map (λ n. n.stored) loaded.items) }
-    ensures { IfOk result (λ v. map (λ s. s.node) v.items ≡ map (λ n. n.stored.state.node) loaded.items) }
+    requires nodes { map (λ n. n.stored.state.node) loaded.items ≡ names.now }
+    requires may_open { All (MayOpen N.Store.NodeStore O.opened) (map (λ n. n.stored) loaded.items) }
+    ensures { IfOk result (λ v. map (λ s. s.node) v.items ≡ names.now) }
 {
     let mut stations = Vec::new(alloc);
     for node in loaded {
         let LoadedNode { stored, listener } = node;
         let node = stored.state().node();
-        let desk = Desk::new(stored, RoomBell::new());
+        let bells = Bells::with_peers(alloc, peers_at(names, stations.len()))?;
+        let desk = Desk::new(stored, bells);
         push(
             &mut stations,
             Station {
@@ -50,14 +61,6 @@ pub(crate) fn stations_of<O: Opening, N: NodeTypes>(
         )?;
     }
     Ok(stations)
-}
-
-/// The nodes that the node with that index sends to: the log sends to all registries, and a registry to the log.
-fn peers_at(names: &[Node], at: usize) -> &[Node]
-    requires { at < length names.now }
-    ensures { slice_get (peers_of names.now) at ≡ Some result.now }
-{
-    if at == 0 { &names[1..] } else { &names[..1] }
 }
 
 /// The threads of each node: at its station, over that network, to the nodes that it sends to. All report at that

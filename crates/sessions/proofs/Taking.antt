@@ -18,7 +18,8 @@ use Rattle.desk.specs.declared.notes.Note.{Note}
 use Rattle.desk.specs.declared.notes.Ticket.{Ticket}
 use Rattle.desk.specs.declared.notes.Told.{Told}
 use Rattle.desk.specs.declared.notes.Told.TheVariants.{Step, Status, Refused}
-use Rattle.replies.specs.Answers.{AnswerView, Asks, is_without_journal}
+use Rattle.replies.specs.Beginning.{Begins}
+use Rattle.replies.specs.declared.pending.Begun.{Begun}
 use Rattle.sessions.specs.Orders.{AreAll, HasNoOrder, HasOnly, was_ordered}
 use Rattle.sessions.specs.Sending.{Acknowledges, Sends}
 use Rattle.sessions.specs.Threads.{AreOfThread, IsDelivered, IsOfThread}
@@ -41,14 +42,6 @@ module _ (P : Input → Type 0) where
   such_kept seat note input asked is all =
       subst (λ (a : Asked). AreSuch (tickets_after seat.tickets note.told a)) (sym asked) (such_after seat.tickets note.told input is all)
 
-  such_asked : (tells : Moment → Type 0) (old new : SeatView) (m : Message) (answer : AnswerView) (a : Asks tells old new m answer) (b : Bool) → is_without_journal a.note.told ≡ b → AreSuch (kept old a.note).tickets → AreSuch new.tickets
-  such_asked tells old new m answer a true is all = subst (λ (s : SeatView). AreSuch s.tickets) (sym (a.ends.at_once is).0) all
-  such_asked tells old new m answer a false is all =
-      elim (a.ends.later is) [
-        | inl told ↦ subst (λ (s : SeatView). AreSuch s.tickets) (sym told.0) all
-        | inr told ↦ subst (λ (s : SeatView). AreSuch s.tickets) (sym told.0) all
-      ]
-
 module _ {R W S : Type 0} (leads : Node → R → W → Type 0) (remaining : R → Option (List ℕ)) (contents : W → Option (List ℕ)) (g : Ghosts S) (opened : Scheme → Node → List Input → ℕ → Type 0) (tells : Moment → Type 0) where
   abbrev Is : Input → Type 0
   Is = IsOfThread leads remaining contents g opened tells
@@ -56,9 +49,13 @@ module _ {R W S : Type 0} (leads : Node → R → W → Type 0) (remaining : R �
   abbrev Are : SeatView → Type 0
   Are = AreOfThread leads remaining contents g opened tells
 
-  -- the answer to a message
-  pub after_answer : (old new : SeatView) (m : Message) (answer : AnswerView) → Asks tells old new m answer → Are old → Are new
-  after_answer old new m answer a all = such_asked Is tells old new m answer a (is_without_journal a.note.told) refl (such_kept Is old a.note (Received m a.moment) a.asked a.time all)
+  -- what came of a message
+  pub after_begun : (old new : SeatView) (m : Message) (begun : Begun) → Begins tells old new m begun → Are old → Are new
+  after_begun old new m begun b all = subst Are (sym b.seat) (such_kept Is old b.note (Received m b.moment) b.asked b.time all)
+
+  -- a seat with the same records
+  pub same_records : (old new : SeatView) → new.tickets ≡ old.tickets → Are old → Are new
+  same_records old new same all = subst (λ (ts : List Ticket). All (λ (t : Ticket). Is t.input) ts) (sym same) all
 
   acknowledged : (old new : SeatView) (key : ℕ) → IsDelivered leads remaining contents g opened key → Acknowledges old new key → Are old → Are new
   acknowledged old new key is a all =

@@ -51,20 +51,21 @@ fn post_at(index: usize) -> Post {
     }
 }
 
-/// Commits the desk's records to its store until the desk stops, also where the store has a fault.
+/// Commits the desk's records to its store until the desk stops, also where the store has a fault: when a thread waits
+/// for a commit, and every `LONGEST_QUIET` seconds, since nobody waits for that of an acknowledgement.
 fn commit_all<O: Opening, C: NodeCore, S: NodeStore, B: Bell, R: Wait + SystemClock>(
     rt: &R,
     desk: &Desk<O, C, S, B>,
 ) {
     for _ in rt.forever() {
         // Read before the desk is looked at, so that no ring between the two is missed.
-        let rings = desk.bell().rings(rt);
+        let rings = desk.bells().work().rings(rt);
         match desk.commit_next(rt) {
             Ok(0) => {
                 if !desk.is_running(rt) {
                     return;
                 }
-                desk.bell().wait(rt, rings);
+                desk.bells().work().wait(rt, rings);
             }
             Ok(_) => {}
             Err(_) => return,
@@ -92,13 +93,14 @@ fn take_handing<R: Wait>(rt: &R, handings: &[Handing], number: usize) -> Option<
 
 /// A node's threads: what they share, and how sessions hand jobs to workers.
 ///
-/// One commits the desk's records to its store, `SESSION_THREADS` serve the connections that others make, `WORKERS`
-/// have the desk take their jobs, of which `MOST_JOBS` wait at most, and one for each peer sends it the unacknowledged
-/// messages, again every `LONGEST_QUIET` seconds while they aren't received. What their seats were told are messages,
-/// at moments that the clock told, and acknowledgements of messages that their peers received, and no orders.
+/// One commits the desk's records to its store, `SESSION_THREADS` serve the connections that others make and wait for
+/// the commits of what came by them, `WORKERS` have the desk take their jobs, of which `MOST_JOBS` wait at most, and one
+/// for each peer sends it the unacknowledged messages, again every `LONGEST_QUIET` seconds while they aren't received.
+/// What their seats were told are messages, at moments that the clock told, and acknowledgements of messages that their
+/// peers received, and no orders.
 ///
 /// The desk stops when it is told to, where the store has a fault, and where 100 accepts in a row failed. Then each
-/// thread ends by itself: one that waits at the bell, for a worker or for a connection looks at the desk again after a
+/// thread ends by itself: one that waits at a bell, for a worker or for a connection looks at the desk again after a
 /// limited time, a session ends at its next read, and the workers end once all session threads have, or once no job has
 /// come for a while.
 #[derive(Drop)]
@@ -167,7 +169,7 @@ impl<'a, O: Opening, C: NodeCore, N: NodeTypes> NodeThreads<'a, O, C, N> {
             Post::Commit => commit_all(rt, &self.station.desk),
             Post::Serve(number) => {
                 if let Some(errands) = take_handing(rt, self.handings.as_slice(), number) {
-                    serve_all(rt, self.alloc, self.station, &self.failures, &errands);
+                    serve_all(rt, self.alloc, self.station, &self.failures, &errands, seat);
                 }
             }
             Post::Work => work(rt, self.station, self.network, &self.errands, seat),

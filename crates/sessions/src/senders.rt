@@ -37,8 +37,8 @@ fn send_round<O: Opening, C: NodeCore, N: NodeTypes, R: Wait>(
     }
 }
 
-/// Sends the unacknowledged messages to a peer, until the desk stops: again whenever the bell has rung, and every
-/// `LONGEST_QUIET` seconds, so that a message that wasn't received is sent again also where nothing happens at the
+/// Sends the unacknowledged messages to a peer, until the desk stops: again whenever a message to it was committed, and
+/// every `LONGEST_QUIET` seconds, so that a message that wasn't received is sent again also where nothing happens at the
 /// node.
 pub(crate) fn send_all<O: Opening, C: NodeCore, N: NodeTypes, R: Wait + SystemClock>(
     rt: &R,
@@ -54,11 +54,13 @@ pub(crate) fn send_all<O: Opening, C: NodeCore, N: NodeTypes, R: Wait + SystemCl
         N.Store.NodeStore O.opened (N.Clock.tells network.now.clock) seat.new }
 {
     for _ in rt.forever() {
-        let rings = station.desk.bell().rings(rt);
+        let bell = station.desk.bells().of_peer(peer);
+        // Read before the desk is looked at, so that no ring between the two is missed.
+        let rings = bell.rings(rt);
         if !station.desk.is_running(rt) {
             break;
         }
         send_round(rt, alloc, station, network, peer, seat);
-        station.desk.bell().wait(rt, rings);
+        bell.wait(rt, rings);
     }
 }

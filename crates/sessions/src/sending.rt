@@ -17,7 +17,8 @@ use wire::{Input, Message, Number};
 pub enum Sent {
     /// There is none.
     Nothing,
-    /// The peer replied that it received the message with that key, and the desk took its acknowledgement.
+    /// The peer replied that it received the message with that key, and the desk was given its acknowledgement. A desk
+    /// that has stopped, or is out of memory, doesn't take it, and the message stays unacknowledged.
     Received(usize),
     /// The message with that key goes unacknowledged: no connection could be made, the exchange ended in another way,
     /// or the key has too many digits to be acknowledged.
@@ -79,7 +80,7 @@ fn send<O: Opening, C: NodeCore, S: NodeStore, B: Bell, D: Dial, R: Wait>(
 
 /// Sends the next message to a peer: the one with the least key, from `from` on, that the committed records send and
 /// no record acknowledges. One exchange over a connection of its own; where the peer replies that the message was
-/// received, the desk takes its acknowledgement with the sender's seat, and else the seat is told nothing.
+/// received, the desk is given its acknowledgement with the sender's seat, and else the seat is told nothing.
 pub fn send_next<O: Opening, C: NodeCore, S: NodeStore, B: Bell, D: Dial, R: Wait>(
     rt: &R,
     alloc: Global,

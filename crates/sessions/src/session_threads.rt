@@ -1,4 +1,5 @@
 //! The threads of a node that serve sessions.
+ghost use Rattle.std.specs.Prelude.{◌≡◌};
 
 use crate::connections::{Accepted, Listen};
 use crate::network::NodeTypes;
@@ -7,7 +8,7 @@ use crate::watched_reader::WatchedReader;
 use crate::workers::{Errand, WorkersAnswerer};
 use crossbeam_channel::Sender;
 use desk::stores::NodeStore;
-use desk::{Bell, Desk, Opening};
+use desk::{Bell, Desk, Opening, Seat};
 use exchanges::{Counted, serve_session};
 use protocol::NodeCore;
 use std::alloc::Global;
@@ -58,7 +59,7 @@ fn stop_or_pause<O: Opening, C: NodeCore, S: NodeStore, B: Bell, R: Wait + Syste
 }
 
 /// Serves one connection to its end. It ends where the desk has stopped, at the next read, and where a line takes too
-/// long.
+/// long. The seat has kept the receipts of what was answered.
 fn serve_one<
     O: Opening,
     C: NodeCore,
@@ -74,11 +75,15 @@ fn serve_one<
     reader: Rd,
     writer: Wr,
     errands: &Sender<Errand>,
-) {
+    seat: &mut Seat,
+)
+    ensures { seat.new.tickets ≡ seat.old.tickets }
+{
     let mut reader = Counted::new(WatchedReader::new(rt, desk, reader));
     let mut writer = Counted::new(writer);
     let mut answerer = WorkersAnswerer::new(rt, alloc, desk, errands);
     let _end = serve_session(alloc, &mut reader, &mut writer, &mut answerer);
+    answerer.confirm_all(seat);
 }
 
 /// Accepts connections and serves each to its end, until the desk stops. It stops the desk where `MOST_FAILED_ACCEPTS`
@@ -86,14 +91,17 @@ fn serve_one<
 /// the row.
 ///
 /// A node has `SESSION_THREADS` threads that do so. Where the system has no thread for some of them, fewer sessions are
-/// served at a time, or none.
+/// served at a time, or none. The seat makes no record: it keeps the receipts of what the thread answered.
 pub(crate) fn serve_all<O: Opening, C: NodeCore, N: NodeTypes, R: Wait + SystemClock>(
     rt: &R,
     alloc: Global,
     station: &Station<O, C, N>,
     failures: &Mutex<u32>,
     errands: &Sender<Errand>,
-) {
+    seat: &mut Seat,
+)
+    ensures { seat.new.tickets ≡ seat.old.tickets }
+{
     for _ in rt.forever() {
         if !station.desk.is_running(rt) {
             break;
@@ -101,7 +109,7 @@ pub(crate) fn serve_all<O: Opening, C: NodeCore, N: NodeTypes, R: Wait + SystemC
         match station.listener.accept() {
             Accepted::Connection(reader, writer) => {
                 *failures.lock(rt) = 0;
-                serve_one(rt, alloc, &station.desk, reader, writer, errands);
+                serve_one(rt, alloc, &station.desk, reader, writer, errands, seat);
             }
             Accepted::Nobody => {}
             Accepted::Failed => stop_or_pause(rt, &station.desk, failures),

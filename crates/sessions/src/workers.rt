@@ -12,7 +12,7 @@ use desk::stores::NodeStore;
 use desk::{Bell, Desk, LONGEST_QUIET, Opening, Seat};
 use exchanges::Answerer;
 use protocol::NodeCore;
-use replies::{Answer, Job, answer_job};
+use replies::{Answer, Begun, Job, begin_job};
 use std::alloc::Global;
 use std::rt::Clock as SystemClock;
 use std::sync::Wait;
@@ -20,14 +20,14 @@ use std::time::Duration;
 use units::NoMemory;
 use wire::Reply;
 
-/// A job for a worker, and where its answer goes.
+/// A job for a worker, and where it says what came of it.
 #[derive(Drop)]
 pub(crate) struct Errand {
     job: Job,
-    back: Sender<Answer>,
+    back: Sender<Begun>,
 }
 
-/// Replies to the lines of one session by the workers, and keeps the answers.
+/// Replies to the lines of one session by the workers, waits for the commits, and keeps the answers.
 #[derive(Drop)]
 pub(crate) struct WorkersAnswerer<'a, O: Opening, C: NodeCore, S: NodeStore, B: Bell, R: Wait> {
     rt: &'a R,
@@ -62,6 +62,17 @@ impl<'a, O: Opening, C: NodeCore, S: NodeStore, B: Bell, R: Wait> WorkersAnswere
             answers: Vec::new(alloc),
         }
     }
+
+    /// Has the seat keep the receipts of the answers.
+    pub(crate) fn confirm_all(&self, seat: &mut Seat)
+        ensures { seat.new.tickets ≡ seat.old.tickets }
+    {
+        for answer in self.answers.as_slice() {
+            if let Some(receipt) = answer.receipt() {
+                seat.confirm(receipt);
+            }
+        }
+    }
 }
 
 /// Waits for the next value that comes by the channel. `None` where nobody is left who sends one, and where the desk
@@ -85,34 +96,47 @@ fn receive<T: Drop, O: Opening, C: NodeCore, S: NodeStore, B: Bell, R: Wait + Sy
     unreachable!()
 }
 
-/// Hands a job to a worker, and waits for its answer. `None` where the desk has stopped before one answered, and where
-/// nobody takes jobs any more, as the channel is full then. Fails with `NoMemory` where memory ran out, and the job was
-/// handed to none.
+/// Hands a job to a worker, and waits for what comes of it. `None` where the desk has stopped before one took it, and
+/// where nobody takes jobs any more, as the channel is full then. Fails with `NoMemory` where memory ran out, and the
+/// job was handed to none.
 fn ask<O: Opening, C: NodeCore, S: NodeStore, B: Bell, R: Wait + SystemClock>(
     rt: &R,
     alloc: Global,
     desk: &Desk<O, C, S, B>,
     errands: &Sender<Errand>,
     job: Job,
-) -> Result<Option<Answer>, NoMemory> {
-    let Ok((back, answers)) = crossbeam_channel::bounded(alloc, 1) else {
+) -> Result<Option<Begun>, NoMemory> {
+    let Ok((back, begun)) = crossbeam_channel::bounded(alloc, 1) else {
         drop(job);
         return Err(NoMemory);
     };
     let handed = errands.try_send(rt, Errand { job, back });
     let is_handed = handed.is_ok();
     drop(handed);
-    let answer = if is_handed {
-        receive(rt, desk, &answers)
+    let taken = if is_handed {
+        receive(rt, desk, &begun)
     } else {
         None
     };
-    drop(answers);
-    Ok(answer)
+    drop(begun);
+    Ok(taken)
 }
 
-/// The answer to a line, by a worker where the line writes a message. Where none answers, the node has stopped. Fails
-/// with `NoMemory` where memory ran out, and the line was handed to no worker.
+/// The answer to a job of which that came, after the commit where it waits for one.
+fn answer_begun<O: Opening, C: NodeCore, S: NodeStore, B: Bell, R: Wait + SystemClock>(
+    rt: &R,
+    desk: &Desk<O, C, S, B>,
+    begun: Begun,
+) -> Answer {
+    match begun {
+        Begun::Answered(answer) => answer,
+        Begun::Pending(pending) => pending.wait(rt, desk),
+    }
+}
+
+/// The answer to a line. Where it writes a message, a worker has the desk take that, and this thread waits for the
+/// commit. Where no worker takes it, the node has stopped. Fails with `NoMemory` where memory ran out, and the line was
+/// handed to no worker.
 fn answer_line<O: Opening, C: NodeCore, S: NodeStore, B: Bell, R: Wait + SystemClock>(
     rt: &R,
     alloc: Global,
@@ -133,7 +157,8 @@ fn answer_line<O: Opening, C: NodeCore, S: NodeStore, B: Bell, R: Wait + SystemC
         drop(job);
         return Err(NoMemory);
     };
-    if let Some(answer) = ask(rt, alloc, desk, errands, job)? {
+    if let Some(begun) = ask(rt, alloc, desk, errands, job)? {
+        let answer = answer_begun(rt, desk, begun);
         // A worker's answer is to the job that it was handed.
         if answer.line() == line {
             return Ok(answer);
@@ -158,8 +183,9 @@ impl<'a, O: Opening, C: NodeCore, S: NodeStore, B: Bell, R: Wait + SystemClock> 
     }
 }
 
-/// Has the desk take the jobs of errands with this seat, and hands their answers back, until no session thread is left.
-/// It ends also where the desk has stopped and no job comes, since a session thread may not have begun yet.
+/// Has the desk take the jobs of errands with this seat, and hands back what came of each without waiting for a commit,
+/// until no session thread is left. It ends also where the desk has stopped and no job comes, since a session thread may
+/// not have begun yet.
 pub(crate) fn work<O: Opening, C: NodeCore, N: NodeTypes, R: Wait + SystemClock>(
     rt: &R,
     station: &Station<O, C, N>,
@@ -177,8 +203,8 @@ pub(crate) fn work<O: Opening, C: NodeCore, N: NodeTypes, R: Wait + SystemClock>
             break;
         };
         let Errand { job, back } = errand;
-        let answer = answer_job(rt, &station.desk, seat, &network.clock, &network.gate, job);
-        drop(back.send(rt, answer));
+        let begun = begin_job(rt, &station.desk, seat, &network.clock, &network.gate, job);
+        drop(back.send(rt, begun));
         drop(back);
     }
 }

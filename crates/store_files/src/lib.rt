@@ -16,6 +16,25 @@ use std::io::ErrorKind;
 use stores::StoreFault;
 use units::Node;
 
+/// How many pages of 4,096 bytes a store keeps in memory: appending reads the last ones alone, and loading reads each
+/// once.
+const CACHE_PAGES: usize = 256;
+
+/// How a store is kept in memory, and a seed for its log.
+///
+/// Fails with `Device` where the system has no random number.
+fn options(rt: &HostRuntime) -> Result<Options, StoreFault>
+    ensures { IfErr result (λ e. e ≡ StoreFault.Device) }
+{
+    let Ok(seeds) = RandomState::new(rt) else {
+        return Err(StoreFault::Device);
+    };
+    Ok(Options {
+        cache_pages: CACHE_PAGES,
+        ..Options::new(seeds.hash_one(&0u8))
+    })
+}
+
 /// Opens the database file at the path and its log beside it, and makes those that are missing.
 ///
 /// Fails with `NoMemory` where memory ran out, and else with `Device`.
@@ -65,10 +84,7 @@ pub fn open_path_watched<W: Watch>(
     ensures durable { IfOk result (λ s. IsHonest _ s → (next : Places) → MayHold _ s next → next ≡ content _ s) }
     ensures named { IfErr result (λ e. e ≢ StoreFault.Reopen) }
 {
-    let Ok(seeds) = RandomState::new(rt) else {
-        return Err(StoreFault::Device);
-    };
-    let options = Options::new(seeds.hash_one(&0u8));
+    let options = options(rt)?;
     let files = files_at(rt, path)?;
     match SqlStore::open_files_watched(rt.alloc(), files, options, node, watch) {
         Ok(store) => Ok(store),

@@ -7,7 +7,9 @@ use crate::given::Given::{self, Event};
 use crate::same::{assert_same, assert_same_in};
 use crate::standing::{take, take_at};
 use desk::stores::{Kept, MemoryStore, NodeStore, StoreFault};
-use desk::{Desk, Ended, Life, RoomBell, Seat, State, Stored, Taken, Told, Unsettled, settle};
+use desk::{
+    Bells, Desk, Ended, Life, RoomBell, Seat, State, Stored, Taken, Told, Unsettled, settle,
+};
 use protocol::scheme::Scheme;
 use protocol::units::{Code, NoMemory, Node};
 use protocol::{NodeCore, Stepped};
@@ -111,14 +113,14 @@ pub fn nz_stored(rt: &impl Abort, alloc: Global) -> NzStored
 }
 
 pub fn nz_desk(rt: &impl Abort, alloc: Global) -> NzDesk {
-    Desk::new(nz_stored(rt, alloc), RoomBell::new())
+    Desk::new(nz_stored(rt, alloc), Bells::new(alloc))
 }
 
 /// NZ's desk over an empty store whose first append fails, of which it keeps all or nothing.
 pub fn failing_desk(rt: &impl Abort, alloc: Global, keeps: Kept) -> NzDesk {
     let core = nz_core(rt, alloc);
     let store = MemoryStore::fused(alloc, core.node(), 0, keeps);
-    Desk::new(stored_over(rt, alloc, core, store), RoomBell::new())
+    Desk::new(stored_over(rt, alloc, core, store), Bells::new(alloc))
 }
 
 /// The state and the store that the desk leaves.

@@ -5,7 +5,7 @@ ghost use Rattle.world.specs.Cores.{journal_of};
 use crate::registries::worked_scheme;
 use crate::same::assert_same;
 use desk::stores::{MemoryStore, StoreFault};
-use desk::{Clock, Desk, Gate, RoomBell, Seat, State, Stored, Unsettled, settle};
+use desk::{Bells, Clock, Desk, Gate, RoomBell, Seat, State, Stored, Unsettled, settle};
 use exchanges::{Counted, Exchange, exchange};
 use protocol::NodeCore;
 use protocol::scheme::Scheme;
@@ -175,7 +175,7 @@ pub fn desk_of(rt: &impl Abort, alloc: Global, node: Node) -> NodeDesk {
     let scheme = worked_scheme(rt, alloc);
     let stored = empty_state(rt, alloc, &scheme, node);
     drop(scheme);
-    Desk::new(stored, RoomBell::new())
+    Desk::new(stored, Bells::new(alloc))
 }
 
 /// A node with that desk and that listener.

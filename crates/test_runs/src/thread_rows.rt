@@ -3,7 +3,7 @@ use crate::same::assert_same;
 use crate::standing::{query, take, unless_no_memory};
 use crate::waits::{Done, TURNS};
 use desk::stores::{MemoryStore, StoreFault};
-use desk::{Bell, Desk, Life, RoomBell, Seat, Taken, Told};
+use desk::{Bell, Bells, Desk, Life, RoomBell, Seat, Taken, Told};
 use protocol::Stepped;
 use protocol::status::{Order, Status};
 use protocol::units::{Code, Items, NoMemory, RawBlock};
@@ -28,6 +28,13 @@ struct WatchedBell {
 }
 
 impl Bell for WatchedBell {
+    fn new() -> WatchedBell {
+        WatchedBell {
+            bell: RoomBell::new(),
+            waits: AtomicU64::new(0),
+        }
+    }
+
     fn rings<R: Wait>(&self, rt: &R) -> u64 {
         self.bell.rings(rt)
     }
@@ -45,11 +52,7 @@ impl Bell for WatchedBell {
 type WatchedDesk = Desk<Brand, RegistryCore, MemoryStore, WatchedBell>;
 
 fn watched(rt: &impl Abort, alloc: Global) -> WatchedDesk {
-    let bell = WatchedBell {
-        bell: RoomBell::new(),
-        waits: AtomicU64::new(0),
-    };
-    Desk::new(nz_stored(rt, alloc), bell)
+    Desk::new(nz_stored(rt, alloc), Bells::new(alloc))
 }
 
 /// What the thread that commits saw.
@@ -73,7 +76,7 @@ fn commit_awaited<R: Wait + Clock>(
     told: &AtomicU64,
 ) -> Seen {
     for _ in 0..TURNS {
-        if desk.bell().waits.load(Ordering::SeqCst) >= waits {
+        if desk.bells().commits().waits.load(Ordering::SeqCst) >= waits {
             let early = told.load(Ordering::SeqCst) != 0;
             return match (early, desk.commit_next(rt)) {
                 (false, Ok(1)) => Seen::Awaited,
@@ -226,9 +229,9 @@ fn propose_units<R: Wait + Clock + Abort>(
 fn commit_all<R: Wait + Clock>(rt: &R, desk: &NzDesk, begun: &Done) {
     begun.set();
     for _ in rt.forever() {
-        let rings = desk.bell().rings(rt);
+        let rings = desk.bells().work().rings(rt);
         match desk.commit_next(rt) {
-            Ok(0) if desk.is_running(rt) => desk.bell().wait(rt, rings),
+            Ok(0) if desk.is_running(rt) => desk.bells().work().wait(rt, rings),
             Ok(0) => return,
             Ok(_) => {}
             Err(_) => return,

@@ -112,6 +112,10 @@ gt_false a b e = lt_false b a (sym (flip a b) ∙ e)
 pub gt_false_from : (a b : Serial) → UpTo a b → is_gt (unit_cmp a b) ≡ false
 gt_false_from a b h = flip a b ∙ lt_false_from b a h
 
+-- no unit comes after itself
+pub itself : (u : Serial) → is_gt (unit_cmp u u) ≡ false
+itself u = gt_false_from u u (record { line = omega arith; number = λ _. omega arith })
+
 -- one before the other, or not
 pub either_way : (a b : Serial) → Before a b ⊎ UpTo b a
 either_way a b = elim (cases (is_lt (unit_cmp a b))) [

@@ -1,13 +1,13 @@
--- What is printed for a message: no float, at most two levels, the fields that were wanted, and few bytes.
+-- What is printed for a message: the fields that were wanted, and few bytes.
 use Rattle.std.proofs.Common.{◌≡◌, ℕ, ◌+◌, ◌*◌, ◌^◌, ◌<◌, ◌≤◌, List, [], ◌∷◌, ◌++◌, length, Bool, true, false, cond, decimal, codes, refl, sym, ap, subst, ◌∙◌, arith, length-append, Some, lit≤, ltb, ◌/◌, ◌%◌}
 use Rattle.std.proofs.lemmas.Fmt.{length-decimal-le}
 use Rattle.std.specs.Char.{digit_char}
 use Rattle.std.specs.List.{AllByRecursion}
 use Rattle.std.specs.Prelude.{IsUtf8}
-use Rattle.json.specs.Print.{escape_letter, escape_byte, escape, quoted}
-use Rattle.serde_json.specs.Data.{Data, depth, items_depth}
-use Rattle.serde_json.specs.Read.{read}
-use Rattle.serde_json.specs.Written.{compact_text, items_text, members_text, comma_if, has_float, items_have_float}
+use Rattle.json.specs.Print.{escape_letter, escape_byte, escape, print, quoted}
+use Rattle.json.specs.Lex.{tokens}
+use Rattle.json.specs.Token.{Token}
+use Rattle.serde_json.specs.Written.{compact_text, items_text, members_text, comma_if}
 use Rattle.units.specs.Block.{kind_text, period_text, raw_text}
 use Rattle.units.specs.Code.{code_text, node_text}
 use Rattle.units.specs.Facts.{IsRange}
@@ -28,6 +28,7 @@ use Rattle.wire.specs.Codes.{Ascends}
 use Rattle.wire.specs.Messages.{proposal_fields, notification_fields, request_fields, message_fields, message_data, message_text, IsSound, IsLine}
 use Rattle.wire.specs.NotifiedStatuses.{notified_status, notified_codes, IsNotified, proposal_status}
 use Rattle.wire.specs.Objects.{Field, HasExactly, object_of, members_of, whole_items, block_items}
+use Rattle.wire.specs.Writing.{data_tokens}
 use Rattle.wire.specs.declared.message.Message.{Message}
 use Rattle.wire.specs.declared.message.Message.TheVariants as message
 use Rattle.wire.specs.declared.message.Notification.{Notification}
@@ -35,36 +36,8 @@ use Rattle.wire.specs.declared.message.Proposal.{Proposal}
 use Rattle.wire.specs.declared.message.Request.{Request}
 use Rattle.wire.specs.declared.notified.NotifiedStatus.{NotifiedStatus}
 use Rattle.wire.specs.declared.notified.NotifiedStatus.TheVariants.{Accepted, Rejected, Terminated, Cancelled, Completed}
-
--- ---- no float
-
-pub blocks_no_float : (bs : List RawBlock) → items_have_float (block_items bs) ≡ false
-blocks_no_float [] = refl
-blocks_no_float (b ∷ bs) = blocks_no_float bs
-
-whole_no_float : (ns : List ℕ) → items_have_float (whole_items ns) ≡ false
-whole_no_float [] = refl
-whole_no_float (n ∷ ns) = whole_no_float ns
-
-pub message_no_float : (m : Message) → has_float (message_data m) ≡ false
-message_no_float (message.Proposal p) = rw (blocks_no_float p.content.units) refl
-message_no_float (message.Notification n) = rw (whole_no_float (notified_codes n.notified)) refl
-message_no_float (message.Request r) = refl
-
--- ---- at most two levels
-
-pub blocks_flat : (bs : List RawBlock) → items_depth (block_items bs) ≡ 0
-blocks_flat [] = refl
-blocks_flat (b ∷ bs) = rw (blocks_flat bs) refl
-
-whole_flat : (ns : List ℕ) → items_depth (whole_items ns) ≡ 0
-whole_flat [] = refl
-whole_flat (n ∷ ns) = rw (whole_flat ns) refl
-
-pub message_depth : (m : Message) → depth (message_data m) ≤ 2
-message_depth (message.Proposal p) = rw (blocks_flat p.content.units) (lit≤ tt)
-message_depth (message.Notification n) = rw (whole_flat (notified_codes n.notified)) (lit≤ tt)
-message_depth (message.Request r) = lit≤ tt
+use Rattle.wire.proofs.ReadBack.{message_back, message_shallow}
+use Rattle.wire.proofs.Written.{printed, printed_reads}
 
 -- ---- the fields that were wanted
 
@@ -240,19 +213,12 @@ message_short (message.Request r) is = object_short (request_fields r) 8191 (req
 
 -- ---- the text, whole
 
-pub text_of : (wanted d : Data) (bytes : List ℕ) → d ≡ wanted → has_float wanted ≡ false → (has_float d ≡ false → bytes ≡ compact_text d) → bytes ≡ compact_text wanted
-text_of wanted d bytes is none text = text (ap has_float is ∙ none) ∙ ap compact_text is
-
-pub read_of : (wanted d : Data) (bytes : List ℕ) → d ≡ wanted → depth wanted ≤ 127 → (depth d ≤ 127 → read bytes ≡ Some d) → read bytes ≡ Some wanted
-read_of wanted d bytes is low reads = reads (subst (λ e. depth e ≤ 127) (sym is) low) ∙ ap Some is
-
-pub line_of : (m : Message) (d : Data) (bytes : List ℕ) → d ≡ message_data m → IsSound m → (has_float d ≡ false → bytes ≡ compact_text d) → IsUtf8 bytes → (depth d ≤ 127 → read bytes ≡ Some d)
-    → IsLine bytes m
-line_of m d bytes is sound text utf8 reads =
+pub line_of : (m : Message) (ts : List Token) (bytes : List ℕ) → ts ≡ data_tokens (message_data m) → IsSound m → bytes ≡ print ts → tokens (print ts) ≡ ts → IsUtf8 (print ts) → IsLine bytes m
+line_of m ts bytes are sound text reads utf8 =
     record {
-      short = subst (λ b. length b ≤ 8192) (sym (text_of (message_data m) d bytes is (message_no_float m) text)) (message_short m sound);
-      utf8 = utf8;
+      short = subst (λ b. length b ≤ 8192) (sym (printed (message_data m) ts bytes are text)) (message_short m sound);
+      utf8 = subst IsUtf8 (sym text) utf8;
       value = message_data m;
-      reads = read_of (message_data m) d bytes is (omega (arith, message_depth m)) reads;
+      reads = printed_reads (message_data m) ts bytes are text reads (omega (arith, message_shallow m)) (message_back m sound);
       writes = (message_exact m, sound);
     }

@@ -2,7 +2,10 @@
 #![tactic(auto)]
 
 mod codes;
+mod exact;
+mod guesses;
 mod input;
+mod json_text;
 mod lists;
 mod members;
 mod message;

@@ -1,128 +1,148 @@
-//! The members of JSON objects, put in one after another.
-ghost use Rattle.std.specs.Prelude.{◌≡◌, IfOk, OnOk};
-ghost use Rattle.serde_json.specs.Data.{put, string};
-ghost use Rattle.serde_json.specs.View.{view, items_view, members_view};
+//! The members of JSON objects, written one after another.
+ghost use Rattle.std.specs.Prelude.{◌≡◌, ◌++◌, IfOk, OnOk, map};
+ghost use Rattle.serde_json.specs.Data.{boolean, string};
 ghost use Rattle.status.specs.Content.{raws};
 ghost use Rattle.status.specs.Id.{id_text};
 ghost use Rattle.units.specs.Code.{code_text, node_text};
-ghost use Rattle.wire.specs.Objects.{whole, whole_items, block_items};
+ghost use Rattle.wire.specs.Objects.{blocks, numbers, whole};
+ghost use Rattle.wire.specs.Writing.{after_field, block_token, number_token};
 
-use serde_json::{Map, Value};
+use crate::json_text::JsonText;
 use status::TransactionId;
 use std::alloc::Global;
 use units::{Block, Code, NoMemory, Node, RawBlock};
 
-/// Sets one member.
-pub fn put(
-    alloc: Global,
-    map: &mut Map<String, Value>,
-    key: &str,
-    value: Value,
-) -> Result<(), NoMemory>
-    ensures { OnOk result (members_view map.new.entries ≡ put key.now (view value) (members_view map.old.entries)) }
+/// A member that is a text.
+pub(crate) fn put_text(out: &mut JsonText, key: &str, text: &str) -> Result<(), NoMemory>
+    ensures { OnOk result (out.new ≡ after_field out.old (key.now, string text.now)) }
 {
-    map.insert(String::from_str(alloc, key)?, value)?;
-    Ok(())
+    out.key(key)?;
+    out.string(text)
 }
 
-/// Sets one member to a text.
-pub fn put_text(
-    alloc: Global,
-    map: &mut Map<String, Value>,
-    key: &str,
-    text: &str,
-) -> Result<(), NoMemory>
-    ensures { OnOk result (members_view map.new.entries ≡ put key.now (string text.now)
-        (members_view map.old.entries)) }
+/// A member that is a whole number.
+pub(crate) fn put_number(out: &mut JsonText, key: &str, number: u64) -> Result<(), NoMemory>
+    ensures { OnOk result (out.new ≡ after_field out.old (key.now, whole number)) }
 {
-    put(alloc, map, key, Value::try_from_str(alloc, text)?)
+    out.key(key)?;
+    out.number(number)
 }
 
-/// Sets one member to a whole number.
-pub fn put_number(
-    alloc: Global,
-    map: &mut Map<String, Value>,
-    key: &str,
-    number: u64,
-) -> Result<(), NoMemory>
-    ensures { OnOk result (members_view map.new.entries ≡ put key.now (whole number) (members_view map.old.entries)) }
+/// A member that is yes or no.
+pub(crate) fn put_boolean(out: &mut JsonText, key: &str, value: bool) -> Result<(), NoMemory>
+    ensures { OnOk result (out.new ≡ after_field out.old (key.now, boolean value)) }
 {
-    put(alloc, map, key, Value::from(number))
+    out.key(key)?;
+    out.boolean(value)
 }
 
-/// Sets one member to a registry's code.
-pub fn put_code(
+/// A member that is a registry's code.
+pub(crate) fn put_code(
     alloc: Global,
-    map: &mut Map<String, Value>,
+    out: &mut JsonText,
     key: &str,
     code: Code,
 ) -> Result<(), NoMemory>
-    ensures { OnOk result (members_view map.new.entries ≡ put key.now (string (code_text code))
-        (members_view map.old.entries)) }
+    ensures { OnOk result (out.new ≡ after_field out.old (key.now, string (code_text code))) }
 {
     let text = format!(in alloc; "{code}")?;
-    put(alloc, map, key, Value::String(text))
+    put_text(out, key, text.as_str())
 }
 
-/// Sets one member to a node.
-pub fn put_node(
+/// A member that is a node.
+pub(crate) fn put_node(
     alloc: Global,
-    map: &mut Map<String, Value>,
+    out: &mut JsonText,
     key: &str,
     node: Node,
 ) -> Result<(), NoMemory>
-    ensures { OnOk result (members_view map.new.entries ≡ put key.now (string (node_text node))
-        (members_view map.old.entries)) }
+    ensures { OnOk result (out.new ≡ after_field out.old (key.now, string (node_text node))) }
 {
     let text = format!(in alloc; "{node}")?;
-    put(alloc, map, key, Value::String(text))
+    put_text(out, key, text.as_str())
 }
 
-/// Sets one member to a transaction.
-pub fn put_id(
+/// A member that is a transaction.
+pub(crate) fn put_id(
     alloc: Global,
-    map: &mut Map<String, Value>,
+    out: &mut JsonText,
     key: &str,
     id: TransactionId,
 ) -> Result<(), NoMemory>
-    ensures { OnOk result (members_view map.new.entries ≡ put key.now (string (id_text id))
-        (members_view map.old.entries)) }
+    ensures { OnOk result (out.new ≡ after_field out.old (key.now, string (id_text id))) }
 {
     let text = id.write(alloc)?;
-    put(alloc, map, key, Value::String(text))
+    put_text(out, key, text.as_str())
 }
 
 /// The texts of blocks.
-pub fn units(alloc: Global, blocks: &[Block]) -> Result<Vec<Value>, NoMemory>
-    ensures { IfOk result (λ v. items_view v.items ≡ block_items (raws blocks.now)) }
+fn write_blocks(alloc: Global, out: &mut JsonText, blocks: &[Block]) -> Result<(), NoMemory>
+    ensures { OnOk result (out.new ≡ out.old ++ map block_token (raws blocks.now)) }
 {
-    let mut values = Vec::new(alloc);
     for block in blocks {
         let text = block.write(alloc)?;
-        values.push(Value::String(text))?;
+        out.string(text.as_str())?;
     }
-    Ok(values)
+    Ok(())
+}
+
+/// A member that is a list of blocks.
+pub(crate) fn put_blocks(
+    alloc: Global,
+    out: &mut JsonText,
+    key: &str,
+    held: &[Block],
+) -> Result<(), NoMemory>
+    ensures { OnOk result (out.new ≡ after_field out.old (key.now, blocks (raws held.now))) }
+{
+    out.key(key)?;
+    out.begin_array()?;
+    write_blocks(alloc, out, held)?;
+    out.end_array()
 }
 
 /// The texts of blocks as they were ordered.
-pub fn ordered_units(alloc: Global, blocks: &[RawBlock]) -> Result<Vec<Value>, NoMemory>
-    ensures { IfOk result (λ v. items_view v.items ≡ block_items blocks.now) }
+fn write_ordered(alloc: Global, out: &mut JsonText, blocks: &[RawBlock]) -> Result<(), NoMemory>
+    ensures { OnOk result (out.new ≡ out.old ++ map block_token blocks.now) }
 {
-    let mut values = Vec::new(alloc);
     for block in blocks {
         let text = format!(in alloc; "{block}")?;
-        values.push(Value::String(text))?;
+        out.string(text.as_str())?;
     }
-    Ok(values)
+    Ok(())
 }
 
-/// The codes of findings as whole numbers.
-pub fn numbers(alloc: Global, codes: &[u16]) -> Result<Vec<Value>, NoMemory>
-    ensures { IfOk result (λ v. items_view v.items ≡ whole_items codes.now) }
+/// A member that is a list of blocks as they were ordered.
+pub(crate) fn put_ordered(
+    alloc: Global,
+    out: &mut JsonText,
+    key: &str,
+    ordered: &[RawBlock],
+) -> Result<(), NoMemory>
+    ensures { OnOk result (out.new ≡ after_field out.old (key.now, blocks ordered.now)) }
 {
-    let mut values = Vec::new(alloc);
+    out.key(key)?;
+    out.begin_array()?;
+    write_ordered(alloc, out, ordered)?;
+    out.end_array()
+}
+
+/// The codes of findings.
+fn write_numbers(out: &mut JsonText, codes: &[u16]) -> Result<(), NoMemory>
+    ensures { OnOk result (out.new ≡ out.old ++ map number_token codes.now) }
+{
     for code in codes {
-        values.push(Value::from(*code))?;
+        out.number(u64::from(*code))?;
     }
-    Ok(values)
+    Ok(())
+}
+
+/// A member that is a list of the codes of findings.
+pub(crate) fn put_numbers(out: &mut JsonText, key: &str, codes: &[u16]) -> Result<(), NoMemory>
+    ensures { OnOk result (out.new ≡ after_field out.old (key.now, numbers codes.now)) }
+{
+    out.key(key)?;
+    out.begin_array()?;
+    write_numbers(out, codes)?;
+    out.end_array()
 }

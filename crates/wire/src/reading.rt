@@ -11,6 +11,7 @@ ghost use Rattle.wire.specs.declared.message.Message.{Message};
 ghost use Rattle.wire.specs.declared.notified.NotifiedStatus.{NotifiedStatus};
 
 use crate::codes::{AcquirerCodes, LogCodes};
+use crate::exact::exact_message;
 use crate::lists::{blocks, codes};
 use crate::message::{Message, Notification, Proposal, ProposalStatus, Request};
 use crate::notified::NotifiedStatus;
@@ -165,6 +166,9 @@ fn read_line(alloc: Global, line: &[u8]) -> Result<Message, TextFault>
 {
     if line.len() > LONGEST_LINE {
         return Err(TextFault::Shape);
+    }
+    if let Some(message) = exact_message(alloc, line)? {
+        return Ok(message);
     }
     match Value::from_slice(alloc, line) {
         Ok(value) => message(alloc, &value),

@@ -13,6 +13,7 @@ ghost use Rattle.wire.specs.declared.input.Input.TheVariants.{Propose, Request, 
 ghost use Rattle.wire.specs.declared.record_format.RecordFormat.{RecordFormat};
 ghost use Rattle.wire.specs.declared.record_format.RecordFormat.TheVariants.{One, Two};
 
+use crate::exact::exact_input;
 use crate::input::{Input, Number};
 use crate::lists::raw_blocks;
 use crate::message::Message;
@@ -206,6 +207,9 @@ fn read_text(alloc: Global, text: &[u8], format: RecordFormat) -> Result<Input, 
 pub fn decode_input(alloc: Global, text: &[u8]) -> Result<Input, TextFault>
     ensures { Finds (IsRecordText Two text.now) result }
 {
+    if let Some(input) = exact_input(alloc, text)? {
+        return Ok(input);
+    }
     read_text(alloc, text, RecordFormat::Two)
 }
 

@@ -1,121 +1,111 @@
 //! The texts of messages.
-ghost use Rattle.std.specs.Prelude.{◌≡◌, IfOk, OnOk, take, drop};
-ghost use Rattle.serde_json.specs.View.{view, members_view};
+ghost use Rattle.std.specs.Prelude.{◌≡◌, ◌++◌, IfOk, OnOk, take, drop};
 ghost use Rattle.status.specs.Content.{IsContent};
 ghost use Rattle.wire.specs.Messages.{proposal_fields, notification_fields, request_fields, message_data, message_text, IsSound, IsLine};
 ghost use Rattle.wire.specs.NotifiedStatuses.{IsNotified};
 ghost use Rattle.wire.specs.Objects.{object_of};
-ghost use Rattle.wire.specs.Writing.{put_all};
+ghost use Rattle.wire.specs.Writing.{after_fields, data_tokens};
 
-use crate::members::{numbers, put, put_code, put_id, put_node, put_number, put_text, units};
+use crate::json_text::JsonText;
+use crate::members::{put_blocks, put_code, put_id, put_node, put_number, put_numbers, put_text};
 use crate::message::{Message, Notification, Proposal, Request};
-use serde_json::{Map, Value};
 use std::alloc::Global;
 use units::NoMemory;
 
 /// The first four fields of a proposal.
-fn put_sender(
-    alloc: Global,
-    map: &mut Map<String, Value>,
-    proposal: &Proposal,
-) -> Result<(), NoMemory>
-    ensures { OnOk result (members_view map.new.entries ≡ put_all (take 4 (proposal_fields proposal.now))
-        (members_view map.old.entries)) }
+fn put_sender(alloc: Global, out: &mut JsonText, proposal: &Proposal) -> Result<(), NoMemory>
+    ensures { OnOk result (out.new ≡ after_fields out.old (take 4 (proposal_fields proposal.now))) }
 {
-    put_number(alloc, map, "account", proposal.content.account())?;
-    put_text(alloc, map, "call", "AcceptProposal")?;
-    put_node(alloc, map, "from", proposal.from)?;
-    put_text(alloc, map, "status", proposal.status.status().name())
+    put_number(out, "account", proposal.content.account())?;
+    put_text(out, "call", "AcceptProposal")?;
+    put_node(alloc, out, "from", proposal.from)?;
+    put_text(out, "status", proposal.status.status().name())
 }
 
-/// The next four fields.
-fn put_receiver(
-    alloc: Global,
-    map: &mut Map<String, Value>,
-    proposal: &Proposal,
-) -> Result<(), NoMemory>
-    ensures { OnOk result (members_view map.new.entries ≡ put_all (take 4 (drop 4 (proposal_fields proposal.now)))
-        (members_view map.old.entries)) }
+/// The other five fields.
+fn put_receiver(alloc: Global, out: &mut JsonText, proposal: &Proposal) -> Result<(), NoMemory>
+    ensures fields { OnOk result (out.new ≡ after_fields out.old (drop 4 (proposal_fields proposal.now))) }
+    ensures sound { OnOk result (IsContent proposal.now.content) }
 {
-    put_node(alloc, map, "to", proposal.to)?;
-    put_number(alloc, map, "to_account", proposal.content.to_account())?;
-    put_code(alloc, map, "to_registry", proposal.content.acquirer())?;
-    put_id(alloc, map, "transaction", proposal.id)
+    put_node(alloc, out, "to", proposal.to)?;
+    put_number(out, "to_account", proposal.content.to_account())?;
+    put_code(alloc, out, "to_registry", proposal.content.acquirer())?;
+    put_id(alloc, out, "transaction", proposal.id)?;
+    put_blocks(alloc, out, "units", proposal.content.units())
 }
 
-fn proposal_value(alloc: Global, proposal: &Proposal) -> Result<Value, NoMemory>
-    ensures value { IfOk result (λ v. view v ≡ object_of (proposal_fields proposal.now)) }
-    ensures sound { IfOk result (λ _. IsContent proposal.now.content) }
+fn write_proposal(alloc: Global, out: &mut JsonText, proposal: &Proposal) -> Result<(), NoMemory>
+    ensures tokens { OnOk result (out.new ≡ out.old ++ data_tokens (object_of (proposal_fields proposal.now))) }
+    ensures sound { OnOk result (IsContent proposal.now.content) }
 {
-    let mut map = Map::new(alloc);
-    put_sender(alloc, &mut map, proposal)?;
-    put_receiver(alloc, &mut map, proposal)?;
-    let units = units(alloc, proposal.content.units())?;
-    put(alloc, &mut map, "units", Value::Array(units))?;
-    Ok(Value::Object(map))
+    out.begin_object()?;
+    put_sender(alloc, out, proposal)?;
+    put_receiver(alloc, out, proposal)?;
+    out.end_object()
 }
 
-/// The first three fields of a notification.
-fn put_notified(
+/// The fields of a notification.
+fn put_notification(
     alloc: Global,
-    map: &mut Map<String, Value>,
+    out: &mut JsonText,
     notification: &Notification,
 ) -> Result<(), NoMemory>
-    ensures members { OnOk result
-        (members_view map.new.entries
-        ≡ put_all (take 3 (notification_fields notification.now)) (members_view map.old.entries)) }
+    ensures fields { OnOk result (out.new ≡ after_fields out.old (notification_fields notification.now)) }
     ensures sound { OnOk result (IsNotified notification.now.notified) }
 {
-    put_text(alloc, map, "call", "AcceptNotification")?;
-    let codes = numbers(alloc, notification.notified.codes())?;
-    put(alloc, map, "codes", Value::Array(codes))?;
-    put_node(alloc, map, "from", notification.from)
+    put_text(out, "call", "AcceptNotification")?;
+    put_numbers(out, "codes", notification.notified.codes())?;
+    put_node(alloc, out, "from", notification.from)?;
+    put_text(out, "status", notification.notified.status().name())?;
+    put_node(alloc, out, "to", notification.to)?;
+    put_id(alloc, out, "transaction", notification.id)
 }
 
-/// The last three fields of a notification.
-fn put_standing(
+fn write_notification(
     alloc: Global,
-    map: &mut Map<String, Value>,
+    out: &mut JsonText,
     notification: &Notification,
 ) -> Result<(), NoMemory>
-    ensures { OnOk result (members_view map.new.entries ≡ put_all (drop 3 (notification_fields notification.now))
-        (members_view map.old.entries)) }
+    ensures tokens { OnOk result
+        (out.new ≡ out.old ++ data_tokens (object_of (notification_fields notification.now))) }
+    ensures sound { OnOk result (IsNotified notification.now.notified) }
 {
-    put_text(alloc, map, "status", notification.notified.status().name())?;
-    put_node(alloc, map, "to", notification.to)?;
-    put_id(alloc, map, "transaction", notification.id)
+    out.begin_object()?;
+    put_notification(alloc, out, notification)?;
+    out.end_object()
 }
 
-fn notification_value(alloc: Global, notification: &Notification) -> Result<Value, NoMemory>
-    ensures value { IfOk result (λ v. view v ≡ object_of (notification_fields notification.now)) }
-    ensures sound { IfOk result (λ _. IsNotified notification.now.notified) }
+/// The fields of a request.
+fn put_request(alloc: Global, out: &mut JsonText, request: Request) -> Result<(), NoMemory>
+    ensures { OnOk result (out.new ≡ after_fields out.old (request_fields request)) }
 {
-    let mut map = Map::new(alloc);
-    put_notified(alloc, &mut map, notification)?;
-    put_standing(alloc, &mut map, notification)?;
-    Ok(Value::Object(map))
+    put_text(out, "call", "RequestCancellation")?;
+    put_node(alloc, out, "from", request.from)?;
+    put_node(alloc, out, "to", request.to)?;
+    put_id(alloc, out, "transaction", request.id)
 }
 
-fn request_value(alloc: Global, request: Request) -> Result<Value, NoMemory>
-    ensures { IfOk result (λ v. view v ≡ object_of (request_fields request)) }
+fn write_request(alloc: Global, out: &mut JsonText, request: Request) -> Result<(), NoMemory>
+    ensures { OnOk result (out.new ≡ out.old ++ data_tokens (object_of (request_fields request))) }
 {
-    let mut map = Map::new(alloc);
-    put_text(alloc, &mut map, "call", "RequestCancellation")?;
-    put_node(alloc, &mut map, "from", request.from)?;
-    put_node(alloc, &mut map, "to", request.to)?;
-    put_id(alloc, &mut map, "transaction", request.id)?;
-    Ok(Value::Object(map))
+    out.begin_object()?;
+    put_request(alloc, out, request)?;
+    out.end_object()
 }
 
-/// The value that writes a message.
-pub fn message_value(alloc: Global, message: &Message) -> Result<Value, NoMemory>
-    ensures value { IfOk result (λ v. view v ≡ message_data message.now) }
-    ensures sound { IfOk result (λ _. IsSound message.now) }
+/// Writes a message.
+pub(crate) fn write_message(
+    alloc: Global,
+    out: &mut JsonText,
+    message: &Message,
+) -> Result<(), NoMemory>
+    ensures tokens { OnOk result (out.new ≡ out.old ++ data_tokens (message_data message.now)) }
+    ensures sound { OnOk result (IsSound message.now) }
 {
     match message {
-        Message::Proposal(proposal) => proposal_value(alloc, proposal),
-        Message::Notification(notification) => notification_value(alloc, notification),
-        Message::Request(request) => request_value(alloc, *request),
+        Message::Proposal(proposal) => write_proposal(alloc, out, proposal),
+        Message::Notification(notification) => write_notification(alloc, out, notification),
+        Message::Request(request) => write_request(alloc, out, *request),
     }
 }
 
@@ -125,5 +115,7 @@ pub fn encode(alloc: Global, message: &Message) -> Result<Vec<u8>, NoMemory>
     ensures text { IfOk result (λ v. v.items ≡ message_text message.now) }
     ensures line { IfOk result (λ v. IsLine v.items message.now) }
 {
-    Ok(message_value(alloc, message)?.to_vec(alloc)?)
+    let mut out = JsonText::new(alloc)?;
+    write_message(alloc, &mut out, message)?;
+    Ok(out.into_bytes())
 }

@@ -21,6 +21,10 @@ pub(super) fn floor<M: Copy>(spans: &BTreeMap<Unit, Span<M>>, unit: Unit) -> Opt
         → is_lt (unit_cmp e.0 q) ≡ false) }
     ensures none { IfNone result ((q : Serial) → IsLeBy unit_cmp q unit → tree.get unit_cmp spans.now q ≡ None) }
 {
+    // Most often an interval begins at the unit itself, and a look-up is quicker than a range.
+    if let Some(span) = spans.get(&unit) {
+        return Some((unit, *span));
+    }
     let (at, span) = spans.range(..=unit).next_back()?;
     Some((*at, *span))
 }
@@ -32,6 +36,9 @@ pub(super) fn next<M: Copy>(spans: &BTreeMap<Unit, Span<M>>, unit: Unit) -> Opti
         → IsLeBy unit_cmp e.0 q) }
     ensures none { IfNone result ((q : Serial) → IsLeBy unit_cmp unit q → tree.get unit_cmp spans.now q ≡ None) }
 {
+    if let Some(span) = spans.get(&unit) {
+        return Some((unit, *span));
+    }
     let (at, span) = spans.range(unit..).next()?;
     Some((*at, *span))
 }

@@ -17,7 +17,8 @@ use crate::ordering::goes_on;
 use std::collections::BTreeMap;
 
 /// Makes the interval that begins at the unit a part of the one that ends before it, where the two have one label.
-fn join<M: Label>(spans: &mut BTreeMap<Unit, Span<M>>, unit: Unit)
+fn join<M: Label>(spans: &mut BTreeMap<Unit, Span<M>>, unit: Unit, right: Span<M>)
+    requires right { tree.get unit_cmp spans.old unit ≡ Some right }
     requires parted { AreParted (tree.get unit_cmp spans.old) }
     requires ordered { IsOrdered unit_cmp spans.old }
     requires first { 1 ≤ unit.number }
@@ -29,9 +30,6 @@ fn join<M: Label>(spans: &mut BTreeMap<Unit, Span<M>>, unit: Unit)
     ensures keys { (q : Serial) → IsSome (tree.get unit_cmp spans.new q) → IsSome (tree.get unit_cmp spans.old q) }
     ensures ordered { IsOrdered unit_cmp spans.new }
 {
-    let Some(right) = spans.get(&unit).copied() else {
-        return;
-    };
     let before = Unit {
         number: unit.number - 1,
         ..unit
@@ -61,11 +59,11 @@ fn join_between<M: Label>(spans: &mut BTreeMap<Unit, Span<M>>, from: Unit, to: U
     ensures ordered { IsOrdered unit_cmp spans.new }
 {
     let mut cursor = from;
-    while let Some((unit, _)) = next(spans, cursor) {
+    while let Some((unit, span)) = next(spans, cursor) {
         if is_past(&unit, &to) {
             break;
         }
-        join(spans, unit);
+        join(spans, unit, span);
         cursor = unit.after();
     }
 }

@@ -1,14 +1,17 @@
-use Rattle.serde_json.specs.View.{view}
+use Rattle.std.proofs.Common.{◌++◌, ap, ◌∙◌}
 use Rattle.wire.specs.Messages.{message_data}
-use Rattle.wire.proofs.Printed.{text_of, line_of, message_no_float}
+use Rattle.wire.specs.Writing.{data_tokens}
+use Rattle.wire.proofs.Printed.{line_of}
+use Rattle.wire.proofs.Written.{printed}
 use Rattle.wire.proofs.writing.encode.Goals as goal
 
 pub returns-clause-text : goal.returns-clause-text
 returns-clause-text c =
-    let m = c.args.message.now in
-    text_of (message_data m) (view c.in_ok-message_value.field-0) c.in_ok-to_vec.field-0.items c.in_ok-message_value.ensures.value (message_no_float m) c.in_ok-to_vec.ensures.text
+    let d = message_data c.args.message.now in
+    printed d c.write_message.new.out c.into_bytes.result.items (c.in_ok-write_message.ensures.tokens ∙ ap (λ ts. ts ++ data_tokens d) c.in_ok-out.ensures) c.into_bytes.ensures.text
 
 pub returns-clause-line : goal.returns-clause-line
 returns-clause-line c =
-    let v = c.in_ok-to_vec.ensures in
-    line_of c.args.message.now (view c.in_ok-message_value.field-0) c.in_ok-to_vec.field-0.items c.in_ok-message_value.ensures.value c.in_ok-message_value.ensures.sound v.text v.utf8 v.reads_back
+    let m = c.args.message.now in
+    let are = c.in_ok-write_message.ensures.tokens ∙ ap (λ ts. ts ++ data_tokens (message_data m)) c.in_ok-out.ensures in
+    line_of m c.write_message.new.out c.into_bytes.result.items are c.in_ok-write_message.ensures.sound c.into_bytes.ensures.text c.into_bytes.ensures.reads_back c.into_bytes.ensures.utf8

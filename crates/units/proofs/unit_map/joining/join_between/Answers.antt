@@ -11,7 +11,7 @@ loop-unit-preserved g c =
     let now = c.loop-unit.spans in
     let unit = c.in-Some.unit in
     subst (λ u. JoinedTo c.args.from u c.args.spans.now c.join.new.spans) (sym c.after-cursor.ensures)
-    (joined_more c.args.from c.loop-unit.cursor unit c.in-Some.field-0-1 c.args.spans.now now c.join.new.spans c.loop-unit.invariant c.in-Some.ensures.found.0 (gt_false c.loop-unit.cursor unit c.in-Some.ensures.found.1)
+    (joined_more c.args.from c.loop-unit.cursor unit c.in-Some.span c.args.spans.now now c.join.new.spans c.loop-unit.invariant c.in-Some.ensures.found.0 (gt_false c.loop-unit.cursor unit c.in-Some.ensures.found.1)
     (λ q up some. gt_false unit q (c.in-Some.ensures.first q (gt_false_from c.loop-unit.cursor q up) some))
     c.join.ensures.parted c.join.ensures.ordered c.join.ensures.means c.join.ensures.seams)
 

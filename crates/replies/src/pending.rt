@@ -1,0 +1,190 @@
+//! A message that a desk took, and the answer to its line.
+ghost use Rattle.std.specs.Prelude.{◌≡◌, ◌⊎◌, ℕ, List, true, false, IfSome, None, Some};
+ghost use Rattle.units.specs.RefusalCodes.{node_stopped, out_of_memory};
+ghost use Rattle.wire.specs.Messages.{IsLine};
+ghost use Rattle.replies.specs.Answers.{Asks, EndsWith, Gives, IsOfLine, IsRefusedBy, confirmed, is_without_journal};
+ghost use Rattle.replies.specs.Beginning.{Becomes, Begins, line_of};
+
+use crate::answer::{Answer, refused_by};
+use crate::job::Job;
+use desk::stores::NodeStore;
+use desk::{Bell, Clock, Desk, Gate, Opening, Seat, Taken, Told};
+use protocol::{NodeCore, refusals_have_causes};
+use std::marker::Model;
+use std::rt::Clock as SystemClock;
+use std::sync::Wait;
+use units::refusal_code::{NODE_STOPPED, OUT_OF_MEMORY};
+use wire::{Input, Message, Reply, ReplyCode};
+
+/// The reply to what wasn't judged by a journal: the node had stopped, or memory ran out. `None` where it was judged.
+fn reply_at_once(told: Told) -> Option<Reply>
+    ensures some { IfSome result
+        (λ reply. (is_without_journal told ≡ true) × Gives told reply
+        × (IsRefusedBy node_stopped reply ⊎ IsRefusedBy out_of_memory reply)) }
+    ensures none { result ≡ None → is_without_journal told ≡ false }
+{
+    match told {
+        Told::Refused(refusal) if refusal.code == NODE_STOPPED || refusal.code == OUT_OF_MEMORY => {
+            Some(refused_by(refusal.code))
+        }
+        _ => None,
+    }
+}
+
+/// The reply to a message that was judged by a journal.
+fn reply_to(taken: &Taken) -> Reply
+    requires source { (line : List ℕ) × IsOfLine line taken.now }
+    requires judged { is_without_journal taken.now.told ≡ false }
+    ensures { Gives taken.now.told result }
+{
+    refusals_have_causes();
+    match taken.told() {
+        Told::Step(_) => Reply::Received,
+        Told::Refused(refusal) => match ReplyCode::new(refusal.code) {
+            Some(code) => Reply::Refused(code),
+            None => unreachable!(),
+        },
+        Told::Status(_) => unreachable!(),
+    }
+}
+
+/// A line whose message a desk took and a journal judged. Its answer waits until all records are committed that the
+/// journal had then. Only `begin_job` makes one.
+#[derive(Debug, Drop)]
+pub struct PendingAnswer {
+    line: Vec<u8>,
+    taken: Taken,
+}
+
+impl Model for PendingAnswer {
+    ghost use Rattle.replies.specs.Answers.{IsPending, PendingView};
+
+    ghost Value = { PendingView };
+
+    ghost view = { λ p. record { line = p.line.items; note = p.taken } };
+
+    ghost invariant = { λ p. IsPending p.line.items p.taken };
+}
+
+impl PendingAnswer {
+    /// Waits for the commit at that desk, and returns the answer: with its reply and the receipt, or with refusal
+    /// `NODE_STOPPED` where the node stopped before. Whoever has the seat with which the message was taken, or one of
+    /// the same desk, keeps the receipt with it.
+    pub fn wait<O: Opening, C: NodeCore, S: NodeStore, B: Bell, R: Wait + SystemClock>(
+        self,
+        rt: &R,
+        desk: &Desk<O, C, S, B>,
+    ) -> Answer
+        ensures judged { is_without_journal self.note.told ≡ false }
+        ensures line { result.line ≡ self.line }
+        ensures end { EndsWith self.note result }
+    {
+        let PendingAnswer { line, taken } = self;
+        let reply = reply_to(&taken);
+        match desk.receipt(rt, taken) {
+            Ok(receipt) => Answer::backed(line, reply, receipt),
+            Err(_) => Answer::stopped(line),
+        }
+    }
+
+    /// As `wait`. The seat has kept the receipt.
+    fn confirm<O: Opening, C: NodeCore, S: NodeStore, B: Bell, R: Wait + SystemClock>(
+        self,
+        rt: &R,
+        desk: &Desk<O, C, S, B>,
+        seat: &mut Seat,
+    ) -> Answer
+        ensures judged { is_without_journal self.note.told ≡ false }
+        ensures line { result.line ≡ self.line }
+        ensures end { ((seat.new ≡ confirmed seat.old self.note) × (result.receipt ≡ Some self.note)
+            × Gives self.note.told result.reply)
+            ⊎ ((seat.new ≡ seat.old) × (result.receipt ≡ None) × IsRefusedBy node_stopped result.reply) }
+    {
+        let answer = self.wait(rt, desk);
+        if let Some(receipt) = answer.receipt() {
+            seat.confirm(receipt);
+        }
+        answer
+    }
+}
+
+/// What has come of a job.
+#[derive(Debug, Drop)]
+pub enum Begun {
+    /// Its answer, since no journal judged its message: the node had stopped, or memory ran out.
+    Answered(Answer),
+    /// Its message was judged, and the answer waits for a commit.
+    Pending(PendingAnswer),
+}
+
+/// What comes of a line and what was told of its message.
+fn begun_of(line: Vec<u8>, taken: Taken) -> Begun
+    requires { IsOfLine line.items taken }
+    ensures line { line_of result ≡ line.items }
+    ensures becomes { Becomes taken result }
+{
+    match reply_at_once(taken.told()) {
+        Some(reply) => {
+            drop(taken);
+            Begun::Answered(Answer::bare(line, reply))
+        }
+        None => Begun::Pending(PendingAnswer { line, taken }),
+    }
+}
+
+/// As `begin_job`, for a line and the message that it writes.
+fn begin_message<O: Opening, C: NodeCore, S: NodeStore, B: Bell, K: Clock, G: Gate, R: Wait>(
+    rt: &R,
+    desk: &Desk<O, C, S, B>,
+    seat: &mut Seat,
+    clock: &K,
+    gate: &G,
+    line: Vec<u8>,
+    message: Message,
+) -> Begun
+    requires { IsLine line.items message }
+    ensures line { line_of result ≡ line.items }
+    ensures begins { Begins (K.tells clock.now) seat.old seat.new message result }
+{
+    let moment = clock.now();
+    let taken = desk.take_at(rt, seat, Input::Received { message, moment }, gate);
+    begun_of(line, taken)
+}
+
+/// Has the desk take a job's message once, at the clock's moment. Returns the answer to the job's line where the node
+/// had stopped or memory ran out, and else one that waits until all records are committed that the journal had then.
+/// While the desk holds its lock, it passes the gate.
+pub fn begin_job<O: Opening, C: NodeCore, S: NodeStore, B: Bell, K: Clock, G: Gate, R: Wait>(
+    rt: &R,
+    desk: &Desk<O, C, S, B>,
+    seat: &mut Seat,
+    clock: &K,
+    gate: &G,
+    job: Job,
+) -> Begun
+    ensures line { line_of result ≡ job.line }
+    ensures begins { Begins (K.tells clock.now) seat.old seat.new job.message result }
+{
+    let (line, message) = job.into_parts();
+    begin_message(rt, desk, seat, clock, gate, line, message)
+}
+
+/// As `begin_job`, and returns the answer once it has waited for the commit. Where the node stops before, the reply is
+/// refusal `NODE_STOPPED`.
+pub fn answer_job<
+    O: Opening,
+    C: NodeCore,
+    S: NodeStore,
+    B: Bell,
+    K: Clock,
+    G: Gate,
+    R: Wait + SystemClock,
+>(rt: &R, desk: &Desk<O, C, S, B>, seat: &mut Seat, clock: &K, gate: &G, job: Job) -> Answer
+    ensures line { result.line ≡ job.line }
+    ensures asks { Asks (K.tells clock.now) seat.old seat.new job.message result }
+{
+    match begin_job(rt, desk, seat, clock, gate, job) {
+        Begun::Answered(answer) => answer,
+        Begun::Pending(pending) => pending.confirm(rt, desk, seat),
+    }
+}

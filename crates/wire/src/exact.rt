@@ -1,0 +1,45 @@
+//! Messages and records that stand just as they are written, read without a value of JSON in between.
+//!
+//! What is found in such a text is a guess. It counts only where what is written of it is the text, byte for byte, so
+//! that nothing need be known of how it was found.
+ghost use Rattle.std.specs.Prelude.{IfOk, IfSome};
+ghost use Rattle.wire.specs.Messages.{IsLine};
+ghost use Rattle.wire.specs.Records.{IsRecordText};
+ghost use Rattle.wire.specs.declared.record_format.RecordFormat.TheVariants.{Two};
+
+use crate::guesses::{guess_input, guess_message};
+use crate::input::Input;
+use crate::message::Message;
+use crate::writing::encode;
+use crate::writing_records::encode_input;
+use std::alloc::Global;
+use units::NoMemory;
+
+/// The message whose text is this line. `None` where it isn't found, and the line may write one in another way then.
+pub(crate) fn exact_message(alloc: Global, line: &[u8]) -> Result<Option<Message>, NoMemory>
+    ensures { IfOk result (λ found. IfSome found (IsLine line.now)) }
+{
+    let Some(message) = guess_message(alloc, line) else {
+        return Ok(None);
+    };
+    let text = encode(alloc, &message)?;
+    if text.as_slice() == line {
+        return Ok(Some(message));
+    }
+    Ok(None)
+}
+
+/// The input whose record in format Two has this text. `None` where it isn't found, and the text may write one in
+/// another way then.
+pub(crate) fn exact_input(alloc: Global, text: &[u8]) -> Result<Option<Input>, NoMemory>
+    ensures { IfOk result (λ found. IfSome found (IsRecordText Two text.now)) }
+{
+    let Some(input) = guess_input(alloc, text) else {
+        return Ok(None);
+    };
+    let written = encode_input(alloc, &input)?;
+    if written.as_slice() == text {
+        return Ok(Some(input));
+    }
+    Ok(None)
+}

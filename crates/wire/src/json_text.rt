@@ -1,0 +1,111 @@
+//! Compact JSON that is written a token at a time.
+ghost use Rattle.std.specs.Prelude.{◌≡◌, ◌++◌, ◌∷◌, [], decimal, IfOk, OnOk};
+ghost use Rattle.std.specs.Str.{IsUtf8};
+ghost use Rattle.json.specs.Lex.{tokens};
+ghost use Rattle.json.specs.Print.{print};
+ghost use Rattle.json.specs.Token.{begin_object, end_object, begin_array, end_array, key, string, number, boolean};
+
+use json::Writer;
+use std::alloc::Global;
+use std::marker::Model;
+use units::NoMemory;
+
+/// How many bytes of a text have room from the start. Most messages and records are no longer.
+const ROOM: usize = 256;
+
+/// A text of JSON that is being written, without blanks, seen in contracts as its tokens. Whoever writes sees to it that
+/// they nest.
+#[derive(Drop)]
+pub(crate) struct JsonText {
+    writer: Writer,
+}
+
+impl Model for JsonText {
+    ghost use Rattle.std.specs.Prelude.{◌≡◌, List, []};
+    ghost use Rattle.json.specs.Token.{Token, tokens_code};
+
+    ghost Value = { List Token };
+
+    ghost coded = { tokens_code };
+
+    ghost view = { λ t. t.writer.tokens };
+
+    ghost invariant = { λ t. t.writer.before ≡ [] };
+}
+
+impl JsonText {
+    /// A text without a token; or `NoMemory`.
+    pub(crate) fn new(alloc: Global) -> Result<JsonText, NoMemory>
+        ensures { IfOk result (λ t. t ≡ []) }
+    {
+        let bytes = Vec::with_capacity(alloc, ROOM)?;
+        Ok(JsonText {
+            writer: Writer::new(bytes),
+        })
+    }
+
+    /// The text.
+    pub(crate) fn into_bytes(self) -> Vec<u8>
+        ensures text { result.items ≡ print self }
+        ensures reads_back { tokens (print self) ≡ self }
+        ensures utf8 { IsUtf8 (print self) }
+    {
+        self.writer.into_inner()
+    }
+
+    /// The beginning of an object.
+    pub(crate) fn begin_object(&mut self) -> Result<(), NoMemory>
+        ensures { OnOk result (self.new ≡ self.old ++ begin_object ∷ []) }
+    {
+        Ok(self.writer.begin_object()?)
+    }
+
+    /// The end of an object.
+    pub(crate) fn end_object(&mut self) -> Result<(), NoMemory>
+        ensures { OnOk result (self.new ≡ self.old ++ end_object ∷ []) }
+    {
+        Ok(self.writer.end_object()?)
+    }
+
+    /// The beginning of an array.
+    pub(crate) fn begin_array(&mut self) -> Result<(), NoMemory>
+        ensures { OnOk result (self.new ≡ self.old ++ begin_array ∷ []) }
+    {
+        Ok(self.writer.begin_array()?)
+    }
+
+    /// The end of an array.
+    pub(crate) fn end_array(&mut self) -> Result<(), NoMemory>
+        ensures { OnOk result (self.new ≡ self.old ++ end_array ∷ []) }
+    {
+        Ok(self.writer.end_array()?)
+    }
+
+    /// A key.
+    pub(crate) fn key(&mut self, name: &str) -> Result<(), NoMemory>
+        ensures { OnOk result (self.new ≡ self.old ++ key name.now ∷ []) }
+    {
+        Ok(self.writer.key(name)?)
+    }
+
+    /// A text.
+    pub(crate) fn string(&mut self, text: &str) -> Result<(), NoMemory>
+        ensures { OnOk result (self.new ≡ self.old ++ string text.now ∷ []) }
+    {
+        Ok(self.writer.string(text)?)
+    }
+
+    /// A whole number.
+    pub(crate) fn number(&mut self, value: u64) -> Result<(), NoMemory>
+        ensures { OnOk result (self.new ≡ self.old ++ number (decimal value) ∷ []) }
+    {
+        Ok(self.writer.u64(value)?)
+    }
+
+    /// Yes or no.
+    pub(crate) fn boolean(&mut self, value: bool) -> Result<(), NoMemory>
+        ensures { OnOk result (self.new ≡ self.old ++ boolean value ∷ []) }
+    {
+        Ok(self.writer.boolean(value)?)
+    }
+}

@@ -76,6 +76,7 @@ pub record PendingView : Type 0 where
   pub line : List ℕ
   pub note : Note
 
+-- what is kept of a pending answer: its note is of the line's message, and a journal judged it; no public contract cites it
 abbrev pub IsPending : List ℕ → Note → Type 0
 IsPending line note = IsOfLine line note × (is_without_journal note.told ≡ false)
 

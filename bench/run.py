@@ -8,8 +8,8 @@ between as many threads, and commits the same records by SQLite's library; both 
 kyoto-link's the time of a run without transfers is taken off. Transfers one after another run with a script that asks every
 20 microseconds, so that its own waiting counts little. Printed are the rates, their ratio, and the processor time of a
 transfer as a multiple of C's; how PostgreSQL does that moves one row each from a database to another one by PREPARE
-TRANSACTION in both; the system calls of a transfer; and the memory of a run with 32 registries. The exit status is 1 where a
-limit is passed.
+TRANSACTION in both; the system calls of a transfer; what commits take of its processor time; and the memory of a run with 32
+registries. The exit status is 1 where a limit is passed.
 """
 
 import argparse
@@ -41,6 +41,8 @@ AHEAD_FROM = 100
 MOST_TIMES_TWO = 1.3
 MOST_MEGABYTES = 150
 POSTGRES = sorted(pathlib.Path("/usr/lib/postgresql").glob("*/bin"))
+# How many commits of one record show what a commit takes.
+COMMITS = 4_000
 TRACED = "futex,connect,accept4,sendto,recvfrom,write,fdatasync,fsync,clock_nanosleep"
 
 
@@ -91,6 +93,7 @@ class Bench:
         self.slow = self.room / "slow_sync.so"
         building.build_c(BENCH / "transfers.c", self.peer, "-std=c11", "-lsqlite3", "-lpthread")
         building.build_c(BENCH / "slow_sync.c", self.slow, "-shared", "-fPIC", "-ldl")
+        building.build_c(BENCH / "store.c", self.room / "store", "-std=c11", "-lsqlite3")
 
     def env(self, sync, nap=0):
         return {"LD_PRELOAD": str(self.slow), "SYNC_MICROSECONDS": str(sync), "NAP_MICROSECONDS": str(nap)}
@@ -143,6 +146,22 @@ class Bench:
                 found[fields[-1]] = int(fields[3]) / count
         print(f"{registries:3} registries, system calls of a transfer: "
               + ", ".join(f"{name} {times:.1f}" for name, times in sorted(found.items(), key=lambda it: -it[1])), flush=True)
+        return found["fdatasync"]
+
+    def commit_cost(self, program, tries):
+        """The processor time of a commit of one record in milliseconds, by a program that appends records to a store."""
+        spent = []
+        for _ in range(tries):
+            folder = pathlib.Path(tempfile.mkdtemp(dir=self.room))
+            spent.append(timed([*program, folder / "store", COMMITS, 1, 0]).busy)
+            shutil.rmtree(folder)
+        return min(spent) / COMMITS * 1000
+
+    def share(self, registries, commits, busy, tries):
+        """What commits take of the processor time of a transfer, in milliseconds."""
+        ours, theirs = (self.commit_cost(it, tries) for it in ([building.PROGRAM, "store"], [self.room / "store"]))
+        print(f"{registries:3} registries: a commit of one record takes {ours:.3f} ms of processor time, in C {theirs:.3f} ms; "
+              f"{commits:.1f} commits take {commits * ours / busy:.2f} of the {busy:.2f} ms of a transfer", flush=True)
 
 
 class Session:
@@ -225,8 +244,9 @@ def postgres_rate(room, count, env):
 
 
 def compare_all(bench, given):
-    """Whether a limit is passed by a rate or by the processor time of many registries."""
-    passed = False
+    """Whether a limit is passed by a rate or by the processor time of many registries; and the processor time in milliseconds of
+    a transfer together at the fewest registries with the first of the syncs."""
+    passed, first = False, None
     for sync in given.syncs:
         busy = {}
         for registries in given.registries:
@@ -239,10 +259,11 @@ def compare_all(bench, given):
                 print(f"PostgreSQL, one after another: {other:.0f} a second; kyoto-link makes {rate / other:.2f} of that", flush=True)
                 passed |= sync >= AHEAD_FROM and rate < other
         least, most = min(busy), max(busy)
+        first = first or busy[least] * 1000
         times = busy[most] / busy[least]
         print(f"processor time of a transfer together at {most} registries: {times:.2f} times that at {least}", flush=True)
         passed |= times > MOST_TIMES_TWO
-    return passed
+    return passed, first
 
 
 def main():
@@ -257,11 +278,13 @@ def main():
     need("gcc", "builds the C program")
     need("strace", "counts system calls")
     program()
+    building.prove_and_build()
     with tempfile.TemporaryDirectory(dir=given.room) as room:
         bench = Bench(room)
-        passed = compare_all(bench, given)
-        for registries in (min(given.registries), max(given.registries)):
-            bench.calls(registries, 200)
+        passed, busy = compare_all(bench, given)
+        least, most = min(given.registries), max(given.registries)
+        bench.share(least, bench.calls(least, 200), busy, given.tries)
+        bench.calls(most, 200)
         megabytes = bench.play(32, 320, "together").megabytes
         print(f"most memory of a run with 32 registries: {megabytes:.0f} MB")
         passed |= megabytes > MOST_MEGABYTES

@@ -2,7 +2,7 @@
 
 use crate::fault::Fault;
 use crate::work::Taken;
-use outbox::Outbox;
+use protocol::records::Outbox;
 use protocol::status::TransactionId;
 use protocol::units::{Code, Node};
 use protocol::wire::{Message, Request};

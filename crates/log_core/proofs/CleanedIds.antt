@@ -154,10 +154,10 @@ module _ (scheme : Scheme) where
 
 module _ (scheme : Scheme) (tables : Tables) (kept : IsKept scheme tables) where
   abbrev xs : List Transition
-  xs = transitions_of (history scheme Itl tables.journal.items)
+  xs = transitions_of (history scheme Itl tables.records.inputs)
 
-  made_so : Made scheme Itl (history scheme Itl tables.journal.items)
-  made_so = made_history scheme Itl tables.journal.items
+  made_so : Made scheme Itl (history scheme Itl tables.records.inputs)
+  made_so = made_history scheme Itl tables.records.inputs
 
   since_so : (w : Waiting) → In w tables.checked.keys → is_checked_since xs w.since.seconds w.id ≡ true
   since_so w i = sym (kept.kept.checked w) ∙ in_contains tables.checked.keys w i
@@ -203,7 +203,7 @@ module _ (scheme : Scheme) (tables : Tables) (kept : IsKept scheme tables) where
     expired_front : (t : TransactionId) → HasExpired xs moment t → In t (map (λ (w : Waiting). w.id) front)
     expired_front t h =
         let x = checked_newest xs h.0 t h.1 in
-        let m = of_moments scheme (history scheme Itl tables.journal.items) made_so x.0 (newest_id xs t x.0 x.1).0 in
+        let m = of_moments scheme (history scheme Itl tables.records.inputs) made_so x.0 (newest_id xs t x.0 x.1).0 in
         let seconds : m.0.seconds ≡ h.0 = m.1 ∙ x.3 in
         let w : Waiting = record { since = m.0; id = t } in
         let has = kept.kept.checked w ∙ subst (λ n. is_checked_since xs n t ≡ true) (sym seconds) h.1 in
@@ -214,11 +214,11 @@ module _ (scheme : Scheme) (tables : Tables) (kept : IsKept scheme tables) where
         ]
 
     -- sorted, the identifiers of the front are those of the transitions
-    pub expired_ids : (ids : List TransactionId) → IsPermutation (map (λ w. w.id) front) ids → IsSorted id_cmp ids → map (λ x. x.id) (log.expired (transitions_of (history scheme Itl tables.journal.items)) moment) ≡ ids
+    pub expired_ids : (ids : List TransactionId) → IsPermutation (map (λ w. w.id) front) ids → IsSorted id_cmp ids → map (λ x. x.id) (log.expired (transitions_of (history scheme Itl tables.records.inputs)) moment) ≡ ids
     expired_ids ids moves sorted =
         let held = map (λ (w : Waiting). w.id) front in
         let distinct = IsDistinct-IsPermutation same_id flips held ids moves (distinct_ids front (sorted_left waiting_cmp front rest (subst (IsStrictlySortedBy waiting_cmp) parts ordered)) in_front) in
-        expired_so scheme (history scheme Itl tables.journal.items) made_so moment ids (ids_ascending ids sorted distinct)
+        expired_so scheme (history scheme Itl tables.records.inputs) made_so moment ids (ids_ascending ids sorted distinct)
         (λ t. (
           (λ has. front_expired t (In_contains held t (Contains-permutation ids held t (IsPermutation-sym held ids moves) has))),
           (λ h. Contains-permutation held ids t moves (contains_in held t (expired_front t h))),

@@ -18,7 +18,7 @@ use Rattle.log_core.specs.Kept.{IsKept}
 use Rattle.log_core.specs.Readings.{of_transition}
 use Rattle.log_core.specs.Taking.{verdict_by_rules}
 use Rattle.log_core.specs.Transfers.{IsOfKnown}
-use Rattle.log_core.specs.declared.effect.LogEffect.TheVariants.{Cancel}
+use Rattle.log_core.specs.declared.effect.TransferEffect.TheVariants.{Cancel}
 use Rattle.log_core.specs.declared.tables.Tables.{Tables}
 use Rattle.log_core.proofs.CleanedInOrder.{all_from_in}
 use Rattle.log_core.proofs.CleanedUp.{checked_newest, expired_cancelled, has_expired}
@@ -37,25 +37,25 @@ some_cleaned scheme es (x ∷ xs) t ts e = refl
 
 module _ (scheme : Scheme) (tables : Tables) where
   abbrev past : List Entry
-  past = history scheme Itl tables.journal.items
+  past = history scheme Itl tables.records.inputs
 
   verdict_clean : (moment : Moment) → verdict_by_rules scheme tables (CleanUp moment) ≡ log.clean_up scheme past (log.expired (transitions_of past) moment.seconds)
   unfolding verdict
   verdict_clean moment = refl
 
-  pub clean_up_repeats : (moment : Moment) → map (λ x. x.id) (log.expired (transitions_of (history scheme Itl tables.journal.items)) moment.seconds) ≡ [] → verdict_by_rules scheme tables (CleanUp moment) ≡ IsRepeat
+  pub clean_up_repeats : (moment : Moment) → map (λ x. x.id) (log.expired (transitions_of (history scheme Itl tables.records.inputs)) moment.seconds) ≡ [] → verdict_by_rules scheme tables (CleanUp moment) ≡ IsRepeat
   clean_up_repeats moment none = verdict_clean moment ∙ none_cleaned scheme past (log.expired (transitions_of past) moment.seconds) none
 
-  pub clean_up_enters : (moment : Moment) (t : TransactionId) (ts : List TransactionId) → map (λ x. x.id) (log.expired (transitions_of (history scheme Itl tables.journal.items)) moment.seconds) ≡ t ∷ ts
-      → verdict_by_rules scheme tables (CleanUp moment) ≡ recorded_if_room scheme (history scheme Itl tables.journal.items) (log.expired (transitions_of (history scheme Itl tables.journal.items)) moment.seconds)
+  pub clean_up_enters : (moment : Moment) (t : TransactionId) (ts : List TransactionId) → map (λ x. x.id) (log.expired (transitions_of (history scheme Itl tables.records.inputs)) moment.seconds) ≡ t ∷ ts
+      → verdict_by_rules scheme tables (CleanUp moment) ≡ recorded_if_room scheme (history scheme Itl tables.records.inputs) (log.expired (transitions_of (history scheme Itl tables.records.inputs)) moment.seconds)
   clean_up_enters moment t ts some = verdict_clean moment ∙ some_cleaned scheme past (log.expired (transitions_of past) moment.seconds) t ts some
 
-  module _ (moment : ℕ) (ids : Vec TransactionId Global) (are : map (λ x. x.id) (log.expired (transitions_of (history scheme Itl tables.journal.items)) moment) ≡ ids.items) where
+  module _ (moment : ℕ) (ids : Vec TransactionId Global) (are : map (λ x. x.id) (log.expired (transitions_of (history scheme Itl tables.records.inputs)) moment) ≡ ids.items) where
     made_so : Made scheme Itl past
-    made_so = made_history scheme Itl tables.journal.items
+    made_so = made_history scheme Itl tables.records.inputs
 
     -- its transitions are what the cancellation of these asks for
-    pub clean_up_effect : IsEffect (log.expired (transitions_of (history scheme Itl tables.journal.items)) moment) moment (Cancel ids)
+    pub clean_up_effect : IsEffect (log.expired (transitions_of (history scheme Itl tables.records.inputs)) moment) moment (Cancel ids)
     clean_up_effect = (are, expired_cancelled scheme past made_so moment)
 
     -- each of these was known

@@ -51,7 +51,7 @@ expected_ok d expected x (inr e) h = let clashing = sym e ∙ h in absurd (cc (c
 
 module _ (scheme : Scheme) (tables : Tables) (input : Input) (to : Status → Transition) (row : Row) (d : Result Decision Refusal) where
   abbrev past : List Entry
-  past = history scheme Itl tables.journal.items
+  past = history scheme Itl tables.records.inputs
 
   -- the decision is by the row, with the messages of its transition, and the verdict is by that row too
   pub record Decides : Type 0 where
@@ -122,7 +122,7 @@ unknown_of o e = ap (option_map of_transition) e
 
 module _ (scheme : Scheme) (tables : Tables) (kept : IsKept scheme tables) where
   abbrev pub last : TransactionId → Option Transition
-  last t = newest (transitions_of (history scheme Itl tables.journal.items)) t
+  last t = newest (transitions_of (history scheme Itl tables.records.inputs)) t
 
   pub known_so : (t : TransactionId) → known_transfer_state (transfer_state_in tables t) ≡ decide.known (last t)
   known_so t = ap known_transfer_state (kept.kept.transfers t) ∙ known_of (last t)
@@ -133,16 +133,16 @@ module _ (scheme : Scheme) (tables : Tables) (kept : IsKept scheme tables) where
   -- ---- a message that isn't refused for what it is
 
   abbrev pub IsWelcome : Message → Type 0
-  IsWelcome m = first_of (log_refusals scheme (history scheme Itl tables.journal.items) m) ≡ None
+  IsWelcome m = first_of (log_refusals scheme (history scheme Itl tables.records.inputs) m) ≡ None
 
-  answered : (m : Message) (moment : Moment) → IsWelcome m → verdict_by_rules scheme tables (Received m moment) ≡ log_answer scheme (history scheme Itl tables.journal.items) moment.seconds m
+  answered : (m : Message) (moment : Moment) → IsWelcome m → verdict_by_rules scheme tables (Received m moment) ≡ log_answer scheme (history scheme Itl tables.records.inputs) moment.seconds m
   answered m moment welcome =
-      let es = history scheme Itl tables.journal.items in
+      let es = history scheme Itl tables.records.inputs in
       verdict_so scheme tables (Received m moment) ∙ refuse_none (log_refusals scheme es m) (log_answer scheme es moment.seconds m) welcome
 
-  pub refused : (m : Message) (moment : Moment) (code : ℕ) → first_of (log_refusals scheme (history scheme Itl tables.journal.items) m) ≡ Some code → verdict_by_rules scheme tables (Received m moment) ≡ IsRefused code
+  pub refused : (m : Message) (moment : Moment) (code : ℕ) → first_of (log_refusals scheme (history scheme Itl tables.records.inputs) m) ≡ Some code → verdict_by_rules scheme tables (Received m moment) ≡ IsRefused code
   refused m moment code first =
-      let es = history scheme Itl tables.journal.items in
+      let es = history scheme Itl tables.records.inputs in
       verdict_so scheme tables (Received m moment) ∙ refuse_first (log_refusals scheme es m) (log_answer scheme es moment.seconds m) code first
 
   -- its transition to a status, and the row
@@ -153,7 +153,7 @@ module _ (scheme : Scheme) (tables : Tables) (kept : IsKept scheme tables) where
   row_at t col = log_row (decide.known (last t)) col
 
   abbrev pub findings : Proposal → List ℕ
-  findings p = log_findings scheme (ledger scheme (history scheme Itl tables.journal.items)) p.id.code p.content
+  findings p = log_findings scheme (ledger scheme (history scheme Itl tables.records.inputs)) p.id.code p.content
 
   abbrev pub proposal_column : Proposal → RowInput
   proposal_column p = column_of_proposal (content_in (last p.id)) (findings p)
@@ -171,7 +171,7 @@ module _ (scheme : Scheme) (tables : Tables) (kept : IsKept scheme tables) where
       }
 
   told_decided : (t : TransactionId) (codes : List ℕ) (col : RowInput) (moment : Moment) (input : Input) (d : Result Decision Refusal)
-      → verdict_by_rules scheme tables input ≡ by_row scheme (history scheme Itl tables.journal.items) (comes_to t (content_in (last t)) codes moment col) (row_at t col)
+      → verdict_by_rules scheme tables input ≡ by_row scheme (history scheme Itl tables.records.inputs) (comes_to t (content_in (last t)) codes moment col) (row_at t col)
       → IsExpectedOrNoMemory d (decided (log_row (known_transfer_state (transfer_state_in tables t)) col) (log_sends t (transfer_state_content (transfer_state_in tables t)) codes col))
       → Decides scheme tables input (comes_to t (content_in (last t)) codes moment col) (row_at t col) d
   told_decided t codes col moment input d verdict_is is =

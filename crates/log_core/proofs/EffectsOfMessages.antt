@@ -19,8 +19,8 @@ use Rattle.safety.proofs.MovesAndHistories.TableRows.{log_asked, log_from, log_n
 use Rattle.log_core.specs.Effects.{IsEffect, IsAdvanced}
 use Rattle.log_core.specs.Readings.{TransferState, of_transition}
 use Rattle.log_core.specs.Transfers.{IsOfKnown, IsWithdrawal}
-use Rattle.log_core.specs.declared.effect.LogEffect.{LogEffect}
-use Rattle.log_core.specs.declared.effect.LogEffect.TheVariants.{Begin, Advance, Cancel}
+use Rattle.log_core.specs.declared.effect.TransferEffect.{TransferEffect}
+use Rattle.log_core.specs.declared.effect.TransferEffect.TheVariants.{Begin, Advance, Cancel}
 
 module _ (t : TransactionId) (moment : Moment) (ms : List Message) (last : Option Transition) (new : Status) where
   -- ---- a proposal that moves is of a transaction that wasn't known
@@ -56,11 +56,11 @@ module _ (t : TransactionId) (moment : Moment) (ms : List Message) (last : Optio
 
   -- ---- a request that moves cancels its transaction, which is known, or begins one
 
-  pub request_effect : (effect : LogEffect) → log_row (decide.known last) Request ≡ Move new → IsWithdrawal t (option_map of_transition last) effect
+  pub request_effect : (effect : TransferEffect) → log_row (decide.known last) Request ≡ Move new → IsWithdrawal t (option_map of_transition last) effect
       → IsEffect (decide.moved t (content_in last) moment.seconds ms new ∷ []) moment.seconds effect
   request_effect effect h = go last effect (log_asked (decide.known last) new h).1
     where
-      go : (o : Option Transition) (e : LogEffect) → new ≡ Cancelled → IsWithdrawal t (option_map of_transition o) e → IsEffect (decide.moved t (content_in o) moment.seconds ms new ∷ []) moment.seconds e
+      go : (o : Option Transition) (e : TransferEffect) → new ≡ Cancelled → IsWithdrawal t (option_map of_transition o) e → IsEffect (decide.moved t (content_in o) moment.seconds ms new ∷ []) moment.seconds e
       go None e cancelled is =
           subst (λ f. IsEffect (decide.moved t None moment.seconds ms new ∷ []) moment.seconds f) (sym is)
           (decide.moved t None moment.seconds ms new, refl, refl, cancelled, refl, refl, λ s. s)
@@ -69,10 +69,10 @@ module _ (t : TransactionId) (moment : Moment) (ms : List Message) (last : Optio
       go (Some x) (Advance id s) cancelled is = absurd is
 
 -- a withdrawal is of what is known, or of what wasn't
-pub withdrawn_known : (t : TransactionId) (old : TransactionId → Option TransferState) (effect : LogEffect) → IsWithdrawal t (old t) effect → IsOfKnown old effect
+pub withdrawn_known : (t : TransactionId) (old : TransactionId → Option TransferState) (effect : TransferEffect) → IsWithdrawal t (old t) effect → IsOfKnown old effect
 withdrawn_known t old effect h = go (old t) effect refl h
   where
-    go : (o : Option TransferState) (e : LogEffect) → old t ≡ o → IsWithdrawal t o e → IsOfKnown old e
+    go : (o : Option TransferState) (e : TransferEffect) → old t ≡ o → IsWithdrawal t o e → IsOfKnown old e
     go None e was is = subst (IsOfKnown old) (sym is) was
     go (Some x) (Cancel ids) was is = subst (λ l. AllByRecursion (λ u. is_some (old u) ≡ true) l) (sym is) (ap is_some was, tt)
     go (Some x) (Begin id s k) was is = absurd is

@@ -22,9 +22,9 @@ use Rattle.log_core.proofs.TakenInputs.{verdict_so}
 
 module _ (scheme : Scheme) (tables : Tables) (kept : IsKept scheme tables) (c : Code) (may : Bool) where
   rest : (b d : Bool) → has_member scheme c ≡ b → unwrap_or (tree.get code_cmp tables.register.orders c) (starts_eligible scheme c) ≡ d
-      → verdict_by_rules scheme tables (Eligible c may) ≡ cond (not b) (IsRefused unknown_registry) (cond (same_bool d may) IsRepeat (recorded_if_room scheme (history scheme Itl tables.journal.items) []))
+      → verdict_by_rules scheme tables (Eligible c may) ≡ cond (not b) (IsRefused unknown_registry) (cond (same_bool d may) IsRepeat (recorded_if_room scheme (history scheme Itl tables.records.inputs) []))
   rest b d e f =
-      let es = history scheme Itl tables.journal.items in
+      let es = history scheme Itl tables.records.inputs in
       let eligible = (registers_so scheme tables kept).is_eligible c ∙ f in
       verdict_so scheme tables (Eligible c may) ∙ (λ i. cond (not (e i)) (IsRefused unknown_registry) (cond (same_bool (eligible i) may) IsRepeat (recorded_if_room scheme es [])))
 
@@ -41,8 +41,8 @@ module _ (scheme : Scheme) (tables : Tables) (kept : IsKept scheme tables) (c : 
       go false true = refl
 
   pub eligible_again : (d : Bool) → has_member scheme c ≡ true → d ≡ unwrap_or (tree.get code_cmp tables.register.orders c) (starts_eligible scheme c) → beq d may ≡ true → verdict_by_rules scheme tables (Eligible c may) ≡ IsRepeat
-  eligible_again d e is f = rest true d e (sym is) ∙ ap (λ b. cond b IsRepeat (recorded_if_room scheme (history scheme Itl tables.journal.items) [])) (tested d ∙ f)
+  eligible_again d e is f = rest true d e (sym is) ∙ ap (λ b. cond b IsRepeat (recorded_if_room scheme (history scheme Itl tables.records.inputs) [])) (tested d ∙ f)
 
   pub eligible_enters : (d : Bool) → has_member scheme c ≡ true → d ≡ unwrap_or (tree.get code_cmp tables.register.orders c) (starts_eligible scheme c) → beq d may ≡ false
-      → verdict_by_rules scheme tables (Eligible c may) ≡ recorded_if_room scheme (history scheme Itl tables.journal.items) []
-  eligible_enters d e is f = rest true d e (sym is) ∙ ap (λ b. cond b IsRepeat (recorded_if_room scheme (history scheme Itl tables.journal.items) [])) (tested d ∙ f)
+      → verdict_by_rules scheme tables (Eligible c may) ≡ recorded_if_room scheme (history scheme Itl tables.records.inputs) []
+  eligible_enters d e is f = rest true d e (sym is) ∙ ap (λ b. cond b IsRepeat (recorded_if_room scheme (history scheme Itl tables.records.inputs) [])) (tested d ∙ f)

@@ -25,13 +25,9 @@ use Rattle.wire.specs.declared.message.Message.{Message}
 use Rattle.scheme.specs.declared.registries.Scheme.{Scheme}
 use Rattle.checks.specs.declared.register.UnderWay.{UnderWay}
 use Rattle.protocol.proofs.Histories.{history_recorded}
-use Rattle.protocol.proofs.Replaying.{replays_snoc}
-use Rattle.protocol.specs.Cores.{Replays, answer_of}
 use Rattle.protocol.specs.Deciding.{IsRecorded}
-use Rattle.protocol.specs.History.{Entry, Transition, allows, has_serial, messages_of, newest, transitions_of}
+use Rattle.protocol.specs.History.{Entry, Transition, allows, has_serial, newest, transitions_of}
 use Rattle.protocol.specs.Verdict.{history, transitions_made}
-use Rattle.outbox.specs.Outgoing.{did, outgoing}
-use Rattle.outbox.specs.Sending.{Sends, Sent}
 use Rattle.units.proofs.Lists.Membership.{In, map_In}
 use Rattle.safety.proofs.ListLemmas.TestsOfSameness.{status_of_same}
 use Rattle.safety.proofs.MovesAndHistories.LongerHistories.{made_history}
@@ -42,8 +38,8 @@ use Rattle.log_core.specs.Kept.{AreKept, IsKept, waiting_cmp}
 use Rattle.log_core.specs.Readings.{TransferState, last_order, of_transition, under_way}
 use Rattle.log_core.specs.Taking.{verdict_by_rules}
 use Rattle.log_core.specs.Transfers.{IsOfKnown}
-use Rattle.log_core.specs.declared.effect.LogEffect.{LogEffect}
-use Rattle.log_core.specs.declared.effect.LogEffect.TheVariants.{Begin, Cancel, Advance}
+use Rattle.log_core.specs.declared.effect.TransferEffect.{TransferEffect}
+use Rattle.log_core.specs.declared.effect.TransferEffect.TheVariants.{Begin, Cancel, Advance}
 use Rattle.log_core.specs.declared.tables.Tables.{Tables}
 use Rattle.log_core.specs.declared.waiting.Waiting.{Waiting}
 use Rattle.log_core.proofs.KeptTransfers.{transfer_state_begun, transfer_state_came, waits_begun, waits_ended}
@@ -61,41 +57,33 @@ IsMessageOrCleanUp _ = ⊥
 -- ---- what such an input isn't
 
 abbrev AsMoves : Input → Type 0
-AsMoves input = ((c : Code) → allows c input ≡ None) × ((ms : List Message) → did input ms ≡ Sends ms)
+AsMoves input = (c : Code) → allows c input ≡ None
 
 as_moves : (input : Input) → IsMessageOrCleanUp input → AsMoves input
-as_moves (Received m moment) h = (λ c. refl, λ ms. refl)
-as_moves (CleanUp moment) h = (λ c. refl, λ ms. refl)
+as_moves (Received m moment) h = λ c. refl
+as_moves (CleanUp moment) h = λ c. refl
 as_moves _ h = absurd h
 
 -- ---- one record more
 
-pub kept_recorded : (scheme : Scheme) (tables tables' : Tables) (input : Input) (front : List Transition) → IsKept scheme tables → verdict_by_rules scheme tables input ≡ IsRecorded front → tables'.journal.items ≡ tables.journal.items ++ input ∷ []
-    → AreKept scheme (entry input front ∷ history scheme Itl tables.journal.items) tables' → IsKept scheme tables'
-kept_recorded scheme tables tables' input front kept enters journal more =
-    let old = tables.journal.items in
-    record {
-      replays = subst (λ (j : List Input). Replays scheme Itl j) (sym journal) (replays_snoc scheme Itl old input kept.replays (ap (answer_of (length old)) enters));
-      kept = subst (λ (hs : List Entry). AreKept scheme hs tables') (sym (ap (history scheme Itl) journal ∙ history_recorded scheme Itl old input front enters)) more;
-    }
+pub kept_recorded : (scheme : Scheme) (tables tables' : Tables) (input : Input) (front : List Transition) → verdict_by_rules scheme tables input ≡ IsRecorded front → tables'.records.inputs ≡ tables.records.inputs ++ input ∷ []
+    → AreKept scheme (entry input front ∷ history scheme Itl tables.records.inputs) tables' → AreKept scheme (history scheme Itl tables'.records.inputs) tables'
+kept_recorded scheme tables tables' input front enters journal more =
+    subst (λ (hs : List Entry). AreKept scheme hs tables') (sym (ap (history scheme Itl) journal ∙ history_recorded scheme Itl tables.records.inputs input front enters)) more
 
 module _ (scheme : Scheme) (es : List Entry) (tables tables' : Tables) (kept : AreKept scheme es tables) (input : Input) (moves : AsMoves input) where
   abbrev xs : List Transition
   xs = transitions_of es
 
-  sent_so : (front : List Transition) → tables'.outbox ≡ tables.outbox ++ Sends (messages_of front) ∷ [] → tables'.outbox ≡ outgoing (entry input front ∷ es)
-  sent_so front sent =
-      sent ∙ ap (λ (l : List Sent). l ++ Sends (messages_of front) ∷ []) kept.sent ∙ ap (λ (d : Sent). outgoing es ++ d ∷ []) (sym (moves.1 (messages_of front)))
-
   orders_so : (front : List Transition) → tables'.register.orders ≡ tables.register.orders → (c : Code) → tree.get code_cmp tables'.register.orders c ≡ last_order (entry input front ∷ es) c
-  orders_so front same c = ap (λ m. tree.get code_cmp m c) same ∙ kept.orders c ∙ ap (λ (o : Option Bool). option_or o (last_order es c)) (sym (moves.0 c))
+  orders_so front same c = ap (λ m. tree.get code_cmp m c) same ∙ kept.orders c ∙ ap (λ (o : Option Bool). option_or o (last_order es c)) (sym (moves c))
 
   allotments_so : tables'.register.allotments ≡ tables.register.allotments → (s : Serial) → finite.get tables'.register.allotments s ≡ finite.get tables.register.allotments s
   allotments_so same s = ap (λ m. finite.get m s) same
 
   -- ---- a transaction that wasn't known
 
-  module _ (x : Transition) (transitions_made : Made scheme Itl (entry input (x ∷ []) ∷ es)) (sent : tables'.outbox ≡ tables.outbox ++ Sends (messages_of (x ∷ [])) ∷ []) where
+  module _ (x : Transition) (transitions_made : Made scheme Itl (entry input (x ∷ []) ∷ es)) where
     begun_kept : newest xs x.id ≡ None → (IsAdvanced x.new → ⊥) → Carried (Begin x.id x.new x.content) x.moment tables tables' → AreKept scheme (entry input (x ∷ []) ∷ es) tables'
     begun_kept none not_advanced_is carried =
         let other = not_advanced x.new not_advanced_is in
@@ -115,7 +103,6 @@ module _ (scheme : Scheme) (es : List Entry) (tables tables' : Tables) (kept : A
               carried.checked w
               ∙ ap (λ b. (same_status x.new Checked && (same_id x.id w.id && (x.moment == w.since.seconds))) || b) (kept.checked w)
               ∙ waits_begun x xs none w.since.seconds w.id;
-          sent = sent_so (x ∷ []) sent;
         }
 
     -- ---- a transaction that has come to Accepted, Rejected or Completed
@@ -157,19 +144,18 @@ module _ (scheme : Scheme) (es : List Entry) (tables tables' : Tables) (kept : A
               carried.checked w
               ∙ ap (λ b. not (same_id x.id w.id) && b) (kept.checked w)
               ∙ waits_ended (x ∷ []) xs (λ t. same_id x.id t) (here_first x) (λ z i. of_one (λ z. same_status z.new Checked ≡ false) x z (advanced_unchecked x.new advanced) i) w.since.seconds w.id;
-          sent = sent_so (x ∷ []) sent;
         }
 
   -- ---- transactions that are cancelled
 
   cancelled_kept : (front : List Transition) (ids : List TransactionId) (moment : ℕ) → Made scheme Itl (entry input front ∷ es) → map (λ (x : Transition). x.id) front ≡ ids → ((z : Transition) → In z front → IsCancelledAt moment z)
-      → ((t : TransactionId) → In t ids → is_some (transfer_state_in tables t) ≡ true) → tables'.outbox ≡ tables.outbox ++ Sends (messages_of front) ∷ []
+      → ((t : TransactionId) → In t ids → is_some (transfer_state_in tables t) ≡ true)
       → tables'.register.allotments ≡ tables.register.allotments → tables'.register.orders ≡ tables.register.orders
       → ((t : TransactionId) → transfer_state_in tables' t ≡ (if is_among ids t then option_map (came_to Cancelled moment) (transfer_state_in tables t) else transfer_state_in tables t))
       → ((s : Serial) → finite.get tables'.register.under_way s ≡ labels_that (λ u. not (is_among ids u.id)) (finite.get tables.register.under_way s))
       → ((s : Serial) → finite.get tables'.register.book s ≡ finite.get tables.register.book s)
       → ((w : Waiting) → contains waiting_cmp tables'.checked w ≡ (not (is_among ids w.id) && contains waiting_cmp tables.checked w)) → AreKept scheme (entry input front ∷ es) tables'
-  cancelled_kept front ids moment transitions_made are cancelled known sent allotments orders transfers under book checked =
+  cancelled_kept front ids moment transitions_made are cancelled known allotments orders transfers under book checked =
       let among = is_among ids in
       let of = ids_of front ids are in
       let status = λ (P : Status → Type 0) (p : P Cancelled) (z : Transition) (i : In z front). subst P (sym (cancelled z i).0) p in
@@ -192,12 +178,10 @@ module _ (scheme : Scheme) (es : List Entry) (tables tables' : Tables) (kept : A
             ∙ transfer_state_came front xs among of Cancelled moment cancelled follows t;
         checked = λ w.
             checked w ∙ ap (λ b. not (among w.id) && b) (kept.checked w) ∙ waits_ended front xs among of (status (λ z. same_status z Checked ≡ false) refl) w.since.seconds w.id;
-        sent = sent_so front sent;
       }
 
-  moved_kept : (front : List Transition) (effect : LogEffect) (moment : ℕ) → Made scheme Itl (entry input front ∷ es) → IsEffect front moment effect → IsOfKnown (transfer_state_in tables) effect → Carried effect moment tables tables'
-      → tables'.outbox ≡ tables.outbox ++ Sends (messages_of front) ∷ [] → AreKept scheme (entry input front ∷ es) tables'
-  moved_kept front (Begin id new content) moment transitions_made h known carried sent =
+  moved_kept : (front : List Transition) (effect : TransferEffect) (moment : ℕ) → Made scheme Itl (entry input front ∷ es) → IsEffect front moment effect → IsOfKnown (transfer_state_in tables) effect → Carried effect moment tables tables' → AreKept scheme (entry input front ∷ es) tables'
+  moved_kept front (Begin id new content) moment transitions_made h known carried =
       let x = h.0 in
       let id_is = sym h.2 in
       let new_is = sym h.3 in
@@ -206,30 +190,29 @@ module _ (scheme : Scheme) (es : List Entry) (tables tables' : Tables) (kept : A
       let same : Begin id new content ≡ Begin x.id x.new x.content = λ i. Begin (id_is i) (new_is i) (content_is i) in
       subst (λ (f : List Transition). AreKept scheme (entry input f ∷ es) tables') (sym h.1)
       (begun_kept x (subst (λ (f : List Transition). Made scheme Itl (entry input f ∷ es)) h.1 transitions_made)
-      (subst (λ (f : List Transition). tables'.outbox ≡ tables.outbox ++ Sends (messages_of f) ∷ []) h.1 sent) fresh (λ advanced. h.6 (subst IsAdvanced h.3 advanced))
-      (subst (λ (e : LogEffect). Carried e x.moment tables tables') same (subst (λ m. Carried (Begin id new content) m tables tables') (sym h.5) carried)))
+      fresh (λ advanced. h.6 (subst IsAdvanced h.3 advanced))
+      (subst (λ (e : TransferEffect). Carried e x.moment tables tables') same (subst (λ m. Carried (Begin id new content) m tables tables') (sym h.5) carried)))
     where
       unknown_newest : (o : Option Transition) → option_map of_transition o ≡ None → o ≡ None
       unknown_newest None e = refl
       unknown_newest (Some q) e = absurd (cc (e))
-  moved_kept front (Advance id new) moment transitions_made h known carried sent =
+  moved_kept front (Advance id new) moment transitions_made h known carried =
       let x = h.0 in
       let id_is = sym h.2 in
       let new_is = sym h.3 in
       let same : Advance id new ≡ Advance x.id x.new = λ i. Advance (id_is i) (new_is i) in
       subst (λ (f : List Transition). AreKept scheme (entry input f ∷ es) tables') (sym h.1)
       (advanced_kept x (subst (λ (f : List Transition). Made scheme Itl (entry input f ∷ es)) h.1 transitions_made)
-      (subst (λ (f : List Transition). tables'.outbox ≡ tables.outbox ++ Sends (messages_of f) ∷ []) h.1 sent) (subst IsAdvanced new_is h.5)
-      (subst (λ (e : LogEffect). Carried e x.moment tables tables') same (subst (λ m. Carried (Advance id new) m tables tables') (sym h.4) carried)))
-  moved_kept front (Cancel ids) moment transitions_made h known carried sent =
+      (subst IsAdvanced new_is h.5)
+      (subst (λ (e : TransferEffect). Carried e x.moment tables tables') same (subst (λ m. Carried (Advance id new) m tables tables') (sym h.4) carried)))
+  moved_kept front (Cancel ids) moment transitions_made h known carried =
       cancelled_kept front ids.items moment transitions_made h.0 (λ z i. all_in (IsCancelledAt moment) front z h.1 i)
       (λ t i. all_in (λ u. is_some (transfer_state_in tables u) ≡ true) ids.items t known i)
-      sent carried.allotments carried.orders carried.transfers carried.under_way carried.book carried.checked
+      carried.allotments carried.orders carried.transfers carried.under_way carried.book carried.checked
 
-pub kept_moved : (scheme : Scheme) (tables tables' : Tables) (input : Input) (xs : List Transition) (effect : LogEffect) (moment : ℕ) → IsKept scheme tables → verdict_by_rules scheme tables input ≡ IsRecorded xs → IsMessageOrCleanUp input
-    → IsEffect xs moment effect → IsOfKnown (transfer_state_in tables) effect → Carried effect moment tables tables' → tables'.journal.items ≡ tables.journal.items ++ input ∷ []
-    → tables'.outbox ≡ tables.outbox ++ Sends (messages_of xs) ∷ [] → IsKept scheme tables'
-kept_moved scheme tables tables' input xs effect moment kept enters given h known carried journal sent =
-    let es = history scheme Itl tables.journal.items in
-    kept_recorded scheme tables tables' input xs kept enters journal
-    (moved_kept scheme es tables tables' kept.kept input (as_moves input given) xs effect moment (sym (ap transitions_made enters), made_history scheme Itl tables.journal.items) h known carried sent)
+pub kept_moved : (scheme : Scheme) (tables tables' : Tables) (input : Input) (xs : List Transition) (effect : TransferEffect) (moment : ℕ) → IsKept scheme tables → verdict_by_rules scheme tables input ≡ IsRecorded xs → IsMessageOrCleanUp input
+    → IsEffect xs moment effect → IsOfKnown (transfer_state_in tables) effect → Carried effect moment tables tables' → tables'.records.inputs ≡ tables.records.inputs ++ input ∷ [] → AreKept scheme (history scheme Itl tables'.records.inputs) tables'
+kept_moved scheme tables tables' input xs effect moment kept enters given h known carried journal =
+    let es = history scheme Itl tables.records.inputs in
+    kept_recorded scheme tables tables' input xs enters journal
+    (moved_kept scheme es tables tables' kept.kept input (as_moves input given) xs effect moment (sym (ap transitions_made enters), made_history scheme Itl tables.records.inputs) h known carried)

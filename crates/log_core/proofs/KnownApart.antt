@@ -31,8 +31,8 @@ use Rattle.log_core.specs.Kept.{IsKept}
 use Rattle.log_core.specs.Readings.{of_transition}
 use Rattle.log_core.specs.Taking.{verdict_by_rules}
 use Rattle.log_core.specs.Transfers.{AreApart}
-use Rattle.log_core.specs.declared.effect.LogEffect.{LogEffect}
-use Rattle.log_core.specs.declared.effect.LogEffect.TheVariants.{Begin, Cancel, Advance}
+use Rattle.log_core.specs.declared.effect.TransferEffect.{TransferEffect}
+use Rattle.log_core.specs.declared.effect.TransferEffect.TheVariants.{Begin, Cancel, Advance}
 use Rattle.log_core.specs.declared.tables.Tables.{Tables}
 use Rattle.log_core.proofs.KeptUnits.{entry}
 use Rattle.log_core.proofs.KnownEffects.{advanced_known, advanced_unchecked}
@@ -74,10 +74,10 @@ module _ (scheme : Scheme) where
 
 module _ (scheme : Scheme) (tables : Tables) (input : Input) (xs : List Transition) (moment : ℕ) (enters : verdict_by_rules scheme tables input ≡ IsRecorded xs) where
   abbrev past : List Entry
-  past = history scheme Itl tables.journal.items
+  past = history scheme Itl tables.records.inputs
 
   made_so : Made scheme Itl (entry input xs ∷ past)
-  made_so = (sym (ap transitions_made enters), made_history scheme Itl tables.journal.items)
+  made_so = (sym (ap transitions_made enters), made_history scheme Itl tables.records.inputs)
 
   -- a transfer that begins Checked
   pub begin_apart : (id : TransactionId) (new : Status) (k : Content) (blocks : List Block) → IsEffect xs moment (Begin id new (Some k)) → new ≡ Checked → raws blocks ≡ k.units → AllApart blocks
@@ -102,7 +102,7 @@ module _ (scheme : Scheme) (tables : Tables) (input : Input) (xs : List Transiti
       apart_repeats blocks (ap (λ us. repeats (pieces us)) units ∙ fine)
 
   -- of each effect
-  pub apart_so : (effect : LogEffect) → IsKept scheme tables → IsEffect xs moment effect → AreApart (transfer_state_in tables) effect
+  pub apart_so : (effect : TransferEffect) → IsKept scheme tables → IsEffect xs moment effect → AreApart (transfer_state_in tables) effect
   apart_so (Begin id new content) kept h = λ stands k blocks known units. begin_apart id new k blocks (begins id new content k known h) (status_of_same new Checked stands) units
     where
       begins : (id : TransactionId) (new : Status) (content : Option Content) (k : Content) → content ≡ Some k → IsEffect xs moment (Begin id new content) → IsEffect xs moment (Begin id new (Some k))

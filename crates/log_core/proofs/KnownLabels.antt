@@ -26,15 +26,15 @@ module _ (scheme : Scheme) (tables : Tables) (kept : IsKept scheme tables) where
   -- a unit that is under way is one of its transfer's
   pub labelled_so : AreLabelled tables.transfers tables.register.under_way
   labelled_so s u h =
-      let es = history scheme Itl tables.journal.items in
-      let b = under_way_busy scheme es (made_history scheme Itl tables.journal.items) s u (sym (kept.kept.under_way s) ∙ h) in
+      let es = history scheme Itl tables.records.inputs in
+      let b = under_way_busy scheme es (made_history scheme Itl tables.records.inputs) s u (sym (kept.kept.under_way s) ∙ h) in
       let content : transfer_state_content (transfer_state_in tables u.id) ≡ b.last.content = ap transfer_state_content (kept.kept.transfers u.id ∙ ap (option_map of_transition) b.is) in
       subst (λ k. has_serial k s ≡ true) (sym content) b.has
 
   -- the set has a transaction at a moment exactly where it stands Checked since then
   pub waiting_so : AreWaiting tables.transfers tables.checked
   waiting_so w =
-      let xs = transitions_of (history scheme Itl tables.journal.items) in
+      let xs = transitions_of (history scheme Itl tables.records.inputs) in
       kept.kept.checked w
       ∙ checked_transfer_state w.since.seconds (newest xs w.id)
       ∙ ap (stands_checked_since w.since.seconds) (sym (kept.kept.transfers w.id))

@@ -102,14 +102,14 @@ owner_read : (o : Option Code) → o ≡ option_map (λ (w : BookEntry). w.regis
 owner_read None = refl
 owner_read (Some c) = refl
 
-pub registers_so : (scheme : Scheme) (tables : Tables) → IsKept scheme tables → Registers scheme tables.register (ledger scheme (history scheme Itl tables.journal.items))
+pub registers_so : (scheme : Scheme) (tables : Tables) → IsKept scheme tables → Registers scheme tables.register (ledger scheme (history scheme Itl tables.records.inputs))
 registers_so scheme tables kept =
-    let es = history scheme Itl tables.journal.items in
+    let es = history scheme Itl tables.records.inputs in
     let xs = transitions_of es in
     record {
       allotments = kept.kept.allotments;
       owner = λ s. owner_read (book_owner scheme xs s) ∙ ap (option_map (λ (w : BookEntry). w.registry)) (sym (kept.kept.book s));
-      owned = λ s. owned_so scheme s es (made_history scheme Itl tables.journal.items);
+      owned = λ s. owned_so scheme s es (made_history scheme Itl tables.records.inputs);
       is_busy = λ s. any_found (is_under_way_with xs s) (λ (x : Transition). record { id = x.id }) xs ∙ ap is_some (sym (kept.kept.under_way s));
       is_eligible = λ c. eligible_so scheme es c ∙ ap (λ o. unwrap_or o (starts_eligible scheme c)) (sym (kept.kept.orders c));
     }

@@ -7,6 +7,7 @@ pub mod KeptUnits
 pub mod KeptByMoves
 pub mod KnownRegisters
 pub mod KeptByOrders
+pub mod TakenAcknowledgements
 pub mod CleanedInOrder
 pub mod CleanedUp
 pub mod KnownApart
@@ -16,7 +17,6 @@ pub mod CancelledTransactions
 pub mod CleanedIds
 pub mod CleanedVerdicts
 pub mod TakenInputs
-pub mod AcknowledgedKeys
 pub mod EligibleRegistries
 pub mod CarriedEffects
 pub mod FirstCauses

@@ -21,9 +21,11 @@ use Rattle.wire.specs.declared.input.Input.{Input}
 use Rattle.scheme.specs.declared.members.Holder.{Holder}
 use Rattle.scheme.specs.declared.registries.Scheme.{Scheme}
 use Rattle.checks.specs.declared.register.BookEntry.{BookEntry}
-use Rattle.protocol.specs.Cores.{Replays}
+use Rattle.records.specs.Records.{RecordsView}
+use Rattle.protocol.specs.Cores.{AreRecordsOf}
 use Rattle.protocol.specs.Registries.{allotted}
 use Rattle.protocol.specs.Verdict.{history}
+use Rattle.protocol.proofs.TakenIntoRecords.{no_records}
 use Rattle.log_core.specs.Kept.{AreKept, IsKept, waiting_cmp}
 use Rattle.log_core.specs.Readings.{of_transfer, owner, owner_of}
 use Rattle.log_core.specs.declared.tables.Tables.{Tables}
@@ -51,19 +53,15 @@ owners_so scheme holders book starts owned s = owned s ∙ ap (option_map owner_
 
 -- ---- the tables
 
-no_records : (scheme : Scheme) → Replays scheme Itl []
-no_records scheme k input h = absurd (cc (h))
-
 module _ (scheme : Scheme) (tables : Tables) where
   pub record AreOpening : Type 0 where
-    pub journal : tables.journal.items ≡ []
+    pub records : tables.records ≡ record { inputs = []; sent = [] }
     pub allotments : (s : Serial) → map.get tables.register.allotments s ≡ allotted scheme s
     pub book : (s : Serial) → map.get tables.register.book s ≡ owner scheme [] s
     pub under_way : tables.register.under_way ≡ map.empty
     pub orders : tree.IsEmpty tables.register.orders
     pub transfers : tree.IsEmpty tables.transfers
     pub checked : IsEmpty tables.checked
-    pub outbox : tables.outbox ≡ []
 
   opening_kept : AreOpening → AreKept scheme [] tables
   opening_kept h =
@@ -74,12 +72,11 @@ module _ (scheme : Scheme) (tables : Tables) where
         orders = λ c. ap (lookup (λ k. is_eq (code_cmp c k))) h.orders;
         transfers = λ t. ap (λ es. option_map of_transfer (lookup (λ k. is_eq (id_cmp t k)) es)) h.transfers;
         checked = λ w. ap (list_any (is_at (waiting_cmp w))) h.checked;
-        sent = h.outbox;
       }
 
   pub kept_opening : AreOpening → IsKept scheme tables
   kept_opening h =
       record {
-        replays = subst (λ (j : List Input). Replays scheme Itl j) (sym h.journal) (no_records scheme);
-        kept = subst (λ (j : List Input). AreKept scheme (history scheme Itl j) tables) (sym h.journal) (opening_kept h);
+        records = subst (λ (q : RecordsView). AreRecordsOf scheme Itl q.inputs q) (sym h.records) (no_records scheme Itl);
+        kept = subst (λ (q : RecordsView). AreKept scheme (history scheme Itl q.inputs) tables) (sym h.records) (opening_kept h);
       }

@@ -1,102 +1,88 @@
 -- What tables have done with an input: nothing, where it is refused or was acted on before, or one record more.
-use Rattle.std.proofs.Common.{◌≡◌, ◌⊎◌, ◌++◌, ◌∷◌, [], ℕ, List, length, true, false, cond, Ok, Err, inl, inr, refl, sym, ap, subst, ◌∙◌}
+use Rattle.std.proofs.Common.{◌≡◌, ◌++◌, ◌∷◌, [], ℕ, List, length, Ok, Err, inr, refl, sym, ap, subst, ◌∙◌}
+use Rattle.std.specs.BTreeMap as tree
 use Rattle.std.specs.FinMap as map
-use Rattle.std.specs.Prelude.{Result, nat_le, option_map}
+use Rattle.std.specs.BTreeSet.{contains}
+use Rattle.std.specs.Prelude.{Result}
 use Rattle.std.specs.Result.{IsErrAnd}
-use Rattle.units.specs.RefusalCodes.{out_of_memory, journal_full, no_row}
+use Rattle.units.specs.Keys.{code_cmp}
+use Rattle.units.specs.RefusalCodes.{no_row}
 use Rattle.units.specs.declared.code.Node.TheVariants.{Itl}
 use Rattle.units.specs.declared.refusal.Refusal.{Refusal}
 use Rattle.wire.specs.declared.input.Input.{Input}
 use Rattle.wire.specs.declared.input.Input.TheVariants.{Propose, Request, OpenAccount, CloseAccount}
 use Rattle.scheme.specs.declared.registries.Scheme.{Scheme}
-use Rattle.protocol.proofs.Histories.{length_history}
-use Rattle.protocol.specs.Cores.{Replays, answer_of}
-use Rattle.protocol.specs.Deciding.{IsRecorded, IsLate, IsRefused, IsRepeat, recorded_if_room}
-use Rattle.protocol.specs.History.{Transition, Entry, newest, transitions_of}
+use Rattle.records.specs.Records.{RecordsView}
 use Rattle.protocol.specs.AtLog.{log_verdict}
+use Rattle.protocol.specs.Deciding.{IsLate, IsRefused, IsRepeat}
+use Rattle.protocol.specs.History.{Entry}
+use Rattle.protocol.specs.Taking.{TakesInto}
 use Rattle.protocol.specs.Verdict.{history, verdict}
 use Rattle.protocol.specs.declared.node_core.Stepped.{Stepped}
 use Rattle.protocol.specs.declared.node_core.Stepped.TheVariants as stepped
-use Rattle.outbox.specs.Outgoing.{outgoing}
-use Rattle.log_core.specs.Kept.{IsKept}
-use Rattle.log_core.specs.Readings.{is_checked_since, last_order, of_transition, owner, under_way}
+use Rattle.protocol.proofs.TakenIntoRecords as records
+use Rattle.log_core.specs.Kept.{AreKept, IsKept, waiting_cmp}
 use Rattle.log_core.specs.Taking.{Takes, verdict_by_rules}
-use Rattle.log_core.specs.Transfers.{AreSame}
+use Rattle.log_core.specs.Transfers.{AreSame, transfer_state_of}
 use Rattle.log_core.specs.declared.tables.Tables.{Tables}
 
 pub are_same : (tables : Tables) → AreSame tables tables
-are_same tables = record { journal = refl; allotments = refl; book = refl; under_way = refl; orders = λ c. refl; transfers = λ t. refl; checked = λ w. refl; outbox = refl }
+are_same tables = record { scheme = refl; records = refl; allotments = refl; book = refl; under_way = refl; orders = λ c. refl; transfers = λ t. refl; checked = λ w. refl }
 
-pub verdict_so : (scheme : Scheme) (tables : Tables) (input : Input) → verdict_by_rules scheme tables input ≡ log_verdict scheme (history scheme Itl tables.journal.items) input
+pub verdict_so : (scheme : Scheme) (tables : Tables) (input : Input) → verdict_by_rules scheme tables input ≡ log_verdict scheme (history scheme Itl tables.records.inputs) input
 unfolding verdict
 verdict_so scheme tables input = refl
 
 module _ (scheme : Scheme) where
-  abbrev past : List Input → List Entry
-  past journal = history scheme Itl journal
-
-  pub same_kept : (tables tables' : Tables) → AreSame tables tables' → IsKept scheme tables → IsKept scheme tables'
-  same_kept tables tables' same h =
-      let k = h.kept in
-      let j = sym same.journal in
-      record {
-        replays = subst (λ (js : List Input). Replays scheme Itl js) j h.replays;
-        kept = record {
-          allotments = λ s. ap (λ x. map.get x s) same.allotments ∙ k.allotments s;
-          book = λ s. ap (λ x. map.get x s) same.book ∙ k.book s ∙ ap (λ js. owner scheme (transitions_of (past js)) s) j;
-          under_way = λ s. ap (λ x. map.get x s) same.under_way ∙ k.under_way s ∙ ap (λ js. under_way (transitions_of (past js)) s) j;
-          orders = λ c. same.orders c ∙ k.orders c ∙ ap (λ js. last_order (past js) c) j;
-          transfers = λ t. same.transfers t ∙ k.transfers t ∙ ap (λ js. option_map of_transition (newest (transitions_of (past js)) t)) j;
-          checked = λ w. same.checked w ∙ k.checked w ∙ ap (λ js. is_checked_since (transitions_of (past js)) w.since.seconds w.id) j;
-          sent = same.outbox ∙ k.sent ∙ ap (λ js. outgoing (past js)) j;
-        };
-      }
-
-  -- why an input may be given up
   abbrev pub GivenUp : Tables → Input → ℕ → Type 0
-  GivenUp tables input code = (code ≡ out_of_memory) ⊎ (verdict_by_rules scheme tables input ≡ IsRefused code)
+  GivenUp tables input code = records.GivenUp scheme Itl tables.records.inputs input code
+
+  -- the tables say as much of the same journal
+  kept_same : (tables tables' : Tables) → IsKept scheme tables → AreSame tables tables' → AreKept scheme (history scheme Itl tables'.records.inputs) tables'
+  kept_same tables tables' h same =
+      let k = h.kept in
+      subst (λ (q : RecordsView). AreKept scheme (history scheme Itl q.inputs) tables') (sym same.records)
+      (record {
+        allotments = λ s. ap (λ x. map.get x s) same.allotments ∙ k.allotments s;
+        book = λ s. ap (λ x. map.get x s) same.book ∙ k.book s;
+        under_way = λ s. ap (λ x. map.get x s) same.under_way ∙ k.under_way s;
+        orders = λ c. same.orders c ∙ k.orders c;
+        transfers = λ t. same.transfers t ∙ k.transfers t;
+        checked = λ w. same.checked w ∙ k.checked w;
+      })
+
+  -- the same of the same tables
+  pub kept_unchanged : (tables tables' : Tables) → IsKept scheme tables → tables'.records.inputs ≡ tables.records.inputs → tables'.register ≡ tables.register → tables'.transfers ≡ tables.transfers → tables'.checked ≡ tables.checked
+      → AreKept scheme (history scheme Itl tables'.records.inputs) tables'
+  kept_unchanged tables tables' h inputs register transfers checked =
+      let k = h.kept in
+      subst (λ js. AreKept scheme (history scheme Itl js) tables') (sym inputs)
+      (record {
+        allotments = λ s. ap (λ r. map.get r.allotments s) register ∙ k.allotments s;
+        book = λ s. ap (λ r. map.get r.book s) register ∙ k.book s;
+        under_way = λ s. ap (λ r. map.get r.under_way s) register ∙ k.under_way s;
+        orders = λ c. ap (λ r. tree.get code_cmp r.orders c) register ∙ k.orders c;
+        transfers = λ t. ap (λ m. transfer_state_of m t) transfers ∙ k.transfers t;
+        checked = λ w. ap (λ c. contains waiting_cmp c w) checked ∙ k.checked w;
+      })
+
+  -- nothing has changed
+  takes_same : (tables tables' : Tables) (input : Input) (result : Result Stepped Refusal) → IsKept scheme tables → AreSame tables tables' → TakesInto scheme Itl tables.records tables'.records input result → Takes scheme tables tables' input result
+  takes_same tables tables' input result h same taken = record { taken = taken; kept = kept_same tables tables' h same; scheme_is = same.scheme }
 
   pub takes_refused : (tables tables' : Tables) (input : Input) (r : Refusal) → IsKept scheme tables → AreSame tables tables' → GivenUp tables input r.code → Takes scheme tables tables' input (Err r)
-  takes_refused tables tables' input r h same why =
-      record {
-        answer_is = elim why [
-          | inl memory ↦ inr (ap (λ n. Err (record { code = n })) memory)
-          | inr refused ↦ inl (ap (answer_of (length tables.journal.items)) (sym refused))
-        ];
-        journal_is = same.journal;
-        kept = same_kept tables tables' same h;
-      }
+  takes_refused tables tables' input r h same why = takes_same tables tables' input (Err r) h same (records.refused_into scheme Itl tables.records tables'.records input r h.records same.records why)
 
   -- as `?` gives an error on
   pub takes_err : (tables tables' : Tables) (input : Input) (result : Result Stepped Refusal) (P : Refusal → Type 0) → IsKept scheme tables → AreSame tables tables' → IsErrAnd result P → ((r : Refusal) → P r → GivenUp tables input r.code)
       → Takes scheme tables tables' input result
-  takes_err tables tables' input (Ok x) P h same e why = absurd e
-  takes_err tables tables' input (Err r) P h same e why = takes_refused tables tables' input r h same (why r e)
+  takes_err tables tables' input result P h same e why = takes_same tables tables' input result h same (records.err_into scheme Itl tables.records tables'.records input result P h.records same.records e why)
 
   pub takes_repeat : (tables : Tables) (input : Input) → IsKept scheme tables → verdict_by_rules scheme tables input ≡ IsRepeat → Takes scheme tables tables input (Ok stepped.Repeat)
-  takes_repeat tables input h is = record { answer_is = inl (ap (answer_of (length tables.journal.items)) (sym is)); journal_is = refl; kept = h }
+  takes_repeat tables input h is = takes_same tables tables input (Ok stepped.Repeat) h (are_same tables) (records.repeat_into scheme Itl tables.records input h.records is)
 
   pub takes_late : (tables : Tables) (input : Input) → IsKept scheme tables → verdict_by_rules scheme tables input ≡ IsLate → Takes scheme tables tables input (Ok stepped.Late)
-  takes_late tables input h is = record { answer_is = inl (ap (answer_of (length tables.journal.items)) (sym is)); journal_is = refl; kept = h }
-
-  pub takes_recorded : (tables tables' : Tables) (input : Input) (xs : List Transition) (place : ℕ) → verdict_by_rules scheme tables input ≡ IsRecorded xs → place ≡ length tables.journal.items → tables'.journal.items ≡ tables.journal.items ++ input ∷ [] → IsKept scheme tables'
-      → Takes scheme tables tables' input (Ok (stepped.Recorded place))
-  takes_recorded tables tables' input xs place is at more h =
-      record { answer_is = inl (ap (λ n. Ok (stepped.Recorded n)) at ∙ ap (answer_of (length tables.journal.items)) (sym is)); journal_is = more; kept = h }
-
-  -- ---- room in the journal
-
-  full_refuses : (tables : Tables) (input : Input) (xs : List Transition) → verdict_by_rules scheme tables input ≡ recorded_if_room scheme (past tables.journal.items) xs → nat_le scheme.records (length tables.journal.items) ≡ true → verdict_by_rules scheme tables input ≡ IsRefused journal_full
-  full_refuses tables input xs is full = is ∙ ap (λ n. cond (nat_le scheme.records n) (IsRefused journal_full) (IsRecorded xs)) (length_history scheme Itl tables.journal.items) ∙ ap (λ b. cond b (IsRefused journal_full) (IsRecorded xs)) full
-
-  pub room_enters : (tables : Tables) (input : Input) (xs : List Transition) → verdict_by_rules scheme tables input ≡ recorded_if_room scheme (past tables.journal.items) xs → nat_le scheme.records (length tables.journal.items) ≡ false → verdict_by_rules scheme tables input ≡ IsRecorded xs
-  room_enters tables input xs is room = is ∙ ap (λ n. cond (nat_le scheme.records n) (IsRefused journal_full) (IsRecorded xs)) (length_history scheme Itl tables.journal.items) ∙ ap (λ b. cond b (IsRefused journal_full) (IsRecorded xs)) room
-
-  -- a copy of the input is refused where the journal is full or memory ran out
-  pub unfitting : (tables : Tables) (input : Input) (xs : List Transition) (code : ℕ) → verdict_by_rules scheme tables input ≡ recorded_if_room scheme (past tables.journal.items) xs
-      → (code ≡ out_of_memory) ⊎ ((code ≡ journal_full) × (nat_le scheme.records (length tables.journal.items) ≡ true)) → GivenUp tables input code
-  unfitting tables input xs code is (inl memory) = inl memory
-  unfitting tables input xs code is (inr full) = inr (full_refuses tables input xs is full.1 ∙ ap (λ n. IsRefused n) (sym full.0))
+  takes_late tables input h is = takes_same tables tables input (Ok stepped.Late) h (are_same tables) (records.late_into scheme Itl tables.records input h.records is)
 
   -- ---- orders of registries
 

@@ -10,11 +10,10 @@ use Rattle.units.specs.declared.code.Node.TheVariants.{Itl}
 use Rattle.status.specs.Id.{id_cmp}
 use Rattle.status.specs.declared.id.TransactionId.{TransactionId}
 use Rattle.scheme.specs.declared.registries.Scheme.{Scheme}
-use Rattle.protocol.specs.Cores.{Replays}
+use Rattle.protocol.specs.Cores.{AreRecordsOf}
 use Rattle.protocol.specs.History.{Entry, transitions_of, newest}
 use Rattle.protocol.specs.Registries.{allotted}
 use Rattle.protocol.specs.Verdict.{history}
-use Rattle.outbox.specs.Outgoing.{outgoing}
 use Rattle.log_core.specs.Readings.{of_transition, of_transfer, is_checked_since, under_way, owner, last_order}
 use Rattle.log_core.specs.contracts.waiting.WaitingOrd.TheImpl.{cmp-value as waiting-order}
 use Rattle.log_core.specs.declared.tables.Tables.{Tables}
@@ -33,9 +32,8 @@ pub record AreKept (scheme : Scheme) (es : List Entry) (tables : Tables) : Type 
   pub orders : (c : Code) → tree.get code_cmp tables.register.orders c ≡ last_order es c
   pub transfers : (t : TransactionId) → option_map of_transfer (tree.get id_cmp tables.transfers t) ≡ option_map of_transition (newest (transitions_of es) t)
   pub checked : (w : Waiting) → contains waiting_cmp tables.checked w ≡ is_checked_since (transitions_of es) w.since.seconds w.id
-  pub sent : tables.outbox ≡ outgoing es
 
--- of the journal's history, each of whose records was recorded
+-- of the history of its records
 pub record IsKept (scheme : Scheme) (tables : Tables) : Type 0 where
-  pub replays : Replays scheme Itl tables.journal.items
-  pub kept : AreKept scheme (history scheme Itl tables.journal.items) tables
+  pub records : AreRecordsOf scheme Itl tables.records.inputs tables.records
+  pub kept : AreKept scheme (history scheme Itl tables.records.inputs) tables

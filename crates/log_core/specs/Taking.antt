@@ -5,16 +5,16 @@ use Rattle.units.specs.declared.refusal.Refusal.{Refusal}
 use Rattle.wire.specs.declared.input.Input.{Input}
 use Rattle.wire.specs.declared.input.Input.TheVariants.{CleanUp, Received}
 use Rattle.scheme.specs.declared.registries.Scheme.{Scheme}
-use Rattle.protocol.specs.Cores.{IsExpectedOrNoMemory, after, answer}
 use Rattle.protocol.specs.Deciding.{Verdict}
+use Rattle.protocol.specs.Taking.{TakesInto}
 use Rattle.protocol.specs.Verdict.{verdict, history}
 use Rattle.protocol.specs.declared.node_core.Stepped.{Stepped}
-use Rattle.log_core.specs.Kept.{IsKept}
+use Rattle.log_core.specs.Kept.{AreKept}
 use Rattle.log_core.specs.declared.tables.Tables.{Tables}
 
 -- the verdict on the input after the tables' journal
 abbrev pub verdict_by_rules : Scheme → Tables → Input → Verdict
-verdict_by_rules scheme tables input = verdict scheme Itl (history scheme Itl tables.journal.items) input
+verdict_by_rules scheme tables input = verdict scheme Itl (history scheme Itl tables.records.inputs) input
 
 -- an input that may make transitions: an acknowledgement and an order on eligibility make none, and each other one is
 -- refused
@@ -23,8 +23,8 @@ IsMessageOrCleanUp (Received m moment) = Unit {0}
 IsMessageOrCleanUp (CleanUp moment) = Unit {0}
 IsMessageOrCleanUp _ = ⊥
 
--- the result is the expected one, the journal has the input where it was recorded, and the tables follow the journal
+-- the records take the input, and the tables follow them
 pub record Takes (scheme : Scheme) (tables tables' : Tables) (input : Input) (result : Result Stepped Refusal) : Type 0 where
-  pub answer_is : IsExpectedOrNoMemory result (answer scheme Itl tables.journal.items input)
-  pub journal_is : tables'.journal.items ≡ after tables.journal.items input result
-  pub kept : IsKept scheme tables'
+  pub taken : TakesInto scheme Itl tables.records tables'.records input result
+  pub kept : AreKept scheme (history scheme Itl tables'.records.inputs) tables'
+  pub scheme_is : tables'.scheme ≡ tables.scheme

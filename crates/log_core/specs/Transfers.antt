@@ -26,7 +26,9 @@ use Rattle.log_core.specs.Effects.{transfer_state_content, transfer_state_in}
 use Rattle.log_core.specs.Kept.{waiting_cmp}
 use Rattle.log_core.specs.Readings.{TransferState, of_transfer}
 use Rattle.log_core.specs.declared.effect.LogEffect.{LogEffect}
-use Rattle.log_core.specs.declared.effect.LogEffect.TheVariants.{Begin, Advance, Cancel}
+use Rattle.log_core.specs.declared.effect.LogEffect.TheVariants.{Transfers, Eligible}
+use Rattle.log_core.specs.declared.effect.TransferEffect.{TransferEffect}
+use Rattle.log_core.specs.declared.effect.TransferEffect.TheVariants.{Begin, Advance, Cancel}
 use Rattle.log_core.specs.declared.tables.Tables.{Tables}
 use Rattle.log_core.specs.declared.transfer.LoggedTransfer.{LoggedTransfer}
 use Rattle.log_core.specs.declared.waiting.Waiting.{Waiting}
@@ -62,13 +64,18 @@ AreLabelled transfers under_way = (s : Serial) (u : UnderWay) → finite.get und
 -- ---- what an effect may be carried out on
 
 -- a transaction that begins wasn't known, and those that are cancelled were
-abbrev pub IsOfKnown : (TransactionId → Option TransferState) → LogEffect → Type 0
+abbrev pub IsOfKnown : (TransactionId → Option TransferState) → TransferEffect → Type 0
 IsOfKnown old (Begin id new content) = old id ≡ None
 IsOfKnown old (Advance id new) = Unit {0}
 IsOfKnown old (Cancel ids) = AllByRecursion (λ t. is_some (old t) ≡ true) ids.items
 
+-- what the log knows allows the effect
+abbrev pub IsAllowed : (TransactionId → Option TransferState) → LogEffect → Type 0
+IsAllowed old (Transfers effect moment) = IsOfKnown old effect
+IsAllowed old (Eligible registry may) = Unit {0}
+
 -- what takes a transaction back: one that is known is cancelled, and one that isn't begins Cancelled without a content
-abbrev pub IsWithdrawal : TransactionId → Option TransferState → LogEffect → Type 0
+abbrev pub IsWithdrawal : TransactionId → Option TransferState → TransferEffect → Type 0
 IsWithdrawal t None effect = effect ≡ Begin t Cancelled None
 IsWithdrawal t (Some x) (Cancel ids) = ids.items ≡ t ∷ []
 IsWithdrawal t (Some x) _ = ⊥
@@ -78,18 +85,23 @@ abbrev pub IsApart : Option Content → Type 0
 IsApart content = (k : Content) (blocks : List Block) → content ≡ Some k → raws blocks ≡ k.units → AllApart blocks
 
 -- units that come under way, or that are handed over, are each in one block
-abbrev pub AreApart : (TransactionId → Option TransferState) → LogEffect → Type 0
+abbrev pub AreApart : (TransactionId → Option TransferState) → TransferEffect → Type 0
 AreApart old (Begin id new content) = same_status new Checked ≡ true → IsApart content
 AreApart old (Advance id new) = (same_status new Checked ≡ false) × (same_status new Completed ≡ true → IsApart (transfer_state_content (old id)))
 AreApart old (Cancel ids) = Unit {0}
 
+-- what an effect may be carried out on
+abbrev pub MayCarry : (TransactionId → Option TransferState) → LogEffect → Type 0
+MayCarry old (Transfers effect moment) = IsOfKnown old effect × AreApart old effect
+MayCarry old (Eligible registry may) = Unit {0}
+
 -- tables that say the same
 pub record AreSame (tables tables' : Tables) : Type 0 where
-  pub journal : tables'.journal.items ≡ tables.journal.items
+  pub scheme : tables'.scheme ≡ tables.scheme
+  pub records : tables'.records ≡ tables.records
   pub allotments : tables'.register.allotments ≡ tables.register.allotments
   pub book : tables'.register.book ≡ tables.register.book
   pub under_way : tables'.register.under_way ≡ tables.register.under_way
   pub orders : (c : Code) → tree.get code_cmp tables'.register.orders c ≡ tree.get code_cmp tables.register.orders c
   pub transfers : (t : TransactionId) → transfer_state_in tables' t ≡ transfer_state_in tables t
   pub checked : (w : Waiting) → contains waiting_cmp tables'.checked w ≡ contains waiting_cmp tables.checked w
-  pub outbox : tables'.outbox ≡ tables.outbox

@@ -13,14 +13,13 @@ ghost use Rattle.log_core.specs.Kept.{IsKept, waiting_cmp};
 ghost use Rattle.log_core.specs.Taking.{Takes};
 ghost use Rattle.log_core.specs.Transfers.{transfer_state_of};
 
-use crate::effect::LogEffect;
+use crate::effect::{LogEffect, TransferEffect};
 use crate::messages::push_cancelled;
 use crate::tables::Tables;
 use crate::transfer::LoggedTransfer;
 use crate::transfers::content;
 use crate::waiting::Waiting;
 use protocol::Stepped;
-use scheme::Scheme;
 use status::{Moment, TransactionId};
 use std::alloc::Global;
 use std::collections::{BTreeMap, BTreeSet};
@@ -82,22 +81,17 @@ fn cancellations(
 
 impl Tables {
     /// Takes a clean-up of that moment: one record for all transactions that have expired, and a repeat where none is.
-    pub(crate) fn clean_up(
-        &mut self,
-        alloc: Global,
-        scheme: &Scheme,
-        input: &Input,
-        moment: Moment,
-    ) -> Result<Stepped, Refusal>
-        requires kept { IsKept scheme.now self.old }
+    pub(crate) fn clean_up(&mut self, input: &Input, moment: Moment) -> Result<Stepped, Refusal>
+        requires kept { IsKept self.old.scheme self.old }
         requires input { input.now ≡ inputs.CleanUp moment }
-        ensures { Takes scheme.now self.old self.new input.now result }
+        ensures { Takes self.old.scheme self.old self.new input.now result }
     {
-        let ids = expired(alloc, &self.checked, moment)?;
+        let ids = expired(self.alloc, &self.checked, moment)?;
         if ids.is_empty() {
             return Ok(Stepped::Repeat);
         }
-        let messages = cancellations(alloc, &self.transfers, ids.as_slice())?;
-        self.record(scheme, input, LogEffect::Cancel(ids), moment, messages)
+        let messages = cancellations(self.alloc, &self.transfers, ids.as_slice())?;
+        let effect = TransferEffect::Cancel(ids);
+        self.record(input, LogEffect::Transfers { effect, moment }, messages)
     }
 }

@@ -18,9 +18,7 @@ use crate::tables::Tables;
 use crate::transfers::{content, known};
 use checks::log_findings;
 use protocol::Decision;
-use scheme::Scheme;
 use status::{Content, Role, Row, RowInput, TransactionId, row};
-use std::alloc::Global;
 use units::refusal_code::NO_ROW;
 use units::{Items, Refusal};
 use wire::{LogCodes, NotifiedStatus};
@@ -51,13 +49,11 @@ impl Tables {
     /// where the table has no such row, and with `OUT_OF_MEMORY`.
     pub(crate) fn on_proposal(
         &self,
-        alloc: Global,
-        scheme: &Scheme,
         id: TransactionId,
         proposed: &Content,
     ) -> Result<Decision, Refusal>
-        ensures { (known_so : Ledger) (found : List ℕ) → Registers scheme.now self.now.register known_so
-            → found ≡ log_findings scheme.now known_so id.code proposed.now
+        ensures { (known_so : Ledger) (found : List ℕ) → Registers self.now.scheme self.now.register known_so
+            → found ≡ log_findings self.now.scheme known_so id.code proposed.now
             → IsExpectedOrNoMemory result
             (decided (log_row (known_transfer_state (transfer_state_in self.now id))
             (column_of_proposal (transfer_state_content (transfer_state_in self.now id)) found))
@@ -65,16 +61,16 @@ impl Tables {
             (column_of_proposal (transfer_state_content (transfer_state_in self.now id)) found))) }
     {
         if content(&self.transfers, id).is_some() {
-            return self.on_equal_proposal(alloc, id);
+            return self.on_equal_proposal(id);
         }
-        let found = log_findings(alloc, scheme, &self.register, id.code, proposed)?;
+        let found = log_findings(self.alloc, &self.scheme, &self.register, id.code, proposed)?;
         match row(
             Role::Itl,
             known(&self.transfers, id),
             column_of_proposal(codes_in(&found)),
         ) {
             Row::Move(new) => {
-                let messages = on_proposal(alloc, id, proposed, found)?;
+                let messages = on_proposal(self.alloc, id, proposed, found)?;
                 Ok(Decision::Moves { new, messages })
             }
             Row::Repeat => Ok(Decision::Repeat),
@@ -84,7 +80,7 @@ impl Tables {
     }
 
     /// What the table says to a proposal equal to the one that is recorded.
-    fn on_equal_proposal(&self, alloc: Global, id: TransactionId) -> Result<Decision, Refusal>
+    fn on_equal_proposal(&self, id: TransactionId) -> Result<Decision, Refusal>
         ensures { result ≡ decided
             (log_row (known_transfer_state (transfer_state_in self.now id)) column.EqualProposal) [] }
     {
@@ -95,7 +91,7 @@ impl Tables {
         ) {
             Row::Move(new) => Ok(Decision::Moves {
                 new,
-                messages: Items::new(alloc),
+                messages: Items::new(self.alloc),
             }),
             Row::Repeat => Ok(Decision::Repeat),
             Row::Late => Ok(Decision::Late),
@@ -107,7 +103,6 @@ impl Tables {
     /// `OUT_OF_MEMORY`.
     pub(crate) fn on_notified(
         &self,
-        alloc: Global,
         id: TransactionId,
         notified: &NotifiedStatus,
     ) -> Result<Decision, Refusal>
@@ -123,7 +118,7 @@ impl Tables {
             RowInput::Notified(notified.status()),
         ) {
             Row::Move(new) => {
-                let messages = on_notified(alloc, id, content(&self.transfers, id), notified)?;
+                let messages = on_notified(self.alloc, id, content(&self.transfers, id), notified)?;
                 Ok(Decision::Moves { new, messages })
             }
             Row::Repeat => Ok(Decision::Repeat),
@@ -133,14 +128,14 @@ impl Tables {
     }
 
     /// What the table says to a request. Fails with `NO_ROW` where the table has no such row, and with `OUT_OF_MEMORY`.
-    pub(crate) fn on_request(&self, alloc: Global, id: TransactionId) -> Result<Decision, Refusal>
+    pub(crate) fn on_request(&self, id: TransactionId) -> Result<Decision, Refusal>
         ensures { IsExpectedOrNoMemory result
             (decided (log_row (known_transfer_state (transfer_state_in self.now id)) column.Request)
             (log_sends id (transfer_state_content (transfer_state_in self.now id)) [] column.Request)) }
     {
         match row(Role::Itl, known(&self.transfers, id), RowInput::Request) {
             Row::Move(new) => {
-                let messages = on_request(alloc, id, content(&self.transfers, id))?;
+                let messages = on_request(self.alloc, id, content(&self.transfers, id))?;
                 Ok(Decision::Moves { new, messages })
             }
             Row::Repeat => Ok(Decision::Repeat),

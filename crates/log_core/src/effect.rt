@@ -1,18 +1,19 @@
-//! What a record does to the log's transactions.
+//! What a record does to the log's tables.
 ghost use Rattle.std.specs.Prelude.{◌≡◌, IfErr, OnErr, OnOk};
 ghost use Rattle.units.specs.RefusalCodes.{out_of_memory};
-ghost use Rattle.log_core.specs.Effects.{Carried, transfer_state_in};
-ghost use Rattle.log_core.specs.Transfers.{AreApart, AreLabelled, AreSame, AreWaiting, IsOfKnown};
+ghost use Rattle.log_core.specs.Effects.{Carried, CarriedOut, transfer_state_in};
+ghost use Rattle.log_core.specs.Transfers.{AreApart, AreLabelled, AreSame, AreWaiting, IsOfKnown, MayCarry};
 
 use crate::moving::{advance, begin, cancel};
+use crate::registries::order;
 use crate::tables::Tables;
 use crate::transfer::LoggedTransfer;
 use status::{Content, Moment, Status, TransactionId};
-use units::Refusal;
+use units::{Code, Refusal};
 
 /// What a record does to the log's transactions.
 #[derive(Debug, Drop)]
-pub(crate) enum LogEffect {
+pub(crate) enum TransferEffect {
     /// A transaction that wasn't known has that status: Checked, and its units are under way, or Terminated, or
     /// Cancelled without a content.
     Begin {
@@ -29,24 +30,39 @@ pub(crate) enum LogEffect {
     Cancel(Vec<TransactionId>),
 }
 
+/// What a record does to the log's tables.
+#[derive(Debug, Drop)]
+pub(crate) enum LogEffect {
+    /// Transactions come to a status, at that moment.
+    Transfers {
+        effect: TransferEffect,
+        moment: Moment,
+    },
+    /// The registry may take part in transfers, or may not.
+    Eligible {
+        registry: Code,
+        may: bool,
+    },
+}
+
 impl Tables {
-    /// Carries the effect out, at that moment. After `OUT_OF_MEMORY`, with which alone it fails, the tables say what
-    /// they said.
-    pub(crate) fn carry_out(&mut self, effect: LogEffect, moment: Moment) -> Result<(), Refusal>
+    /// Moves transactions, at that moment. After `OUT_OF_MEMORY`, with which alone it fails, the tables say what they
+    /// said.
+    fn move_transfers(&mut self, effect: TransferEffect, moment: Moment) -> Result<(), Refusal>
         requires known { IsOfKnown (transfer_state_in self.old) effect }
         requires apart { AreApart (transfer_state_in self.old) effect }
         requires waiting { AreWaiting self.old.transfers self.old.checked }
         requires labelled { AreLabelled self.old.transfers self.old.register.under_way }
         ensures ok { OnOk result (Carried effect moment.seconds self.old self.new) }
-        ensures journal { self.new.journal ≡ self.old.journal }
-        ensures outbox { self.new.outbox ≡ self.old.outbox }
+        ensures scheme { self.new.scheme ≡ self.old.scheme }
+        ensures records { self.new.records ≡ self.old.records }
         ensures err { OnErr result (AreSame self.old self.new) }
         ensures refused { IfErr result (λ r. r.code ≡ out_of_memory) }
     {
         let under_way = &mut self.register.under_way;
         let (transfers, checked) = (&mut self.transfers, &mut self.checked);
         match effect {
-            LogEffect::Begin { id, new, content } => {
+            TransferEffect::Begin { id, new, content } => {
                 let transfer = LoggedTransfer {
                     status: new,
                     content,
@@ -54,12 +70,34 @@ impl Tables {
                 };
                 begin(under_way, transfers, checked, id, transfer)?;
             }
-            LogEffect::Advance { id, new } => {
+            TransferEffect::Advance { id, new } => {
                 let book = &mut self.register.book;
                 advance(book, under_way, transfers, checked, id, new, moment)?;
             }
-            LogEffect::Cancel(ids) => cancel(under_way, transfers, checked, ids.as_slice(), moment),
+            TransferEffect::Cancel(ids) => {
+                cancel(under_way, transfers, checked, ids.as_slice(), moment)
+            }
         }
         Ok(())
+    }
+
+    /// Carries the effect out. After `OUT_OF_MEMORY`, with which alone it fails, the tables say what they said.
+    pub(crate) fn carry_out(&mut self, effect: LogEffect) -> Result<(), Refusal>
+        requires may { MayCarry (transfer_state_in self.old) effect }
+        requires waiting { AreWaiting self.old.transfers self.old.checked }
+        requires labelled { AreLabelled self.old.transfers self.old.register.under_way }
+        ensures ok { OnOk result (CarriedOut effect self.old self.new) }
+        ensures scheme { self.new.scheme ≡ self.old.scheme }
+        ensures records { self.new.records ≡ self.old.records }
+        ensures err { OnErr result (AreSame self.old self.new) }
+        ensures refused { IfErr result (λ r. r.code ≡ out_of_memory) }
+    {
+        match effect {
+            LogEffect::Transfers { effect, moment } => self.move_transfers(effect, moment),
+            LogEffect::Eligible { registry, may } => {
+                order(&mut self.register.orders, registry, may)?;
+                Ok(())
+            }
+        }
     }
 }

@@ -14,20 +14,19 @@ use crate::tables::Tables;
 use crate::transfers::status;
 use checks::BookEntry;
 use protocol::{NodeCore, Stepped};
+use records::Records;
 use scheme::Scheme;
 use status::{Status, TransactionId};
 use std::alloc::Global;
 use std::collections::BTreeMap;
 use std::marker::Model;
 use units::{Code, NoMemory, Node, Refusal, Span, Unit};
-use wire::{Input, Message};
+use wire::Input;
 
 /// The log of a scheme: the journal of the inputs that it recorded, and beside it what the journal says of units and
 /// registries, of transactions, and of its messages. In contracts it is its scheme and its journal.
 #[derive(Debug, Drop)]
 pub struct LogCore {
-    alloc: Global,
-    scheme: Scheme,
     tables: Tables,
 }
 
@@ -41,9 +40,9 @@ impl Model for LogCore {
 
     ghost coded = { Prim.hlevel (codes, kept_scheme.the_row.coded) };
 
-    ghost view = { λ s. record { scheme = s.scheme; journal = s.tables.journal.items } };
+    ghost view = { λ s. record { scheme = s.tables.scheme; journal = s.tables.records.inputs } };
 
-    ghost invariant = { λ s. IsKept s.scheme s.tables };
+    ghost invariant = { λ s. IsKept s.tables.scheme s.tables };
 }
 
 impl LogCore {
@@ -51,11 +50,8 @@ impl LogCore {
     pub fn new(alloc: Global, scheme: &Scheme) -> Result<LogCore, NoMemory>
         ensures { IfOk result (λ l. l ≡ record { scheme = scheme.now; journal = [] }) }
     {
-        Ok(LogCore {
-            alloc,
-            scheme: scheme.copy(alloc)?,
-            tables: opening_tables(alloc, scheme)?,
-        })
+        let tables = opening_tables(alloc, scheme)?;
+        Ok(LogCore { tables })
     }
 
     /// The registry that owns the unit: the acquirer of the transfer with the unit that was Completed last, else the
@@ -113,8 +109,8 @@ impl NodeCore for LogCore {
         Node::Itl
     }
 
-    fn journal(&self) -> &[Input] {
-        self.tables.journal.as_slice()
+    fn recorded(&self) -> &Records {
+        &self.tables.records
     }
 
     /// As `NodeCore::step`. And whatever messages came: where the input is recorded, and completes a transfer, the
@@ -130,38 +126,14 @@ impl NodeCore for LogCore {
         ensures ends_stay { (t : declared_id.TransactionId) (s : words_type.Status) → IsEnd s
             → stands (moves self.old) t ≡ Some s → stands (moves self.new) t ≡ Some s }
     {
-        self.tables.take(self.alloc, &self.scheme, input)
-    }
-
-    fn outbox(&self, key: usize) -> Option<&Message> {
-        self.tables.outbox.message(key)
-    }
-
-    fn acknowledged(&self, key: usize) -> bool {
-        self.tables.outbox.is_acknowledged(key)
-    }
-
-    fn sends(&self) -> usize {
-        self.tables.outbox.sends()
-    }
-
-    fn records(&self) -> usize {
-        self.tables.journal.len()
+        self.tables.take(input)
     }
 
     fn status_of(&self, id: TransactionId) -> Option<Status> {
         status(&self.tables.transfers, id)
     }
 
-    fn sent_by(&self, records: usize) -> usize {
-        self.tables.outbox.sent_by(records)
-    }
-
-    fn next_unacknowledged(&self, peer: Node, from: usize) -> Option<usize> {
-        self.tables.outbox.next_unacknowledged(peer, from)
-    }
-
     fn fresh(&self) -> Result<LogCore, NoMemory> {
-        LogCore::new(self.alloc, &self.scheme)
+        LogCore::new(self.tables.alloc, &self.tables.scheme)
     }
 }

@@ -13,7 +13,7 @@ ghost use Rattle.log_core.specs.Readings.{owner, owner_of};
 
 use crate::tables::Tables;
 use checks::{BookEntry, Register};
-use outbox::Outbox;
+use records::Records;
 use scheme::{Holder, Scheme};
 use std::alloc::Global;
 use std::collections::{BTreeMap, BTreeSet};
@@ -68,13 +68,15 @@ fn opening_register(alloc: Global, scheme: &Scheme) -> Result<Register, NoMemory
 /// The tables of the log before any record; or `NoMemory`.
 pub(crate) fn opening_tables(alloc: Global, scheme: &Scheme) -> Result<Tables, NoMemory>
     ensures kept { IfOk result (IsKept scheme.now) }
-    ensures journal { IfOk result (λ t. t.journal.items ≡ []) }
+    ensures scheme { IfOk result (λ t. t.scheme ≡ scheme.now) }
+    ensures journal { IfOk result (λ t. t.records.inputs ≡ []) }
 {
     Ok(Tables {
-        journal: Vec::new(alloc),
+        alloc,
+        scheme: scheme.copy(alloc)?,
+        records: Records::new(alloc),
         register: opening_register(alloc, scheme)?,
         transfers: BTreeMap::new(alloc),
         checked: BTreeSet::new(alloc),
-        outbox: Outbox::new(alloc),
     })
 }

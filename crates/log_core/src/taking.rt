@@ -11,38 +11,27 @@ ghost use Rattle.log_core.specs.Kept.{IsKept};
 ghost use Rattle.log_core.specs.Taking.{Takes};
 ghost use Rattle.log_core.specs.Transfers.{IsWithdrawal};
 
-use crate::effect::LogEffect;
+use crate::effect::{LogEffect, TransferEffect};
 use crate::refusals::message_refusal;
 use crate::tables::Tables;
 use crate::transfers::status;
 use protocol::{Decision, Stepped};
-use scheme::Scheme;
 use status::{Moment, Status, TransactionId};
-use std::alloc::Global;
 use units::refusal_code::NO_ROW;
 use units::{NoMemory, Refusal};
 use wire::{Input, Message, Notification, Proposal, Request};
 
 impl Tables {
     /// Takes an input. Orders of registries are refused with `NO_ROW`.
-    pub(crate) fn take(
-        &mut self,
-        alloc: Global,
-        scheme: &Scheme,
-        input: &Input,
-    ) -> Result<Stepped, Refusal>
-        requires kept { IsKept scheme.now self.old }
-        ensures { Takes scheme.now self.old self.new input.now result }
+    pub(crate) fn take(&mut self, input: &Input) -> Result<Stepped, Refusal>
+        requires kept { IsKept self.old.scheme self.old }
+        ensures { Takes self.old.scheme self.old self.new input.now result }
     {
         match input {
-            Input::Received { message, moment } => {
-                self.receive(alloc, scheme, input, message, *moment)
-            }
-            Input::CleanUp(moment) => self.clean_up(alloc, scheme, input, *moment),
-            Input::Eligible { registry, may } => {
-                self.eligible(alloc, scheme, input, *registry, *may)
-            }
-            Input::Ack(key) => self.acknowledge(scheme, input, *key),
+            Input::Received { message, moment } => { self.receive(input, message, *moment) }
+            Input::CleanUp(moment) => self.clean_up(input, *moment),
+            Input::Eligible { registry, may } => { self.eligible(input, *registry, *may) }
+            Input::Ack(key) => self.acknowledge(input, *key),
             Input::Propose(_) => Err(Refusal { code: NO_ROW }),
             Input::Request(_) => Err(Refusal { code: NO_ROW }),
             Input::OpenAccount(_) => Err(Refusal { code: NO_ROW }),
@@ -53,49 +42,45 @@ impl Tables {
     /// Takes a message that came at that moment.
     fn receive(
         &mut self,
-        alloc: Global,
-        scheme: &Scheme,
         input: &Input,
         message: &Message,
         moment: Moment,
     ) -> Result<Stepped, Refusal>
-        requires kept { IsKept scheme.now self.old }
+        requires kept { IsKept self.old.scheme self.old }
         requires input { input.now ≡ inputs.Received message.now moment }
-        ensures { Takes scheme.now self.old self.new input.now result }
+        ensures { Takes self.old.scheme self.old self.new input.now result }
     {
-        if let Some(refused) = message_refusal(scheme, &self.transfers, message) {
+        if let Some(refused) = message_refusal(&self.scheme, &self.transfers, message) {
             return Err(Refusal { code: refused });
         }
         match message {
-            Message::Proposal(proposal) => self.check(alloc, scheme, input, proposal, moment),
+            Message::Proposal(proposal) => self.check(input, proposal, moment),
             Message::Notification(notification) => {
-                self.take_notification(alloc, scheme, input, notification, moment)
+                self.take_notification(input, notification, moment)
             }
-            Message::Request(request) => self.withdraw(alloc, scheme, input, request, moment),
+            Message::Request(request) => self.withdraw(input, request, moment),
         }
     }
 
     /// Takes a proposal that isn't refused for what it is.
     fn check(
         &mut self,
-        alloc: Global,
-        scheme: &Scheme,
         input: &Input,
         proposal: &Proposal,
         moment: Moment,
     ) -> Result<Stepped, Refusal>
-        requires kept { IsKept scheme.now self.old }
+        requires kept { IsKept self.old.scheme self.old }
         requires input { input.now ≡ inputs.Received (messages.Proposal proposal.now) moment }
-        requires welcome { first_of (log_refusals scheme.now (history scheme.now Itl self.old.journal.items)
+        requires welcome { first_of (log_refusals self.old.scheme (history self.old.scheme Itl self.old.records.inputs)
             (messages.Proposal proposal.now)) ≡ None }
-        ensures { Takes scheme.now self.old self.new input.now result }
+        ensures { Takes self.old.scheme self.old self.new input.now result }
     {
         let (id, content) = (proposal.id, &proposal.content);
-        match self.on_proposal(alloc, scheme, id, content)? {
+        match self.on_proposal(id, content)? {
             Decision::Moves { new, messages } => {
                 let content = Some(content.copy()?);
-                let effect = LogEffect::Begin { id, new, content };
-                self.record(scheme, input, effect, moment, messages)
+                let effect = TransferEffect::Begin { id, new, content };
+                self.record(input, LogEffect::Transfers { effect, moment }, messages)
             }
             Decision::Repeat => Ok(Stepped::Repeat),
             Decision::Late => Ok(Stepped::Late),
@@ -105,23 +90,21 @@ impl Tables {
     /// Takes a notification that isn't refused for what it is.
     fn take_notification(
         &mut self,
-        alloc: Global,
-        scheme: &Scheme,
         input: &Input,
         notification: &Notification,
         moment: Moment,
     ) -> Result<Stepped, Refusal>
-        requires kept { IsKept scheme.now self.old }
+        requires kept { IsKept self.old.scheme self.old }
         requires input { input.now ≡ inputs.Received (messages.Notification notification.now) moment }
-        requires welcome { first_of (log_refusals scheme.now (history scheme.now Itl self.old.journal.items)
+        requires welcome { first_of (log_refusals self.old.scheme (history self.old.scheme Itl self.old.records.inputs)
             (messages.Notification notification.now)) ≡ None }
-        ensures { Takes scheme.now self.old self.new input.now result }
+        ensures { Takes self.old.scheme self.old self.new input.now result }
     {
         let id = notification.id;
-        match self.on_notified(alloc, id, &notification.notified)? {
+        match self.on_notified(id, &notification.notified)? {
             Decision::Moves { new, messages } => {
-                let effect = LogEffect::Advance { id, new };
-                self.record(scheme, input, effect, moment, messages)
+                let effect = TransferEffect::Advance { id, new };
+                self.record(input, LogEffect::Transfers { effect, moment }, messages)
             }
             Decision::Repeat => Ok(Stepped::Repeat),
             Decision::Late => Ok(Stepped::Late),
@@ -131,23 +114,21 @@ impl Tables {
     /// Takes a request that isn't refused for what it is.
     fn withdraw(
         &mut self,
-        alloc: Global,
-        scheme: &Scheme,
         input: &Input,
         request: &Request,
         moment: Moment,
     ) -> Result<Stepped, Refusal>
-        requires kept { IsKept scheme.now self.old }
+        requires kept { IsKept self.old.scheme self.old }
         requires input { input.now ≡ inputs.Received (messages.Request request.now) moment }
-        requires welcome { first_of (log_refusals scheme.now (history scheme.now Itl self.old.journal.items)
+        requires welcome { first_of (log_refusals self.old.scheme (history self.old.scheme Itl self.old.records.inputs)
             (messages.Request request.now)) ≡ None }
-        ensures { Takes scheme.now self.old self.new input.now result }
+        ensures { Takes self.old.scheme self.old self.new input.now result }
     {
         let id = request.id;
-        match self.on_request(alloc, id)? {
+        match self.on_request(id)? {
             Decision::Moves { messages, .. } => {
-                let effect = self.withdrawal(alloc, id)?;
-                self.record(scheme, input, effect, moment, messages)
+                let effect = self.withdrawal(id)?;
+                self.record(input, LogEffect::Transfers { effect, moment }, messages)
             }
             Decision::Repeat => Ok(Stepped::Repeat),
             Decision::Late => Ok(Stepped::Late),
@@ -155,18 +136,18 @@ impl Tables {
     }
 
     /// What a request by which a transaction moves does; or `NoMemory`.
-    fn withdrawal(&self, alloc: Global, id: TransactionId) -> Result<LogEffect, NoMemory>
+    fn withdrawal(&self, id: TransactionId) -> Result<TransferEffect, NoMemory>
         ensures { IfOk result (IsWithdrawal id (transfer_state_in self.now id)) }
     {
         if status(&self.transfers, id).is_none() {
-            return Ok(LogEffect::Begin {
+            return Ok(TransferEffect::Begin {
                 id,
                 new: Status::Cancelled,
                 content: None,
             });
         }
-        let mut ids = Vec::new(alloc);
+        let mut ids = Vec::new(self.alloc);
         ids.push(id)?;
-        Ok(LogEffect::Cancel(ids))
+        Ok(TransferEffect::Cancel(ids))
     }
 }

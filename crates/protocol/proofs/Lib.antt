@@ -1,6 +1,9 @@
 pub mod Histories
 pub mod Replaying
 pub mod RefusedBy
+pub mod OutgoingRecords
+pub mod RecordsRead
+pub mod TakenIntoRecords
 pub mod NodeIndices
 pub mod CountsInLists
 pub mod UnitsOfBlocks

@@ -10,7 +10,9 @@ use Rattle.protocol.specs.declared.node_core.Stepped.TheVariants.{Recorded, Repe
 use Rattle.protocol.specs.declared.replay_fault.ReplayFault.{ReplayFault}
 use Rattle.protocol.specs.declared.replay_fault.ReplayFault.TheVariants.{NotRecorded, NoMemory}
 use Rattle.protocol.specs.Deciding.{Verdict, IsRecorded, IsRepeat, IsLate, IsRefused}
+use Rattle.protocol.specs.Outgoing.{outgoing}
 use Rattle.protocol.specs.Verdict.{verdict, history}
+use Rattle.records.specs.Records.{RecordsView}
 
 -- ---- one input
 
@@ -41,6 +43,12 @@ after journal input (Err refusal) = journal
 -- each record of the journal is recorded at its place after the records before it
 abbrev pub Replays : Scheme → Node → List Input → Type 0
 Replays scheme n journal = (k : ℕ) (input : Input) → slice_get journal k ≡ Some input → answer scheme n (take k journal) input ≡ Ok (Recorded k)
+
+-- the records are those of the journal, with what its history sends, and each is recorded at its place after those before it
+pub record AreRecordsOf (scheme : Scheme) (n : Node) (journal : List Input) (records : RecordsView) : Type 0 where
+  pub inputs : records.inputs ≡ journal
+  pub sent : records.sent ≡ outgoing (history scheme n journal)
+  pub replays : Replays scheme n journal
 
 -- the record at that place is the first one of the journal that isn't recorded there after the records before it
 pub record IsFirstNotRecorded (scheme : Scheme) (n : Node) (journal : List Input) (k : ℕ) : Type 0 where

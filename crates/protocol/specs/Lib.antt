@@ -10,13 +10,14 @@ pub mod Verdict
 pub mod Cores
 pub mod Decisions
 pub mod Table
-pub mod Unacknowledged
 pub mod Refusing
 pub mod World
 pub mod Claims
 pub mod Headline
 pub mod Owner
 pub mod WayOut
+pub mod Outgoing
+pub mod Taking
 pub mod Weave
 pub mod Plausible
 pub use Rattle.units.specs.Code
@@ -29,3 +30,4 @@ pub use Rattle.wire.specs.declared.message.Proposal
 pub use Rattle.wire.specs.declared.notified.NotifiedStatus
 pub use Rattle.scheme.specs.declared.registries.Scheme
 pub use Rattle.units.specs.Keys
+pub use Rattle.records.specs.Unacknowledged

@@ -1,5 +1,6 @@
 //! What is asked of a node's core.
 
+use records::Records;
 use status::{Status, TransactionId};
 use units::{NoMemory, Node, Refusal};
 use wire::{Input, Message};
@@ -25,7 +26,7 @@ pub trait NodeCore: Drop {
     ghost use Rattle.scheme.specs.declared.registries.Scheme.{Scheme};
     ghost use Rattle.protocol.specs.History.{sends, stands, transitions_of, is_acknowledged};
     ghost use Rattle.protocol.specs.Verdict.{history};
-    ghost use Rattle.protocol.specs.Cores.{IsExpectedOrNoMemory, Replays, after, answer};
+    ghost use Rattle.protocol.specs.Cores.{AreRecordsOf, IsExpectedOrNoMemory, Replays, after, answer};
     ghost use Rattle.protocol.specs.Unacknowledged.{IsLeastFrom, awaits};
 
     /// The scheme that it goes by.
@@ -44,10 +45,9 @@ pub trait NodeCore: Drop {
     fn node(&self) -> Node
         ensures { result ≡ node_of self.now };
 
-    /// The records of its journal, the oldest first. Each was recorded at its place after those before it.
-    fn journal(&self) -> &[Input]
-        ensures value { result.now ≡ journal_of self.now }
-        ensures replays { Replays (scheme_of self.now) (node_of self.now) (journal_of self.now) };
+    /// Its journal, with what each record did to the node's messages.
+    fn recorded(&self) -> &Records
+        ensures { AreRecordsOf (scheme_of self.now) (node_of self.now) (journal_of self.now) result.now };
 
     /// Takes an input, and returns what is expected after the journal: it is recorded, at the place that is
     /// returned, or it is a repeat, or late, or it is refused for the reason that the code tells. Refusal
@@ -60,40 +60,10 @@ pub trait NodeCore: Drop {
         ensures scheme { scheme_of self.new ≡ scheme_of self.old }
         ensures node { node_of self.new ≡ node_of self.old };
 
-    /// The message with that key, or `None` where none has it. A message's key is its number among all that the
-    /// journal sends, counted from 0.
-    fn outbox(&self, key: usize) -> Option<&Message>
-        ensures { option_copied result
-            ≡ slice_get (sends (history (scheme_of self.now) (node_of self.now) (journal_of self.now))) key };
-
-    /// Whether a record of the journal acknowledges the message with that key.
-    fn acknowledged(&self, key: usize) -> bool
-        ensures { result ≡ is_acknowledged
-            (history (scheme_of self.now) (node_of self.now) (journal_of self.now)) key };
-
-    /// The number of messages that the journal sends.
-    fn sends(&self) -> usize
-        ensures { result ≡ length (sends (history (scheme_of self.now) (node_of self.now) (journal_of self.now))) };
-
-    /// The number of records.
-    fn records(&self) -> usize
-        ensures { result ≡ length (journal_of self.now) };
-
     /// Where a transaction stands, or `None` where no record is about it.
     fn status_of(&self, id: TransactionId) -> Option<Status>
         ensures { result ≡ stands
             (transitions_of (history (scheme_of self.now) (node_of self.now) (journal_of self.now))) id };
-
-    /// The number of messages that the first `records` records send.
-    fn sent_by(&self, records: usize) -> usize
-        ensures { result ≡ length
-            (sends (history (scheme_of self.now) (node_of self.now) (take records (journal_of self.now)))) };
-
-    /// The least key, from that one on, of a message that goes to `peer` and isn't acknowledged; or `None` where
-    /// there is no such message.
-    fn next_unacknowledged(&self, peer: Node, from: usize) -> Option<usize>
-        ensures { let es = history (scheme_of self.now) (node_of self.now) (journal_of self.now) in IsLeastFrom
-            (awaits (sends es) (is_acknowledged es) peer) from result };
 
     /// The core of the empty journal, under the same scheme and at the same node; or `NoMemory`.
     fn fresh(&self) -> Result<Self, NoMemory>
@@ -102,4 +72,60 @@ pub trait NodeCore: Drop {
         ensures scheme { IfOk result (λ core. scheme_of core ≡ scheme_of self.now) }
         ensures node { IfOk result (λ core. node_of core ≡ node_of self.now) }
         ensures journal { IfOk result (λ core. journal_of core ≡ []) };
+
+    /// The records of its journal, the oldest first. Each was recorded at its place after those before it.
+    fn journal(&self) -> &[Input]
+        ensures value { result.now ≡ journal_of self.now }
+        ensures replays { Replays (scheme_of self.now) (node_of self.now) (journal_of self.now) }
+    {
+        self.recorded().inputs()
+    }
+
+    /// The number of records.
+    fn records(&self) -> usize
+        ensures { result ≡ length (journal_of self.now) }
+    {
+        self.recorded().len()
+    }
+
+    /// The number of messages that the journal sends.
+    fn sends(&self) -> usize
+        ensures { result ≡ length (sends (history (scheme_of self.now) (node_of self.now) (journal_of self.now))) }
+    {
+        self.recorded().sends()
+    }
+
+    /// The number of messages that the first `records` records send.
+    fn sent_by(&self, records: usize) -> usize
+        ensures { result ≡ length
+            (sends (history (scheme_of self.now) (node_of self.now) (take records (journal_of self.now)))) }
+    {
+        self.recorded().sent_by(records)
+    }
+
+    /// The message with that key, or `None` where none has it. A message's key is its number among all that the
+    /// journal sends, counted from 0.
+    fn outbox(&self, key: usize) -> Option<&Message>
+        ensures { option_copied result
+            ≡ slice_get (sends (history (scheme_of self.now) (node_of self.now) (journal_of self.now))) key }
+    {
+        self.recorded().message(key)
+    }
+
+    /// Whether a record of the journal acknowledges the message with that key.
+    fn acknowledged(&self, key: usize) -> bool
+        ensures { result ≡ is_acknowledged
+            (history (scheme_of self.now) (node_of self.now) (journal_of self.now)) key }
+    {
+        self.recorded().is_acknowledged(key)
+    }
+
+    /// The least key, from that one on, of a message that goes to `peer` and isn't acknowledged; or `None` where
+    /// there is no such message.
+    fn next_unacknowledged(&self, peer: Node, from: usize) -> Option<usize>
+        ensures { let es = history (scheme_of self.now) (node_of self.now) (journal_of self.now) in IsLeastFrom
+            (awaits (sends es) (is_acknowledged es) peer) from result }
+    {
+        self.recorded().next_unacknowledged(peer, from)
+    }
 }

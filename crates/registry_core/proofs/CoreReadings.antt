@@ -1,5 +1,4 @@
--- What a registry's tables say, seen from outside: its messages, its unit holdings and accounts, and inputs that it
--- never records.
+-- What a registry's tables say, seen from outside: its unit holdings and accounts, and inputs that it never records.
 use Rattle.std.specs.FinMap as map
 use Rattle.std.proofs.Common.{◌≡◌, ℕ, ◌+◌, ◌≤◌, Bool, true, false, cond, Option, Some, None, List, take, length, Err, inl, inr, refl, sym, ap, subst, ◌∙◌, arith}
 use Rattle.std.specs.List.{count_by}
@@ -18,14 +17,8 @@ use Rattle.wire.specs.declared.input.Input.TheVariants.{CleanUp, Eligible}
 use Rattle.wire.specs.declared.message.Message.{Message}
 use Rattle.scheme.specs.declared.registries.Scheme.{Scheme}
 use Rattle.protocol.specs.Cores.{IsExpectedOrNoMemory, answer}
-use Rattle.protocol.specs.History as history
 use Rattle.protocol.specs.History.{Transition, at_start, credits, gives, holds, reserved, sends, spendable, stands}
-use Rattle.protocol.specs.Unacknowledged.{IsLeastFrom, awaits}
-use Rattle.protocol.specs.Verdict as verdicts
 use Rattle.protocol.specs.Verdict.{verdict}
-use Rattle.outbox.specs.Sending as sending
-use Rattle.outbox.specs.Sending.{Sent}
-use Rattle.outbox.proofs.OutgoingRecords.{acknowledged_outgoing, messages_outgoing, outgoing_take}
 use Rattle.safety.proofs.OneRegistry.UnitsCountedOnce.{Waits, counted_once}
 use Rattle.registry_core.specs.Kept.{IsKept}
 use Rattle.registry_core.specs.Readings.{unit_holding_at, reserver, account_status_at}
@@ -37,7 +30,7 @@ use Rattle.safety.proofs.MovesAndHistories.NewestTransitions.{Made}
 use Rattle.registry_core.proofs.RecordedEntries.{entered_made, replays_entered}
 
 abbrev pub seen : Scheme → Code → Tables → Core
-seen scheme c tables = record { scheme = scheme; code = c; journal = tables.journal.items }
+seen scheme c tables = record { scheme = scheme; code = c; journal = tables.records.inputs }
 
 -- ---- one unit
 
@@ -73,34 +66,6 @@ unit_holding_reserver scheme c xs s sound =
 -- ---- of a registry
 
 module _ (scheme : Scheme) (c : Code) (tables : Tables) (kept : IsKept scheme c tables) (r : Core) (is : seen scheme c tables ≡ r) where
-  -- ---- its messages
-
-  pub messages_so : sending.messages tables.outbox ≡ sends (past r)
-  messages_so = ap sending.messages kept.kept.sent ∙ messages_outgoing scheme (Registry c) tables.journal.items ∙ ap (λ (q : Core). sends (past q)) is
-
-  pub message_so : (key : ℕ) → slice_get (sending.messages tables.outbox) key ≡ slice_get (sends (past r)) key
-  message_so key = ap (λ (l : List Message). slice_get l key) messages_so
-
-  pub sends_so : length (sending.messages tables.outbox) ≡ length (sends (past r))
-  sends_so = ap length messages_so
-
-  pub acknowledged_so : (key : ℕ) → sending.is_key_acknowledged tables.outbox key ≡ history.is_acknowledged (past r) key
-  acknowledged_so key =
-      ap (λ (o : List Sent). sending.is_key_acknowledged o key) kept.kept.sent
-      ∙ acknowledged_outgoing (past (seen scheme c tables)) key
-      ∙ ap (λ (q : Core). history.is_acknowledged (past q) key) is
-
-  pub sent_by_so : (count : ℕ) → length (sending.messages (take count tables.outbox)) ≡ length (sends (verdicts.history r.scheme (Registry r.code) (take count r.journal)))
-  sent_by_so count =
-      ap (λ (o : List Sent). length (sending.messages (take count o))) kept.kept.sent
-      ∙ ap (λ (o : List Sent). length (sending.messages o)) (outgoing_take scheme (Registry c) count tables.journal.items)
-      ∙ ap length (messages_outgoing scheme (Registry c) (take count tables.journal.items))
-      ∙ ap (λ (q : Core). length (sends (verdicts.history q.scheme (Registry q.code) (take count q.journal)))) is
-
-  pub least_so : (peer : Node) (from : ℕ) (key : Option ℕ) → IsLeastFrom (awaits (sending.messages tables.outbox) (sending.is_key_acknowledged tables.outbox) peer) from key
-      → IsLeastFrom (awaits (sends (past r)) (history.is_acknowledged (past r)) peer) from key
-  least_so peer from key h = subst (λ (passes : ℕ → Bool). IsLeastFrom passes from key) (λ i. awaits (messages_so i) (λ k. acknowledged_so k i) peer) h
-
   -- ---- its units and accounts
 
   pub unit_holding_so : (s : Serial) → map.get tables.holdings.unit_holdings s ≡ unit_holding_at r.scheme r.code (moves r) s
@@ -113,7 +78,7 @@ module _ (scheme : Scheme) (c : Code) (tables : Tables) (kept : IsKept scheme c 
   held_so s = ap is_some (unit_holding_so s) ∙ unit_holding_is_held r.scheme r.code s (moves r)
 
   recorded : Made r.scheme (Registry r.code) (past r)
-  recorded = subst (λ (q : Core). Made q.scheme (Registry q.code) (past q)) is (entered_made scheme c (past (seen scheme c tables)) (replays_entered scheme c tables.journal.items kept.replays))
+  recorded = subst (λ (q : Core). Made q.scheme (Registry q.code) (past q)) is (entered_made scheme c (past (seen scheme c tables)) (replays_entered scheme c tables.records.inputs kept.records.replays))
 
   pub once_so : (s : Serial) → at_start r.scheme r.code s + count_by (credits r.code s) (moves r) ≡ count_by (gives r.code s) (moves r) + cond (holds r.scheme r.code (moves r) s) 1 0
   once_so s = once_counted r.scheme r.code (moves r) s (counted_once r.scheme r.code (past r) recorded s)

@@ -56,25 +56,25 @@ use Rattle.registry_core.proofs.TablesSayHistory.{foreign_there_so}
 use Rattle.registry_core.proofs.TakenInputs.{GivenUp, verdict_so}
 
 -- what the holdings know is what the history says
-pub knows_so : (scheme : Scheme) (c : Code) (tables : Tables) → IsKept scheme c tables → Knows scheme c tables.holdings (holding scheme c (history scheme (Registry c) tables.journal.items))
+pub knows_so : (scheme : Scheme) (c : Code) (tables : Tables) → IsKept scheme c tables → Knows scheme c tables.holdings (holding scheme c (history scheme (Registry c) tables.records.inputs))
 knows_so scheme c tables kept =
-    let es = history scheme (Registry c) tables.journal.items in
-    knows scheme c es (entered_made scheme c es (replays_entered scheme c tables.journal.items kept.replays)) tables.holdings kept.kept.unit_holdings kept.kept.accounts
+    let es = history scheme (Registry c) tables.records.inputs in
+    knows scheme c es (entered_made scheme c es (replays_entered scheme c tables.records.inputs kept.records.replays)) tables.holdings kept.kept.unit_holdings kept.kept.accounts
 
 -- ---- a decision, where the verdict on the input goes by that row after those causes
 
 module _ (scheme : Scheme) (c : Code) (tables : Tables) (input : Input) (to : Status → Transition) (cs : Causes) (row : Row) (ms : List Message) (d : Result Decision Refusal)
     (is : IsExpectedOrNoMemory d (unless cs (decided row ms)))
-    (row_is : verdict_by_rules scheme c tables input ≡ refuse cs (by_row scheme (history scheme (Registry c) tables.journal.items) to row)) where
+    (row_is : verdict_by_rules scheme c tables input ≡ refuse cs (by_row scheme (history scheme (Registry c) tables.records.inputs) to row)) where
   pub given_up : (r : Refusal) → d ≡ Err r → GivenUp scheme c tables input r.code
   given_up r h =
-      elim (unless_refused scheme (history scheme (Registry c) tables.journal.items) to cs row ms d r is h) [
+      elim (unless_refused scheme (history scheme (Registry c) tables.records.inputs) to cs row ms d r is h) [
         | inl memory ↦ inl memory
         | inr e ↦ inr (row_is ∙ e)
       ]
 
-  pub moves : (new : Status) (ms' : List Message) → d ≡ Ok (decision.Moves new ms') → verdict_by_rules scheme c tables input ≡ recorded_if_room scheme (history scheme (Registry c) tables.journal.items) (to new ∷ [])
-  moves new ms' h = row_is ∙ unless_enters scheme (history scheme (Registry c) tables.journal.items) to cs row ms ms' new d is h
+  pub moves : (new : Status) (ms' : List Message) → d ≡ Ok (decision.Moves new ms') → verdict_by_rules scheme c tables input ≡ recorded_if_room scheme (history scheme (Registry c) tables.records.inputs) (to new ∷ [])
+  moves new ms' h = row_is ∙ unless_enters scheme (history scheme (Registry c) tables.records.inputs) to cs row ms ms' new d is h
 
   pub sends : (new : Status) (ms' : List Message) → d ≡ Ok (decision.Moves new ms') → ms' ≡ ms
   sends new ms' h = (causes_move cs row ms ms' new d is h).2
@@ -83,10 +83,10 @@ module _ (scheme : Scheme) (c : Code) (tables : Tables) (input : Input) (to : St
   row_moves new ms' h = (causes_move cs row ms ms' new d is h).1
 
   pub repeats : d ≡ Ok decision.Repeat → verdict_by_rules scheme c tables input ≡ IsRepeat
-  repeats h = row_is ∙ unless_repeat scheme (history scheme (Registry c) tables.journal.items) to cs row ms d is h
+  repeats h = row_is ∙ unless_repeat scheme (history scheme (Registry c) tables.records.inputs) to cs row ms d is h
 
   pub comes_late : d ≡ Ok decision.Late → verdict_by_rules scheme c tables input ≡ IsLate
-  comes_late h = row_is ∙ unless_late scheme (history scheme (Registry c) tables.journal.items) to cs row ms d is h
+  comes_late h = row_is ∙ unless_late scheme (history scheme (Registry c) tables.records.inputs) to cs row ms d is h
 
 -- ---- messages
 
@@ -99,10 +99,10 @@ welcome_foreign c es p none =
 module _ (scheme : Scheme) (c : Code) (tables : Tables) (kept : IsKept scheme c tables) where
   -- what ends a transfer to the registry is its effect
   pub ending_effect : (n : Notification) (moment : Moment) (told new : Status) (held : Bool) (x : Transition) → same_code n.id.code c ≡ false → x.new ≡ new
-      → unless_held held (acquirer_row (known (newest (transitions_of (history scheme (Registry c) tables.journal.items)) n.id)) (Notified told)) ≡ Move new
-      → IsEffect c (history scheme (Registry c) tables.journal.items) (Received (message.Notification n) moment) x (ending (is_some (map.get tables.acquirer.transfers n.id)) n.id new)
+      → unless_held held (acquirer_row (known (newest (transitions_of (history scheme (Registry c) tables.records.inputs)) n.id)) (Notified told)) ≡ Move new
+      → IsEffect c (history scheme (Registry c) tables.records.inputs) (Received (message.Notification n) moment) x (ending (is_some (map.get tables.acquirer.transfers n.id)) n.id new)
   ending_effect n moment told new held x foreign stood move =
-      let es = history scheme (Registry c) tables.journal.items in
+      let es = history scheme (Registry c) tables.records.inputs in
       let i = Received (message.Notification n) moment in
       let there = foreign_there_so scheme c tables kept n.id foreign in
       let other : is_foreign c n.id ≡ true = ap not foreign in
@@ -116,12 +116,12 @@ module _ (scheme : Scheme) (c : Code) (tables : Tables) (kept : IsKept scheme c 
             ])
       ]
     where
-      row : acquirer_row (known (newest (transitions_of (history scheme (Registry c) tables.journal.items)) n.id)) (Notified told) ≡ Move new
-      row = (unless_moves held (acquirer_row (known (newest (transitions_of (history scheme (Registry c) tables.journal.items)) n.id)) (Notified told)) new move).0
+      row : acquirer_row (known (newest (transitions_of (history scheme (Registry c) tables.records.inputs)) n.id)) (Notified told) ≡ Move new
+      row = (unless_moves held (acquirer_row (known (newest (transitions_of (history scheme (Registry c) tables.records.inputs)) n.id)) (Notified told)) new move).0
 
       cancelled : same_status new Completed ≡ false → new ≡ Cancelled
       cancelled isnt =
-          elim (acquirer_notified (known (newest (transitions_of (history scheme (Registry c) tables.journal.items)) n.id)) told new row) [
+          elim (acquirer_notified (known (newest (transitions_of (history scheme (Registry c) tables.records.inputs)) n.id)) told new row) [
             | inr e ↦ e.2
             | inl e ↦
                 let f = acquirer_from e.0 told new (subst (λ k. acquirer_row k (Notified told) ≡ Move new) e.1 row) in
@@ -158,9 +158,9 @@ module _ (scheme : Scheme) (c : Code) (tables : Tables) (kept : IsKept scheme c 
   unasked_acquirer (Stands Accepted) = refl
 
   -- no registry takes a request
-  pub request_refused : (r : Request) (moment : Moment) → first_of (registry_refusals c (history scheme (Registry c) tables.journal.items) (message.Request r)) ≡ None → verdict_by_rules scheme c tables (Received (message.Request r) moment) ≡ IsRefused no_row
+  pub request_refused : (r : Request) (moment : Moment) → first_of (registry_refusals c (history scheme (Registry c) tables.records.inputs) (message.Request r)) ≡ None → verdict_by_rules scheme c tables (Received (message.Request r) moment) ≡ IsRefused no_row
   request_refused r moment none =
-      let es = history scheme (Registry c) tables.journal.items in
+      let es = history scheme (Registry c) tables.records.inputs in
       let last = newest (transitions_of es) r.id in
       let to = decide.moved r.id (content_in last) moment.seconds in
       verdict_so scheme c tables (Received (message.Request r) moment)
@@ -172,7 +172,7 @@ module _ (scheme : Scheme) (c : Code) (tables : Tables) (kept : IsKept scheme c 
             ∙ ap (by_row scheme es (to (acquirer_sends c r.id [] column.Request))) (ap (unless_held (holds_some scheme c (transitions_of es) (content_in last))) (unasked_acquirer (known last)) ∙ unheld_refused (holds_some scheme c (transitions_of es) (content_in last)))
       ])
 
-  pub message_refused : (m : Message) (moment : Moment) (code : ℕ) → first_of (registry_refusals c (history scheme (Registry c) tables.journal.items) m) ≡ Some code → verdict_by_rules scheme c tables (Received m moment) ≡ IsRefused code
+  pub message_refused : (m : Message) (moment : Moment) (code : ℕ) → first_of (registry_refusals c (history scheme (Registry c) tables.records.inputs) m) ≡ Some code → verdict_by_rules scheme c tables (Received m moment) ≡ IsRefused code
   message_refused m moment code first =
-      let es = history scheme (Registry c) tables.journal.items in
+      let es = history scheme (Registry c) tables.records.inputs in
       verdict_so scheme c tables (Received m moment) ∙ refuse_first (registry_refusals c es m) (registry_answer scheme c es moment.seconds m) code first

@@ -17,7 +17,7 @@ use Rattle.wire.specs.declared.input.Input.{Input}
 use Rattle.scheme.specs.declared.registries.Scheme.{Scheme}
 use Rattle.protocol.specs.AtRegistry.{holds_some}
 use Rattle.protocol.specs.Deciding.{IsRecorded}
-use Rattle.protocol.specs.History.{Entry, Transition, newest, transitions_of}
+use Rattle.protocol.specs.History.{Entry, Transition, messages_of, newest, transitions_of}
 use Rattle.protocol.specs.Verdict.{history, transitions_made, verdict}
 use Rattle.acquirer.specs.Crediting.{MayCredit}
 use Rattle.acquirer.specs.Transfers as acquirer
@@ -26,10 +26,14 @@ use Rattle.units.proofs.Lists.OneValue.{clash}
 use Rattle.safety.proofs.MovesAndHistories.TableMoves.{RegistryMove, arrives, asks, bares, finishes, proposes, registry_moves, concludes}
 use Rattle.safety.proofs.MovesAndHistories.TableRows.{acquirer_from}
 use Rattle.safety.proofs.OneRegistry.UnitsCountedOnce.{and_second}
-use Rattle.registry_core.specs.Effects.{IsEffect, IsReservable, MayCarry}
+use Rattle.registry_core.specs.Effects.{AreEffects, IsEffect, IsAllowed, MayCarry}
 use Rattle.registry_core.specs.Kept.{AreKept, IsKept}
 use Rattle.registry_core.specs.Readings.{foreign_row, is_foreign, is_own, own_row, row_at}
 use Rattle.registry_core.specs.declared.effect.RegistryEffect.{RegistryEffect}
+use Rattle.wire.specs.declared.input.Input.TheVariants.{Ack, CleanUp, CloseAccount, Eligible, OpenAccount, Propose, Received, Request}
+use Rattle.records.specs.Sending.{Sends}
+use Rattle.protocol.specs.Outgoing.{did}
+use Rattle.registry_core.specs.declared.effect.RegistryEffect.TheVariants as effects
 use Rattle.registry_core.specs.declared.effect.RegistryEffect.TheVariants.{Arrive, Ask, Cancel, Complete, Forestall, Open, Conclude}
 use Rattle.registry_core.specs.declared.tables.Tables.{Tables}
 use Rattle.registry_core.proofs.ApartContents.{awaited_apart}
@@ -118,7 +122,7 @@ module _ (scheme : Scheme) (c : Code) (es : List Entry) (tables : Tables) (kept 
   complete_may input x id (asks t q was own stood) h k known = absurd h
   complete_may input x id (arrives p moment found f s is none foreign mine) h k known = absurd h
 
-  pub move_may : (input : Input) (x : Transition) (effect : RegistryEffect) → RegistryMove scheme c es input x → IsEffect c es input x effect → IsReservable effect tables.holdings → MayCarry effect tables.initiator tables.acquirer tables.holdings
+  pub move_may : (input : Input) (x : Transition) (effect : RegistryEffect) → RegistryMove scheme c es input x → IsEffect c es input x effect → IsAllowed effect tables.holdings → MayCarry effect tables.initiator tables.acquirer tables.holdings
   move_may input x (Open new_transfer) move h free = (open_may input x new_transfer move h, free)
   move_may input x (Arrive id new content) move h free = arrive_may input x id new content move h
   move_may input x (Forestall id) move h free = forestall_may input x id move h
@@ -126,9 +130,27 @@ module _ (scheme : Scheme) (c : Code) (es : List Entry) (tables : Tables) (kept 
   move_may input x (Ask id) move h free = tt
   move_may input x (Conclude id new) move h free = tt
   move_may input x (Cancel id) move h free = tt
+  move_may input x (effects.OpenAccount account) move h free = free
+  move_may input x (effects.CloseAccount account) move h free = free
 
-pub may_carry : (scheme : Scheme) (c : Code) (tables : Tables) (input : Input) (x : Transition) (effect : RegistryEffect) → IsKept scheme c tables → verdict scheme (Registry c) (history scheme (Registry c) tables.journal.items) input ≡ IsRecorded (x ∷ [])
-    → IsEffect c (history scheme (Registry c) tables.journal.items) input x effect → IsReservable effect tables.holdings → MayCarry effect tables.initiator tables.acquirer tables.holdings
-may_carry scheme c tables input x effect kept enters h free =
-    let es = history scheme (Registry c) tables.journal.items in
-    move_may scheme c es tables kept.kept (replays_entered scheme c tables.journal.items kept.replays) input x effect (entered_move scheme c es input x enters) h free
+pub may_carry : (scheme : Scheme) (c : Code) (tables : Tables) (input : Input) (xs : List Transition) (effect : RegistryEffect) → IsKept scheme c tables → verdict scheme (Registry c) (history scheme (Registry c) tables.records.inputs) input ≡ IsRecorded xs
+    → AreEffects c (history scheme (Registry c) tables.records.inputs) input xs effect → IsAllowed effect tables.holdings → MayCarry effect tables.initiator tables.acquirer tables.holdings
+may_carry scheme c tables (OpenAccount account) [] (effects.OpenAccount n) kept enters h free = free
+may_carry scheme c tables (CloseAccount account) [] (effects.CloseAccount n) kept enters h free = free
+may_carry scheme c tables input (x ∷ []) effect kept enters h free =
+    let es = history scheme (Registry c) tables.records.inputs in
+    move_may scheme c es tables kept.kept (replays_entered scheme c tables.records.inputs kept.records.replays) input x effect (entered_move scheme c es input x enters) h free
+may_carry scheme c tables input xs effect kept enters h free = absurd h
+
+-- an input that has an effect is no acknowledgement, and sends what its transitions say
+pub effects_send : (c : Code) (es : List Entry) (input : Input) (xs : List Transition) (effect : RegistryEffect) → AreEffects c es input xs effect → did input (messages_of xs) ≡ Sends (messages_of xs)
+effects_send c es (Ack key) [] effect h = absurd h
+effects_send c es (Ack key) (x ∷ []) effect h = absurd h
+effects_send c es (Ack key) (x ∷ y ∷ xs) effect h = absurd h
+effects_send c es (Propose o) xs effect h = refl
+effects_send c es (Request t) xs effect h = refl
+effects_send c es (OpenAccount n) xs effect h = refl
+effects_send c es (CloseAccount n) xs effect h = refl
+effects_send c es (CleanUp t) xs effect h = refl
+effects_send c es (Eligible d may) xs effect h = refl
+effects_send c es (Received m t) xs effect h = refl

@@ -33,15 +33,11 @@ use Rattle.wire.specs.declared.message.Notification.{Notification}
 use Rattle.wire.specs.declared.message.Proposal.{Proposal}
 use Rattle.scheme.specs.declared.registries.Scheme.{Scheme}
 use Rattle.protocol.proofs.Histories.{history_recorded}
-use Rattle.protocol.proofs.Replaying.{replays_snoc}
 use Rattle.protocol.specs.AtRegistry.{content_of, holding, holds_some}
 use Rattle.protocol.specs.Checks.{propose_refusals}
-use Rattle.protocol.specs.Cores.{Replays, answer_of}
 use Rattle.protocol.specs.Deciding.{IsRecorded}
 use Rattle.protocol.specs.History.{Entry, Transition, is_known, is_requested, newest, proposals, transitions_of}
 use Rattle.protocol.specs.Verdict.{history, verdict}
-use Rattle.outbox.specs.Outgoing.{did, outgoing}
-use Rattle.outbox.specs.Sending.{Sends, Sent}
 use Rattle.initiator.specs.Transfers as initiator
 use Rattle.initiator.specs.Transfers.{InitiatorView}
 use Rattle.initiator.specs.declared.transfer.Cancellation.TheVariants.{Asked, NotAsked}
@@ -59,6 +55,7 @@ use Rattle.registry_core.specs.Effects.{Carried, ChangedAt, IsEffect}
 use Rattle.registry_core.specs.Kept.{AreKept, IsKept}
 use Rattle.registry_core.specs.Readings.{foreign_row, is_foreign, is_own, own_row, row_at, account_status_at}
 use Rattle.registry_core.specs.declared.effect.RegistryEffect.{RegistryEffect}
+use Rattle.registry_core.specs.declared.effect.RegistryEffect.TheVariants as effects
 use Rattle.registry_core.specs.declared.effect.RegistryEffect.TheVariants.{Arrive, Ask, Cancel, Complete, Forestall, Open, Conclude}
 use Rattle.registry_core.specs.declared.tables.Tables.{Tables}
 use Rattle.registry_core.proofs.EffectsMayBe.{entered_move, foreign_of, row_content}
@@ -72,14 +69,10 @@ use Rattle.registry_core.proofs.StatusesOfAccounts.{is_account_order, is_request
 abbrev pub entry : Input → List Transition → Entry
 entry input xs = record { input = input; transitions = xs }
 
-pub kept_recorded : (scheme : Scheme) (c : Code) (tables tables' : Tables) (input : Input) (xs : List Transition) → IsKept scheme c tables → verdict scheme (Registry c) (history scheme (Registry c) tables.journal.items) input ≡ IsRecorded xs
-    → tables'.journal.items ≡ tables.journal.items ++ input ∷ [] → AreKept scheme c (entry input xs ∷ history scheme (Registry c) tables.journal.items) tables' → IsKept scheme c tables'
-kept_recorded scheme c tables tables' input xs kept enters journal more =
-    let old = tables.journal.items in
-    record {
-      replays = subst (λ (j : List Input). Replays scheme (Registry c) j) (sym journal) (replays_snoc scheme (Registry c) old input kept.replays (ap (answer_of (length old)) enters));
-      kept = subst (λ (hs : List Entry). AreKept scheme c hs tables') (sym (ap (history scheme (Registry c)) journal ∙ history_recorded scheme (Registry c) old input xs enters)) more;
-    }
+pub kept_recorded : (scheme : Scheme) (c : Code) (tables tables' : Tables) (input : Input) (xs : List Transition) → verdict scheme (Registry c) (history scheme (Registry c) tables.records.inputs) input ≡ IsRecorded xs
+    → tables'.records.inputs ≡ tables.records.inputs ++ input ∷ [] → AreKept scheme c (entry input xs ∷ history scheme (Registry c) tables.records.inputs) tables' → AreKept scheme c (history scheme (Registry c) tables'.records.inputs) tables'
+kept_recorded scheme c tables tables' input xs enters journal more =
+    subst (λ (hs : List Entry). AreKept scheme c hs tables') (sym (ap (history scheme (Registry c)) journal ∙ history_recorded scheme (Registry c) tables.records.inputs input xs enters)) more
 
 -- a row with the status and whether its cancellation was asked for
 abbrev own_with : Status → Bool → OutgoingTransfer
@@ -94,12 +87,6 @@ cancelled_open told status done = let e : Cancelled ≡ Completed = sym status �
 module _ (scheme : Scheme) (c : Code) (es : List Entry) (tables tables' : Tables) (kept : AreKept scheme c es tables) (entered : Entered scheme c es) where
   made_so : Made scheme (Registry c) es
   made_so = entered_made scheme c es entered
-
-  pub sent_so : (input : Input) (x : Transition) → did input (x.messages ++ []) ≡ Sends (x.messages ++ []) → tables'.outbox ≡ tables.outbox ++ Sends x.messages ∷ [] → tables'.outbox ≡ outgoing (entry input (x ∷ []) ∷ es)
-  sent_so input x is sent =
-      sent
-      ∙ ap (λ (l : List Sent). l ++ Sends x.messages ∷ []) kept.sent
-      ∙ ap (λ (d : Sent). outgoing es ++ d ∷ []) (sym (is ∙ ap (λ ms. Sends ms) (append-nil x.messages)))
 
   accounts_so : (e : Entry) → is_account_order e.input ≡ false → tables'.holdings.accounts ≡ tables.holdings.accounts → (n : ℕ) → map.get tables'.holdings.accounts n ≡ account_status_at scheme c (e ∷ es) n
   accounts_so e other same n = ap (λ a. map.get a n) same ∙ kept.accounts n ∙ sym (account_status_kept scheme c es e other n)
@@ -120,9 +107,8 @@ module _ (scheme : Scheme) (c : Code) (es : List Entry) (tables tables' : Tables
   -- ---- a transfer out of the registry
 
   opened_kept : (o : Order) (t : TransactionId) (new_transfer : NewTransfer) → NoneStands (propose_refusals scheme c (holding scheme c es) o) → id_at c (proposals es + 1) ≡ Some t → newest (transitions_of es) t ≡ None
-      → t ≡ new_transfer.id → content_of o ≡ new_transfer.content → Carried (Open new_transfer) tables.initiator tables'.initiator tables.acquirer tables'.acquirer tables.holdings tables'.holdings
-      → tables'.outbox ≡ tables.outbox ++ Sends (proposed c t (content_of o)).messages ∷ [] → AreKept scheme c (entry (Propose o) (proposed c t (content_of o) ∷ []) ∷ es) tables'
-  opened_kept o t new_transfer none is fresh id content carried sent =
+      → t ≡ new_transfer.id → content_of o ≡ new_transfer.content → Carried (Open new_transfer) tables.initiator tables'.initiator tables.acquirer tables'.acquirer tables.holdings tables'.holdings → AreKept scheme c (entry (Propose o) (proposed c t (content_of o) ∷ []) ∷ es) tables'
+  opened_kept o t new_transfer none is fresh id content carried =
       let x = proposed c t (content_of o) in
       let e = entry (Propose o) (x ∷ []) in
       let own = own_code scheme c (proposals es + 1) t is in
@@ -142,13 +128,12 @@ module _ (scheme : Scheme) (c : Code) (es : List Entry) (tables tables' : Tables
             kept.own (λ u. changed u ∙ ap (λ (r : OutgoingTransfer). if same_id t u then Some r else map.get tables.initiator.transfers u) row);
         acquirer = ap (λ (a : AcquirerView). a.code) carried.3 ∙ kept.acquirer;
         foreign = foreign_stays x own carried.3;
-        sent = sent_so (Propose o) x refl sent;
       }
 
   asked_kept : (t : TransactionId) (q : Transition) (id : TransactionId) → newest (transitions_of es) t ≡ Some q → same_code t.code c ≡ true → q.new ≡ Proposed → t ≡ id
-      → Carried (Ask id) tables.initiator tables'.initiator tables.acquirer tables'.acquirer tables.holdings tables'.holdings → tables'.outbox ≡ tables.outbox ++ Sends (asking c q).messages ∷ []
+      → Carried (Ask id) tables.initiator tables'.initiator tables.acquirer tables'.acquirer tables.holdings tables'.holdings
       → AreKept scheme c (entry (Request t) (asking c q ∷ []) ∷ es) tables'
-  asked_kept t q id was own stood same carried sent =
+  asked_kept t q id was own stood same carried =
       let x = asking c q in
       let e = entry (Request t) (x ∷ []) in
       let about : q.id ≡ t = (newest_id (transitions_of es) t q was).1 in
@@ -167,15 +152,13 @@ module _ (scheme : Scheme) (c : Code) (es : List Entry) (tables tables' : Tables
             (map.get tables'.initiator.transfers) mine (ap (newest (transitions_of es)) about ∙ was) (λ i. own_with (status i) (requested i)) kept.own changed;
         acquirer = ap (λ (a : AcquirerView). a.code) carried.3 ∙ kept.acquirer;
         foreign = foreign_stays x mine carried.3;
-        sent = sent_so (Request t) x refl sent;
       }
 
   concluded_kept : (n : Notification) (moment : Moment) (q : Transition) (told : Status) (id : TransactionId) (new : Status) → newest (transitions_of es) n.id ≡ Some q → same_code n.id.code c ≡ true
       → initiator_row (Stands q.new) (Notified (notified_status n.notified)) ≡ Move told → n.id ≡ id → told ≡ new
       → Carried (Conclude id new) tables.initiator tables'.initiator tables.acquirer tables'.acquirer tables.holdings tables'.holdings
-      → tables'.outbox ≡ tables.outbox ++ Sends (concluded_messages c q.id told) ∷ []
       → AreKept scheme c (entry (Received (message.Notification n) moment) (moved q told moment.seconds (concluded_messages c q.id told) ∷ []) ∷ es) tables'
-  concluded_kept n moment q told id new was own move same status carried sent =
+  concluded_kept n moment q told id new was own move same status carried =
       let x = moved q told moment.seconds (concluded_messages c q.id told) in
       let input = Received (message.Notification n) moment in
       let e = entry input (x ∷ []) in
@@ -197,7 +180,6 @@ module _ (scheme : Scheme) (c : Code) (es : List Entry) (tables tables' : Tables
             (map.get tables'.initiator.transfers) mine (ap (newest (transitions_of es)) about ∙ was) (λ i. own_with (status i) (requested i)) kept.own changed;
         acquirer = ap (λ (a : AcquirerView). a.code) carried.3 ∙ kept.acquirer;
         foreign = foreign_stays x mine carried.3;
-        sent = sent_so input x refl sent;
       }
 
   -- ---- a transfer to the registry
@@ -205,9 +187,8 @@ module _ (scheme : Scheme) (c : Code) (es : List Entry) (tables tables' : Tables
   arrived_kept : (p : Proposal) (moment : Moment) (found : List ℕ) (id : TransactionId) (new : Status) (content : Content) → newest (transitions_of es) p.id ≡ None → same_code p.id.code c ≡ false
       → p.id ≡ id → (arrived c p.id p.content moment.seconds found).new ≡ new → p.content ≡ content
       → Carried (Arrive id new content) tables.initiator tables'.initiator tables.acquirer tables'.acquirer tables.holdings tables'.holdings
-      → tables'.outbox ≡ tables.outbox ++ Sends (arrived c p.id p.content moment.seconds found).messages ∷ []
       → AreKept scheme c (entry (Received (message.Proposal p) moment) (arrived c p.id p.content moment.seconds found ∷ []) ∷ es) tables'
-  arrived_kept p moment found id new content none other same status units carried sent =
+  arrived_kept p moment found id new content none other same status units carried =
       let x = arrived c p.id p.content moment.seconds found in
       let input = Received (message.Proposal p) moment in
       let e = entry input (x ∷ []) in
@@ -224,13 +205,12 @@ module _ (scheme : Scheme) (c : Code) (es : List Entry) (tables tables' : Tables
         acquirer = carried.1 ∙ kept.acquirer;
         foreign = row_put (is_foreign c) foreign_row foreign_row x (transitions_of es) (λ u k d. refl) (map.get tables.acquirer.transfers) (map.get tables'.acquirer.transfers) (ap not other) kept.foreign
             (λ u. changed u ∙ ap (λ (r : IncomingTransfer). if same_id p.id u then Some r else map.get tables.acquirer.transfers u) row);
-        sent = sent_so input x refl sent;
       }
 
   forestalled_kept : (n : Notification) (moment : Moment) (id : TransactionId) → newest (transitions_of es) n.id ≡ None → same_code n.id.code c ≡ false → n.id ≡ id
-      → Carried (Forestall id) tables.initiator tables'.initiator tables.acquirer tables'.acquirer tables.holdings tables'.holdings → tables'.outbox ≡ tables.outbox ++ Sends [] ∷ []
+      → Carried (Forestall id) tables.initiator tables'.initiator tables.acquirer tables'.acquirer tables.holdings tables'.holdings
       → AreKept scheme c (entry (Received (message.Notification n) moment) (bare n.id moment.seconds ∷ []) ∷ es) tables'
-  forestalled_kept n moment id none other same carried sent =
+  forestalled_kept n moment id none other same carried =
       let x = bare n.id moment.seconds in
       let input = Received (message.Notification n) moment in
       let e = entry input (x ∷ []) in
@@ -243,7 +223,6 @@ module _ (scheme : Scheme) (c : Code) (es : List Entry) (tables tables' : Tables
         own = own_stays e x refl other carried.0;
         acquirer = carried.1 ∙ kept.acquirer;
         foreign = row_put (is_foreign c) foreign_row foreign_row x (transitions_of es) (λ u k d. refl) (map.get tables.acquirer.transfers) (map.get tables'.acquirer.transfers) (ap not other) kept.foreign changed;
-        sent = sent_so input x refl sent;
       }
 
   -- its end
@@ -260,9 +239,9 @@ module _ (scheme : Scheme) (c : Code) (es : List Entry) (tables tables' : Tables
 
   cancelled_kept : (n : Notification) (moment : Moment) (q : Transition) (told : Status) (id : TransactionId) → newest (transitions_of es) n.id ≡ Some q → same_code n.id.code c ≡ false
       → acquirer_row (Stands q.new) (Notified (notified_status n.notified)) ≡ Move told → n.id ≡ id → told ≡ Cancelled
-      → Carried (Cancel id) tables.initiator tables'.initiator tables.acquirer tables'.acquirer tables.holdings tables'.holdings → tables'.outbox ≡ tables.outbox ++ Sends [] ∷ []
+      → Carried (Cancel id) tables.initiator tables'.initiator tables.acquirer tables'.acquirer tables.holdings tables'.holdings
       → AreKept scheme c (entry (Received (message.Notification n) moment) (moved q told moment.seconds [] ∷ []) ∷ es) tables'
-  cancelled_kept n moment q told id was other move same status carried sent =
+  cancelled_kept n moment q told id was other move same status carried =
       let x = moved q told moment.seconds [] in
       let input = Received (message.Notification n) moment in
       let e = entry input (x ∷ []) in
@@ -275,7 +254,6 @@ module _ (scheme : Scheme) (c : Code) (es : List Entry) (tables tables' : Tables
         own = own_stays e x refl theirs carried.0;
         acquirer = carried.1 ∙ kept.acquirer;
         foreign = ended_foreign q n.id id told Cancelled moment.seconds was other same status carried.2;
-        sent = sent_so input x refl sent;
       }
 
   -- what comes to its end has a content
@@ -289,9 +267,9 @@ module _ (scheme : Scheme) (c : Code) (es : List Entry) (tables tables' : Tables
 
   completed_kept : (n : Notification) (moment : Moment) (q : Transition) (told : Status) (id : TransactionId) → newest (transitions_of es) n.id ≡ Some q → same_code n.id.code c ≡ false
       → acquirer_row (Stands q.new) (Notified (notified_status n.notified)) ≡ Move told → (same_status told Completed && holds_some scheme c (transitions_of es) q.content) ≡ false → n.id ≡ id → told ≡ Completed
-      → Carried (Complete id) tables.initiator tables'.initiator tables.acquirer tables'.acquirer tables.holdings tables'.holdings → tables'.outbox ≡ tables.outbox ++ Sends [] ∷ []
+      → Carried (Complete id) tables.initiator tables'.initiator tables.acquirer tables'.acquirer tables.holdings tables'.holdings
       → AreKept scheme c (entry (Received (message.Notification n) moment) (moved q told moment.seconds [] ∷ []) ∷ es) tables'
-  completed_kept n moment q told id was other move none same status carried sent =
+  completed_kept n moment q told id was other move none same status carried =
       let x = moved q told moment.seconds [] in
       let input = Received (message.Notification n) moment in
       let e = entry input (x ∷ []) in
@@ -311,7 +289,6 @@ module _ (scheme : Scheme) (c : Code) (es : List Entry) (tables tables' : Tables
         own = own_stays e x refl theirs carried.0;
         acquirer = carried.1 ∙ kept.acquirer;
         foreign = ended_foreign q n.id id told Completed moment.seconds was other same status carried.2;
-        sent = sent_so input x refl sent;
       }
 
   -- ---- any of them
@@ -322,34 +299,44 @@ module _ (scheme : Scheme) (c : Code) (es : List Entry) (tables tables' : Tables
   known_clash : {X : Type 0} (t id : TransactionId) (q : Transition) → t ≡ id → newest (transitions_of es) t ≡ Some q → is_known (transitions_of es) id ≡ false → X
   known_clash t id q same was none = clash (is_known (transitions_of es) id) (ap (is_known (transitions_of es)) (sym same) ∙ ap is_some was) none
 
+  -- a transition opens and closes no account
+  moves_no_account : (input : Input) (x : Transition) (account : ℕ) → RegistryMove scheme c es input x → (IsEffect c es input x (effects.OpenAccount account) → ⊥) × (IsEffect c es input x (effects.CloseAccount account) → ⊥)
+  moves_no_account input x account (proposes o t none is fresh) = (λ h. h, λ h. h)
+  moves_no_account input x account (asks t q was own stood) = (λ h. h, λ h. h)
+  moves_no_account input x account (concludes n moment q told f was own move) = (λ h. h, λ h. h)
+  moves_no_account input x account (bares n moment f cancelled none foreign) = (λ h. h, λ h. h)
+  moves_no_account input x account (finishes n moment q told f was foreign move none) = (λ h. h, λ h. h)
+  moves_no_account input x account (arrives p moment found f s is none foreign mine) = (λ h. h, λ h. h)
+
   pub moved_kept : (input : Input) (x : Transition) (effect : RegistryEffect) → RegistryMove scheme c es input x → IsEffect c es input x effect
-      → Carried effect tables.initiator tables'.initiator tables.acquirer tables'.acquirer tables.holdings tables'.holdings → tables'.outbox ≡ tables.outbox ++ Sends x.messages ∷ []
+      → Carried effect tables.initiator tables'.initiator tables.acquirer tables'.acquirer tables.holdings tables'.holdings
       → AreKept scheme c (entry input (x ∷ []) ∷ es) tables'
-  moved_kept input x (Open new_transfer) (proposes o t none is fresh) h carried sent = opened_kept o t new_transfer none is fresh h.0 (one_some (content_of o) new_transfer.content h.1) carried sent
-  moved_kept input x (Ask id) (asks t q was own stood) h carried sent = asked_kept t q id was own stood h carried sent
-  moved_kept input x (Conclude id new) (concludes n moment q told f was own move) h carried sent = concluded_kept n moment q told id new was own move h.0 h.1 carried sent
-  moved_kept input x (Conclude id new) (bares n moment f cancelled none foreign) h carried sent =
+  moved_kept input x (Open new_transfer) (proposes o t none is fresh) h carried = opened_kept o t new_transfer none is fresh h.0 (one_some (content_of o) new_transfer.content h.1) carried
+  moved_kept input x (Ask id) (asks t q was own stood) h carried = asked_kept t q id was own stood h carried
+  moved_kept input x (Conclude id new) (concludes n moment q told f was own move) h carried = concluded_kept n moment q told id new was own move h.0 h.1 carried
+  moved_kept input x (Conclude id new) (bares n moment f cancelled none foreign) h carried =
       clash (same_code id.code c) h.2 (ap (λ (u : TransactionId). same_code u.code c) (sym h.0) ∙ foreign)
-  moved_kept input x (Conclude id new) (finishes n moment q told f was foreign move none) h carried sent =
+  moved_kept input x (Conclude id new) (finishes n moment q told f was foreign move none) h carried =
       clash (same_code id.code c) h.2 (ap (λ (u : TransactionId). same_code u.code c) (sym h.0) ∙ foreign)
-  moved_kept input x (Arrive id new content) (arrives p moment found f s is none foreign mine) h carried sent = arrived_kept p moment found id new content none foreign h.0 h.1 h.2 carried sent
-  moved_kept input x (Forestall id) (bares n moment f cancelled none foreign) h carried sent = forestalled_kept n moment id none foreign h.0 carried sent
-  moved_kept input x (Forestall id) (concludes n moment q told f was own move) h carried sent = known_clash n.id id q h.0 was h.1
-  moved_kept input x (Forestall id) (finishes n moment q told f was foreign move none) h carried sent = known_clash n.id id q h.0 was h.1
-  moved_kept input x (Complete id) (finishes n moment q told f was foreign move none) h carried sent = completed_kept n moment q told id was foreign move none h.0 h.1 carried sent
-  moved_kept input x (Complete id) (bares n moment f cancelled none foreign) h carried sent = let e : Cancelled ≡ Completed = h.1 in absurd (cc (e))
-  moved_kept input x (Complete id) (concludes n moment q told f was own move) h carried sent = foreign_clash n.id id h.0 own h.2
-  moved_kept input x (Cancel id) (finishes n moment q told f was foreign move none) h carried sent = cancelled_kept n moment q told id was foreign move h.0 h.1 carried sent
-  moved_kept input x (Cancel id) (bares n moment f cancelled none foreign) h carried sent =
+  moved_kept input x (Arrive id new content) (arrives p moment found f s is none foreign mine) h carried = arrived_kept p moment found id new content none foreign h.0 h.1 h.2 carried
+  moved_kept input x (Forestall id) (bares n moment f cancelled none foreign) h carried = forestalled_kept n moment id none foreign h.0 carried
+  moved_kept input x (Forestall id) (concludes n moment q told f was own move) h carried = known_clash n.id id q h.0 was h.1
+  moved_kept input x (Forestall id) (finishes n moment q told f was foreign move none) h carried = known_clash n.id id q h.0 was h.1
+  moved_kept input x (Complete id) (finishes n moment q told f was foreign move none) h carried = completed_kept n moment q told id was foreign move none h.0 h.1 carried
+  moved_kept input x (Complete id) (bares n moment f cancelled none foreign) h carried = let e : Cancelled ≡ Completed = h.1 in absurd (cc (e))
+  moved_kept input x (Complete id) (concludes n moment q told f was own move) h carried = foreign_clash n.id id h.0 own h.2
+  moved_kept input x (Cancel id) (finishes n moment q told f was foreign move none) h carried = cancelled_kept n moment q told id was foreign move h.0 h.1 carried
+  moved_kept input x (Cancel id) (bares n moment f cancelled none foreign) h carried =
       clash (is_known (transitions_of es) id) h.3 (ap (is_known (transitions_of es)) (sym h.0) ∙ ap is_some none)
-  moved_kept input x (Cancel id) (concludes n moment q told f was own move) h carried sent = foreign_clash n.id id h.0 own h.2
-  moved_kept input x effect move h carried sent = absurd h
+  moved_kept input x (Cancel id) (concludes n moment q told f was own move) h carried = foreign_clash n.id id h.0 own h.2
+  moved_kept input x (effects.OpenAccount account) move h carried = absurd ((moves_no_account input x account move).0 h)
+  moved_kept input x (effects.CloseAccount account) move h carried = absurd ((moves_no_account input x account move).1 h)
+  moved_kept input x effect move h carried = absurd h
 
 pub kept_moved : (scheme : Scheme) (c : Code) (tables tables' : Tables) (input : Input) (x : Transition) (effect : RegistryEffect) → IsKept scheme c tables
-    → verdict scheme (Registry c) (history scheme (Registry c) tables.journal.items) input ≡ IsRecorded (x ∷ []) → IsEffect c (history scheme (Registry c) tables.journal.items) input x effect
-    → Carried effect tables.initiator tables'.initiator tables.acquirer tables'.acquirer tables.holdings tables'.holdings → tables'.journal.items ≡ tables.journal.items ++ input ∷ []
-    → tables'.outbox ≡ tables.outbox ++ Sends x.messages ∷ [] → IsKept scheme c tables'
-kept_moved scheme c tables tables' input x effect kept enters h carried journal sent =
-    let es = history scheme (Registry c) tables.journal.items in
-    kept_recorded scheme c tables tables' input (x ∷ []) kept enters journal
-    (moved_kept scheme c es tables tables' kept.kept (replays_entered scheme c tables.journal.items kept.replays) input x effect (entered_move scheme c es input x enters) h carried sent)
+    → verdict scheme (Registry c) (history scheme (Registry c) tables.records.inputs) input ≡ IsRecorded (x ∷ []) → IsEffect c (history scheme (Registry c) tables.records.inputs) input x effect
+    → Carried effect tables.initiator tables'.initiator tables.acquirer tables'.acquirer tables.holdings tables'.holdings → tables'.records.inputs ≡ tables.records.inputs ++ input ∷ [] → AreKept scheme c (history scheme (Registry c) tables'.records.inputs) tables'
+kept_moved scheme c tables tables' input x effect kept enters h carried journal =
+    let es = history scheme (Registry c) tables.records.inputs in
+    kept_recorded scheme c tables tables' input (x ∷ []) enters journal
+    (moved_kept scheme c es tables tables' kept.kept (replays_entered scheme c tables.records.inputs kept.records.replays) input x effect (entered_move scheme c es input x enters) h carried)

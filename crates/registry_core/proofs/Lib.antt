@@ -20,7 +20,7 @@ pub mod EffectsMayBe
 pub mod KeptByMoves
 pub mod TakenInputs
 pub mod KeptByOrders
-pub mod AcknowledgedKeys
+pub mod TakenAcknowledgements
 pub mod DecisionsAndVerdicts
 pub mod CoreReadings
 pub mod RowsOfInputs

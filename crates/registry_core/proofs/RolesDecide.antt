@@ -1,5 +1,5 @@
 -- What a role decided for an input, beside the verdict on it; and what the tables do by that.
-use Rattle.std.proofs.Common.{◌≡◌, ◌+◌, ◌⊎◌, ℕ, true, false, List, [], ◌∷◌, Some, None, Ok, Err, inl, inr, refl, sym, ap, subst, ◌∙◌}
+use Rattle.std.proofs.Common.{append-nil, ◌≡◌, ◌+◌, ◌⊎◌, ℕ, true, false, List, [], ◌∷◌, Some, None, Ok, Err, inl, inr, refl, sym, ap, subst, ◌∙◌}
 use Rattle.std.specs.FinMap.{get}
 use Rattle.std.specs.List.{list_any}
 use Rattle.std.specs.Option.{option_map_or}
@@ -34,7 +34,7 @@ use Rattle.protocol.specs.Cores.{IsExpectedOrNoMemory}
 use Rattle.protocol.specs.Deciding.{by_row, content_in, recorded_if_room, moved, column_of_proposal, refuse}
 use Rattle.protocol.specs.Decisions.{decided, unless}
 use Rattle.protocol.specs.Effects.{acquirer_sends, initiator_sends}
-use Rattle.protocol.specs.History.{Entry, Transition, newest, proposals, transitions_of}
+use Rattle.protocol.specs.History.{Entry, Transition, messages_of, newest, proposals, transitions_of}
 use Rattle.protocol.specs.Pieces.{pieces}
 use Rattle.protocol.specs.Verdict.{history}
 use Rattle.protocol.specs.declared.decision.Decision.{Decision}
@@ -46,7 +46,7 @@ use Rattle.checks.specs.Refusing.{first_of, order_refusals}
 use Rattle.initiator.specs.Transfers as initiator
 use Rattle.acquirer.specs.Transfers as acquirer
 use Rattle.safety.proofs.OneRegistry.TransactionEnds.{own_code}
-use Rattle.registry_core.specs.Effects.{IsEffect, ending}
+use Rattle.registry_core.specs.Effects.{AreEffects, IsEffect, ending}
 use Rattle.registry_core.specs.Kept.{IsKept}
 use Rattle.registry_core.specs.Taking.{Takes, verdict_by_rules}
 use Rattle.registry_core.specs.declared.effect.RegistryEffect.{RegistryEffect}
@@ -59,7 +59,7 @@ use Rattle.registry_core.proofs.TakenInputs.{GivenUp, are_same, verdict_so, take
 
 -- the history of the tables' journal
 abbrev past : Scheme → Code → Tables → List Entry
-past scheme c tables = history scheme (Registry c) tables.journal.items
+past scheme c tables = history scheme (Registry c) tables.records.inputs
 
 -- a role's decision goes by a row, after causes of refusals, and sends messages; and so does the verdict, whose
 -- transition is the one given for a status
@@ -70,6 +70,10 @@ pub record Decided (scheme : Scheme) (c : Code) (tables : Tables) (input : Input
   pub is : IsExpectedOrNoMemory d (unless causes (decided row messages))
   pub row_is : verdict_by_rules scheme c tables input ≡ refuse causes (by_row scheme (past scheme c tables) to row)
   pub sent : (new : Status) → (to new).messages ≡ messages
+
+-- one transition has the effect that it asks for
+one_effect : (c : Code) (es : List Entry) (input : Input) (x : Transition) (effect : RegistryEffect) → IsEffect c es input x effect → AreEffects c es input (x ∷ []) effect
+one_effect c es input x effect h = h
 
 -- ---- what the tables do
 
@@ -85,12 +89,12 @@ module _ {scheme : Scheme} {c : Code} {tables : Tables} {input : Input} {to : St
   takes_too_late h = takes_late scheme c tables input kept (comes_late scheme c tables input to by.causes by.row by.messages d by.is by.row_is h)
 
   pub moves_so : (effect : RegistryEffect) {given : Input} {new : Status} {ms : List Message} → input ≡ given → d ≡ Ok (decision.Moves new ms) → IsEffect c (past scheme c tables) given (to new) effect
-      → (x : Transition) × (verdict_by_rules scheme c tables input ≡ recorded_if_room scheme (past scheme c tables) (x ∷ [])) × (ms ≡ x.messages) × IsEffect c (past scheme c tables) input x effect
+      → (xs : List Transition) × (verdict_by_rules scheme c tables input ≡ recorded_if_room scheme (past scheme c tables) xs) × (ms ≡ messages_of xs) × AreEffects c (past scheme c tables) input xs effect
   moves_so effect {given} {new} {ms} is h e = (
-    to new,
+    to new ∷ [],
     moves scheme c tables input to by.causes by.row by.messages d by.is by.row_is new ms h,
-    sends scheme c tables input to by.causes by.row by.messages d by.is by.row_is new ms h ∙ sym (by.sent new),
-    subst (λ i. IsEffect c (past scheme c tables) i (to new) effect) (sym is) e,
+    sends scheme c tables input to by.causes by.row by.messages d by.is by.row_is new ms h ∙ sym (by.sent new) ∙ sym (append-nil (to new).messages),
+    one_effect c (past scheme c tables) input (to new) effect (subst (λ i. IsEffect c (past scheme c tables) i (to new) effect) (sym is) e),
   )
 
 -- ---- what the roles decide

@@ -43,7 +43,7 @@ use Rattle.registry_core.proofs.TakenInputs.{verdict_so}
 
 module _ (scheme : Scheme) (c : Code) (tables : Tables) (kept : IsKept scheme c tables) where
   abbrev es : List Entry
-  es = history scheme (Registry c) tables.journal.items
+  es = history scheme (Registry c) tables.records.inputs
 
   -- an order whose causes of a refusal don't hold
   pub propose_row : (o : Order) (t : TransactionId) → first_of (order_refusals scheme c (holding scheme c es) (proposals es) o) ≡ None → id_at c (proposals es + 1) ≡ Some t → same_code t.code c ≡ true

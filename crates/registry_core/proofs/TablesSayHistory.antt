@@ -35,7 +35,7 @@ use Rattle.registry_core.proofs.SoundHistories.{sound_history}
 
 -- the history of the tables' journal
 abbrev pub past : Scheme → Code → Tables → List Entry
-past scheme c tables = history scheme (Registry c) tables.journal.items
+past scheme c tables = history scheme (Registry c) tables.records.inputs
 
 -- ---- what each role is asked, of any transition
 
@@ -75,7 +75,7 @@ row_there f (Some x) = refl
 
 module _ (scheme : Scheme) (c : Code) (tables : Tables) (kept : IsKept scheme c tables) where
   recorded : Entered scheme c (past scheme c tables)
-  recorded = replays_entered scheme c tables.journal.items kept.replays
+  recorded = replays_entered scheme c tables.records.inputs kept.records.replays
 
   made_so : Made scheme (Registry c) (past scheme c tables)
   made_so = entered_made scheme c (past scheme c tables) recorded

@@ -1,5 +1,5 @@
 -- What the tables do for a transition. No public contract cites it.
-use Rattle.std.specs.Prelude.{◌≡◌, not, Bool, true, false, cond, List, Option, Some, None, option_map, if◌then◌else◌}
+use Rattle.std.specs.Prelude.{◌≡◌, ℕ, ◌==◌, not, Bool, true, false, cond, List, [], ◌∷◌, Option, Some, None, option_map, if◌then◌else◌}
 use Rattle.std.specs.FinMap as map
 use Rattle.std.specs.Option.{option_or}
 use Rattle.units.specs.Intervals.{labels_that}
@@ -14,10 +14,12 @@ use Rattle.status.specs.declared.id.TransactionId.{TransactionId}
 use Rattle.status.specs.declared.status.Status.{Status}
 use Rattle.status.specs.declared.status.Status.TheVariants.{Completed, Cancelled}
 use Rattle.accounts.specs.Holdings.{HoldingsView, reserved, released, is_reserved_by, free_unit_holding, kind_in}
-use Rattle.accounts.specs.Refusals.{MayReserve}
+use Rattle.accounts.specs.Refusals.{HasUnits, MayReserve}
+use Rattle.accounts.specs.declared.unit_holding.AccountStatus.{AccountStatus}
+use Rattle.accounts.specs.declared.unit_holding.AccountStatus.TheVariants as accounts
 use Rattle.accounts.specs.declared.unit_holding.UnitHolding.{UnitHolding}
 use Rattle.wire.specs.declared.input.Input.{Input}
-use Rattle.wire.specs.declared.input.Input.TheVariants.{Propose, Request, Received}
+use Rattle.wire.specs.declared.input.Input.TheVariants.{Propose, Request, OpenAccount, CloseAccount, Received}
 use Rattle.wire.specs.declared.message.Message.TheVariants as message
 use Rattle.protocol.specs.History.{Entry, Transition, transitions_of, is_known}
 use Rattle.initiator.specs.Transfers as initiator
@@ -28,6 +30,7 @@ use Rattle.acquirer.specs.Transfers.{AcquirerView}
 use Rattle.registry_core.specs.Readings.{is_own, is_foreign}
 use Rattle.registry_core.specs.declared.effect.RegistryEffect.{RegistryEffect}
 use Rattle.registry_core.specs.declared.effect.RegistryEffect.TheVariants.{Open, Ask, Conclude, Arrive, Forestall, Complete, Cancel}
+use Rattle.registry_core.specs.declared.effect.RegistryEffect.TheVariants as effects
 
 -- the effect is what a transition by that input asks for
 abbrev pub IsEffect : Code → List Entry → Input → Transition → RegistryEffect → Type 0
@@ -40,23 +43,32 @@ IsEffect c es (Received (message.Notification n) moment) x (Complete id) = (n.id
 IsEffect c es (Received (message.Notification n) moment) x (Cancel id) = (n.id ≡ id) × (x.new ≡ Cancelled) × (is_foreign c id ≡ true) × (is_known (transitions_of es) id ≡ true)
 IsEffect c es _ x _ = ⊥
 
+-- the effect is what a record of that input with these transitions asks for
+abbrev pub AreEffects : Code → List Entry → Input → List Transition → RegistryEffect → Type 0
+AreEffects c es input (x ∷ []) effect = IsEffect c es input x effect
+AreEffects c es (OpenAccount n) [] (effects.OpenAccount account) = n.value ≡ account
+AreEffects c es (CloseAccount n) [] (effects.CloseAccount account) = n.value ≡ account
+AreEffects c es input _ effect = ⊥
+
 -- what ends a transfer to the registry, which it may know
 abbrev pub ending : Bool → TransactionId → Status → RegistryEffect
 ending false id new = Forestall id
 ending true id new = cond (same_status new Completed) (Complete id) (Cancel id)
 
--- what a new transfer asks for may be reserved
-abbrev pub IsReservable : RegistryEffect → HoldingsView → Type 0
-IsReservable (Open new_transfer) held = (blocks : List Block) → raws blocks ≡ new_transfer.content.units → MayReserve held new_transfer.content.account blocks
-IsReservable _ held = Unit {0}
+-- the holdings allow what a new transfer, or an order on an account, asks for
+abbrev pub IsAllowed : RegistryEffect → HoldingsView → Type 0
+IsAllowed (Open new_transfer) held = (blocks : List Block) → raws blocks ≡ new_transfer.content.units → MayReserve held new_transfer.content.account blocks
+IsAllowed (effects.OpenAccount account) held = map.get held.accounts account ≡ Some accounts.Closed
+IsAllowed (effects.CloseAccount account) held = (map.get held.accounts account ≡ Some accounts.Open) × (HasUnits held account → ⊥)
+IsAllowed _ held = Unit {0}
 
 -- what an effect may be carried out on
 abbrev pub MayCarry : RegistryEffect → InitiatorView → AcquirerView → HoldingsView → Type 0
-MayCarry (Open new_transfer) i a held = (map.get i.transfers new_transfer.id ≡ None) × ((blocks : List Block) → raws blocks ≡ new_transfer.content.units → MayReserve held new_transfer.content.account blocks)
+MayCarry (Open new_transfer) i a held = (map.get i.transfers new_transfer.id ≡ None) × IsAllowed (Open new_transfer) held
 MayCarry (Arrive id new content) i a held = map.get a.transfers id ≡ None
 MayCarry (Forestall id) i a held = map.get a.transfers id ≡ None
 MayCarry (Complete id) i a held = (k : Content) → acquirer.kept_content (map.get a.transfers id) ≡ Some k → MayCredit held k
-MayCarry _ i a held = Unit {0}
+MayCarry effect i a held = IsAllowed effect held
 
 -- ---- what an effect leaves
 
@@ -67,6 +79,10 @@ ChangedAt id change m m' = (t : TransactionId) → map.get m' t ≡ (if same_id 
 -- the accounts are as they were, and each unit's holding is as told
 abbrev pub UnitHoldingsAre : HoldingsView → HoldingsView → (Serial → Option UnitHolding) → Type 0
 UnitHoldingsAre held held' unit_holding = (held'.accounts ≡ held.accounts) × ((s : Serial) → map.get held'.unit_holdings s ≡ unit_holding s)
+
+-- the units are held as they were, and one account has that status
+abbrev pub AccountBecomes : ℕ → AccountStatus → HoldingsView → HoldingsView → Type 0
+AccountBecomes account status held held' = (held'.unit_holdings ≡ held.unit_holdings) × ((n : ℕ) → map.get held'.accounts n ≡ (if n == account then Some status else map.get held.accounts n))
 
 abbrev pub Carried : RegistryEffect → (i i' : InitiatorView) (a a' : AcquirerView) (held held' : HoldingsView) → Type 0
 Carried (Open new_transfer) i i' a a' held held' =
@@ -84,3 +100,5 @@ Carried (Complete id) i i' a a' held held' =
     (i' ≡ i) × (a'.code ≡ a.code) × ChangedAt id (option_map (acquirer.finished Completed)) a.transfers a'.transfers × (held'.accounts ≡ held.accounts)
     × ((k : Content) → acquirer.kept_content (map.get a.transfers id) ≡ Some k → (blocks : List Block) × (raws blocks ≡ k.units) × ((s : Serial) → map.get held'.unit_holdings s ≡ option_or (option_map (free_unit_holding k.to_account) (kind_in blocks s)) (map.get held.unit_holdings s)))
 Carried (Cancel id) i i' a a' held held' = (i' ≡ i) × (a'.code ≡ a.code) × ChangedAt id (option_map (acquirer.finished Cancelled)) a.transfers a'.transfers × (held' ≡ held)
+Carried (effects.OpenAccount account) i i' a a' held held' = (i' ≡ i) × (a' ≡ a) × AccountBecomes account accounts.Open held held'
+Carried (effects.CloseAccount account) i i' a a' held held' = (i' ≡ i) × (a' ≡ a) × AccountBecomes account accounts.Closed held held'

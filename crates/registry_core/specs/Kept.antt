@@ -6,10 +6,9 @@ use Rattle.units.specs.declared.code.Code.{Code}
 use Rattle.units.specs.declared.code.Node.TheVariants.{Registry}
 use Rattle.status.specs.declared.id.TransactionId.{TransactionId}
 use Rattle.scheme.specs.declared.registries.Scheme.{Scheme}
-use Rattle.protocol.specs.Cores.{Replays}
+use Rattle.protocol.specs.Cores.{AreRecordsOf}
 use Rattle.protocol.specs.History.{Entry, transitions_of, proposals}
 use Rattle.protocol.specs.Verdict.{history}
-use Rattle.outbox.specs.Outgoing.{outgoing}
 use Rattle.registry_core.specs.Readings.{unit_holding_at, account_status_at, row_at, is_own, is_foreign, own_row, foreign_row}
 use Rattle.registry_core.specs.declared.tables.Tables.{Tables}
 
@@ -22,9 +21,8 @@ pub record AreKept (scheme : Scheme) (c : Code) (es : List Entry) (tables : Tabl
   pub own : (t : TransactionId) → map.get tables.initiator.transfers t ≡ row_at (is_own c) (own_row es) (transitions_of es) t
   pub acquirer : tables.acquirer.code ≡ c
   pub foreign : (t : TransactionId) → map.get tables.acquirer.transfers t ≡ row_at (is_foreign c) foreign_row (transitions_of es) t
-  pub sent : tables.outbox ≡ outgoing es
 
--- of the journal's history, each of whose records was recorded
+-- of the history of its records
 pub record IsKept (scheme : Scheme) (c : Code) (tables : Tables) : Type 0 where
-  pub replays : Replays scheme (Registry c) tables.journal.items
-  pub kept : AreKept scheme c (history scheme (Registry c) tables.journal.items) tables
+  pub records : AreRecordsOf scheme (Registry c) tables.records.inputs tables.records
+  pub kept : AreKept scheme c (history scheme (Registry c) tables.records.inputs) tables

@@ -5,19 +5,20 @@ use Rattle.units.specs.declared.code.Node.TheVariants.{Registry}
 use Rattle.units.specs.declared.refusal.Refusal.{Refusal}
 use Rattle.wire.specs.declared.input.Input.{Input}
 use Rattle.scheme.specs.declared.registries.Scheme.{Scheme}
-use Rattle.protocol.specs.Cores.{IsExpectedOrNoMemory, after, answer}
 use Rattle.protocol.specs.Deciding.{Verdict}
+use Rattle.protocol.specs.Taking.{TakesInto}
 use Rattle.protocol.specs.Verdict.{verdict, history}
 use Rattle.protocol.specs.declared.node_core.Stepped.{Stepped}
-use Rattle.registry_core.specs.Kept.{IsKept}
+use Rattle.registry_core.specs.Kept.{AreKept}
 use Rattle.registry_core.specs.declared.tables.Tables.{Tables}
 
 -- the verdict on the input after the tables' journal
 abbrev pub verdict_by_rules : Scheme → Code → Tables → Input → Verdict
-verdict_by_rules scheme c tables input = verdict scheme (Registry c) (history scheme (Registry c) tables.journal.items) input
+verdict_by_rules scheme c tables input = verdict scheme (Registry c) (history scheme (Registry c) tables.records.inputs) input
 
--- the result is the expected one, the journal has the input where it was recorded, and the tables follow the journal
+-- the records take the input, and the tables follow them
 pub record Takes (scheme : Scheme) (c : Code) (tables tables' : Tables) (input : Input) (result : Result Stepped Refusal) : Type 0 where
-  pub answer_is : IsExpectedOrNoMemory result (answer scheme (Registry c) tables.journal.items input)
-  pub journal_is : tables'.journal.items ≡ after tables.journal.items input result
-  pub kept : IsKept scheme c tables'
+  pub taken : TakesInto scheme (Registry c) tables.records tables'.records input result
+  pub kept : AreKept scheme c (history scheme (Registry c) tables'.records.inputs) tables'
+  pub scheme_is : tables'.scheme ≡ tables.scheme
+  pub code_is : tables'.code ≡ tables.code

@@ -1,4 +1,4 @@
-//! What a transition does to a registry's tables.
+//! What a record does to a registry's tables.
 ghost use Rattle.std.specs.Prelude.{◌≡◌, IfErr, OnErr, OnOk};
 ghost use Rattle.registry_core.specs.Effects.{Carried, MayCarry};
 ghost use Rattle.units.specs.RefusalCodes.{out_of_memory};
@@ -10,7 +10,7 @@ use initiator::Initiator;
 use status::{Content, Status, TransactionId};
 use units::Refusal;
 
-/// What a transition does to a registry's tables.
+/// What a record does to a registry's tables.
 #[derive(Drop)]
 pub(crate) enum RegistryEffect {
     /// The new transfer is Proposed, and its units are reserved.
@@ -34,6 +34,10 @@ pub(crate) enum RegistryEffect {
     Complete(TransactionId),
     /// A transfer to the registry that had come is Cancelled.
     Cancel(TransactionId),
+    /// The account of that number, which is closed, is open.
+    OpenAccount(u64),
+    /// The account of that number, which is open and holds nothing, is closed.
+    CloseAccount(u64),
 }
 
 /// Carries the effect out. After `OUT_OF_MEMORY`, with which alone it fails, nothing has changed.
@@ -58,6 +62,8 @@ pub(crate) fn carry_out(
         RegistryEffect::Forestall(id) => acquirer.forestall(id)?,
         RegistryEffect::Complete(id) => acquirer.complete(holdings, id)?,
         RegistryEffect::Cancel(id) => acquirer.cancel(id),
+        RegistryEffect::OpenAccount(account) => holdings.open_account(account)?,
+        RegistryEffect::CloseAccount(account) => holdings.close_account(account)?,
     }
     Ok(())
 }

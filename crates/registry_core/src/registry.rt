@@ -15,24 +15,21 @@ use crate::tables::Tables;
 use accounts::{HeldBlock, Holdings};
 use acquirer::Acquirer;
 use initiator::Initiator;
-use outbox::Outbox;
 use protocol::{NodeCore, Stepped};
+use records::Records;
 use scheme::Scheme;
 use status::{Status, TransactionId};
 use std::alloc::Global;
 use std::marker::Model;
 use units::refusal_code::NO_ROW;
 use units::{Code, NoMemory, Node, Refusal, Unit};
-use wire::{Input, Message};
+use wire::Input;
 
 /// A registry of a scheme: the journal of the inputs that it recorded, and beside it what the journal says of its
 /// units, its accounts, its transfers in each role, and its messages. In contracts it is its scheme, its code, and
 /// its journal.
 #[derive(Debug, Drop)]
 pub struct RegistryCore {
-    alloc: Global,
-    scheme: Scheme,
-    code: Code,
     tables: Tables,
 }
 
@@ -46,22 +43,26 @@ impl Model for RegistryCore {
 
     ghost coded = { Prim.hlevel (codes, kept_scheme.the_row.coded) };
 
-    ghost view = { λ s. record { scheme = s.scheme; code = s.code; journal = s.tables.journal.items } };
+    ghost view = { λ s. record { scheme = s.tables.scheme; code = s.tables.code; journal = s.tables.records.inputs } };
 
-    ghost invariant = { λ s. IsKept s.scheme s.code s.tables };
+    ghost invariant = { λ s. IsKept s.tables.scheme s.tables.code s.tables };
 }
 
 /// The tables of that registry before any record; or `NoMemory`.
 fn opening_tables(alloc: Global, scheme: &Scheme, code: Code) -> Result<Tables, NoMemory>
     ensures kept { IfOk result (IsKept scheme.now code) }
-    ensures journal { IfOk result (λ t. t.journal.items ≡ []) }
+    ensures scheme { IfOk result (λ t. t.scheme ≡ scheme.now) }
+    ensures code { IfOk result (λ t. t.code ≡ code) }
+    ensures journal { IfOk result (λ t. t.records.inputs ≡ []) }
 {
     Ok(Tables {
-        journal: Vec::new(alloc),
+        alloc,
+        scheme: scheme.copy(alloc)?,
+        code,
+        records: Records::new(alloc),
         holdings: opening_holdings(alloc, scheme, code)?,
         initiator: Initiator::new(alloc, code),
         acquirer: Acquirer::new(alloc, code),
-        outbox: Outbox::new(alloc),
     })
 }
 
@@ -71,12 +72,8 @@ impl RegistryCore {
     pub fn new(alloc: Global, scheme: &Scheme, code: Code) -> Result<RegistryCore, NoMemory>
         ensures { IfOk result (λ r. r ≡ record { scheme = scheme.now; code = code; journal = [] }) }
     {
-        Ok(RegistryCore {
-            alloc,
-            scheme: scheme.copy(alloc)?,
-            code,
-            tables: opening_tables(alloc, scheme, code)?,
-        })
+        let tables = opening_tables(alloc, scheme, code)?;
+        Ok(RegistryCore { tables })
     }
 
     /// The units that it holds, and how its accounts stand. A unit is in the account, and of the kind, with which it
@@ -96,7 +93,7 @@ impl RegistryCore {
     pub fn lines(&self) -> Result<Vec<HeldBlock>, NoMemory>
         ensures { IfOk result (λ lines. AreHoldings self.now lines.items) }
     {
-        self.tables.holdings.lines(self.alloc)
+        self.tables.holdings.lines(self.tables.alloc)
     }
 
     /// Whether it holds the unit. The unit counts there once or not at all, whatever the registry was given, forged
@@ -140,68 +137,35 @@ impl NodeCore for RegistryCore {
     ghost lacked_memory = { λ _ _. Unit {0} };
 
     fn node(&self) -> Node {
-        Node::Registry(self.code)
+        Node::Registry(self.tables.code)
     }
 
-    fn journal(&self) -> &[Input] {
-        self.tables.journal.as_slice()
+    fn recorded(&self) -> &Records {
+        &self.tables.records
     }
 
     fn step(&mut self, input: &Input) -> Result<Stepped, Refusal> {
-        let (alloc, scheme, code) = (self.alloc, &self.scheme, self.code);
         match input {
-            Input::Propose(order) => self.tables.propose(alloc, scheme, code, input, order),
-            Input::Request(id) => self.tables.request(alloc, scheme, code, input, *id),
-            Input::OpenAccount(account) => {
-                self.tables
-                    .open_account(alloc, scheme, code, input, *account)
-            }
-            Input::CloseAccount(account) => {
-                self.tables
-                    .close_account(alloc, scheme, code, input, *account)
-            }
-            Input::Ack(key) => self.tables.acknowledge(scheme, code, input, *key),
-            Input::Received { message, .. } => {
-                self.tables.receive(alloc, scheme, code, input, message)
-            }
+            Input::Propose(order) => self.tables.propose(input, order),
+            Input::Request(id) => self.tables.request(input, *id),
+            Input::OpenAccount(account) => self.tables.open_account(input, *account),
+            Input::CloseAccount(account) => self.tables.close_account(input, *account),
+            Input::Ack(key) => self.tables.acknowledge(input, *key),
+            Input::Received { message, .. } => self.tables.receive(input, message),
             Input::CleanUp(_) => Err(Refusal { code: NO_ROW }),
             Input::Eligible { .. } => Err(Refusal { code: NO_ROW }),
         }
     }
 
-    fn outbox(&self, key: usize) -> Option<&Message> {
-        self.tables.outbox.message(key)
-    }
-
-    fn acknowledged(&self, key: usize) -> bool {
-        self.tables.outbox.is_acknowledged(key)
-    }
-
-    fn sends(&self) -> usize {
-        self.tables.outbox.sends()
-    }
-
-    fn records(&self) -> usize {
-        self.tables.journal.len()
-    }
-
     fn status_of(&self, id: TransactionId) -> Option<Status> {
-        if id.code == self.code {
+        if id.code == self.tables.code {
             self.tables.initiator.status_of(id)
         } else {
             self.tables.acquirer.status_of(id)
         }
     }
 
-    fn sent_by(&self, records: usize) -> usize {
-        self.tables.outbox.sent_by(records)
-    }
-
-    fn next_unacknowledged(&self, peer: Node, from: usize) -> Option<usize> {
-        self.tables.outbox.next_unacknowledged(peer, from)
-    }
-
     fn fresh(&self) -> Result<RegistryCore, NoMemory> {
-        RegistryCore::new(self.alloc, &self.scheme, self.code)
+        RegistryCore::new(self.tables.alloc, &self.tables.scheme, self.tables.code)
     }
 }

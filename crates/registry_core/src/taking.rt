@@ -17,39 +17,24 @@ use crate::effect::RegistryEffect;
 use crate::refusals::message_refusal;
 use crate::tables::Tables;
 use protocol::{Decision, Stepped};
-use scheme::Scheme;
 use status::{Order, Status, TransactionId};
-use std::alloc::Global;
+use units::Refusal;
 use units::refusal_code::NO_ROW;
-use units::{Code, Refusal};
 use wire::{Input, Message, Notification, Proposal};
 
 impl Tables {
     /// Takes an order to transfer units.
-    pub(crate) fn propose(
-        &mut self,
-        alloc: Global,
-        scheme: &Scheme,
-        code: Code,
-        input: &Input,
-        order: &Order,
-    ) -> Result<Stepped, Refusal>
-        requires kept { IsKept scheme.now code self.old }
+    pub(crate) fn propose(&mut self, input: &Input, order: &Order) -> Result<Stepped, Refusal>
+        requires kept { IsKept self.old.scheme self.old.code self.old }
         requires input { input.now ≡ inputs.Propose order.now }
-        ensures { Takes scheme.now code self.old self.new input.now result }
+        ensures { Takes self.old.scheme self.old.code self.old self.new input.now result }
     {
         let new_transfer = self
             .initiator
-            .new_transfer(alloc, scheme, &self.holdings, order)?;
-        match self.initiator.propose(alloc, &new_transfer)? {
+            .new_transfer(self.alloc, &self.scheme, &self.holdings, order)?;
+        match self.initiator.propose(self.alloc, &new_transfer)? {
             Decision::Moves { messages, .. } => {
-                self.record(
-                    scheme,
-                    code,
-                    input,
-                    RegistryEffect::Open(new_transfer),
-                    messages,
-                )
+                self.record(input, RegistryEffect::Open(new_transfer), messages)
             }
             Decision::Repeat => Ok(Stepped::Repeat),
             Decision::Late => Ok(Stepped::Late),
@@ -57,21 +42,14 @@ impl Tables {
     }
 
     /// Takes an order to ask for the transfer's cancellation.
-    pub(crate) fn request(
-        &mut self,
-        alloc: Global,
-        scheme: &Scheme,
-        code: Code,
-        input: &Input,
-        id: TransactionId,
-    ) -> Result<Stepped, Refusal>
-        requires kept { IsKept scheme.now code self.old }
+    pub(crate) fn request(&mut self, input: &Input, id: TransactionId) -> Result<Stepped, Refusal>
+        requires kept { IsKept self.old.scheme self.old.code self.old }
         requires input { input.now ≡ inputs.Request id }
-        ensures { Takes scheme.now code self.old self.new input.now result }
+        ensures { Takes self.old.scheme self.old.code self.old self.new input.now result }
     {
-        match self.initiator.request(alloc, id)? {
+        match self.initiator.request(self.alloc, id)? {
             Decision::Moves { messages, .. } => {
-                self.record(scheme, code, input, RegistryEffect::Ask(id), messages)
+                self.record(input, RegistryEffect::Ask(id), messages)
             }
             Decision::Repeat => Ok(Stepped::Repeat),
             Decision::Late => Ok(Stepped::Late),
@@ -79,54 +57,43 @@ impl Tables {
     }
 
     /// Takes a message.
-    pub(crate) fn receive(
-        &mut self,
-        alloc: Global,
-        scheme: &Scheme,
-        code: Code,
-        input: &Input,
-        message: &Message,
-    ) -> Result<Stepped, Refusal>
-        requires kept { IsKept scheme.now code self.old }
+    pub(crate) fn receive(&mut self, input: &Input, message: &Message) -> Result<Stepped, Refusal>
+        requires kept { IsKept self.old.scheme self.old.code self.old }
         requires input { (moment : Moment) × (input.now ≡ inputs.Received message.now moment) }
-        ensures { Takes scheme.now code self.old self.new input.now result }
+        ensures { Takes self.old.scheme self.old.code self.old self.new input.now result }
     {
-        if let Some(refused) = message_refusal(code, &self.initiator, &self.acquirer, message) {
+        if let Some(refused) = message_refusal(
+            self.code,
+            &self.initiator,
+            &self.acquirer,
+            message,
+        ) {
             return Err(Refusal { code: refused });
         }
         match message {
-            Message::Proposal(proposal) => self.arrive(alloc, scheme, code, input, proposal),
-            Message::Notification(notification) => {
-                self.take_notification(alloc, scheme, code, input, notification)
-            }
+            Message::Proposal(proposal) => self.arrive(input, proposal),
+            Message::Notification(notification) => { self.take_notification(input, notification) }
             Message::Request(_) => Err(Refusal { code: NO_ROW }),
         }
     }
 
     /// Takes a proposal that isn't refused for what it is.
-    fn arrive(
-        &mut self,
-        alloc: Global,
-        scheme: &Scheme,
-        code: Code,
-        input: &Input,
-        proposal: &Proposal,
-    ) -> Result<Stepped, Refusal>
-        requires kept { IsKept scheme.now code self.old }
+    fn arrive(&mut self, input: &Input, proposal: &Proposal) -> Result<Stepped, Refusal>
+        requires kept { IsKept self.old.scheme self.old.code self.old }
         requires input { (moment : Moment) × (input.now ≡ inputs.Received (messages.Proposal proposal.now) moment) }
-        requires welcome { first_of (registry_refusals code (history scheme.now (Registry code) self.old.journal.items)
+        requires welcome { first_of (registry_refusals self.old.code (history self.old.scheme (Registry self.old.code) self.old.records.inputs)
             (messages.Proposal proposal.now)) ≡ None }
-        ensures { Takes scheme.now code self.old self.new input.now result }
+        ensures { Takes self.old.scheme self.old.code self.old self.new input.now result }
     {
         let (id, content) = (proposal.id, &proposal.content);
         match self
             .acquirer
-            .proposal(alloc, scheme, &self.holdings, id, content)?
+            .proposal(self.alloc, &self.scheme, &self.holdings, id, content)?
         {
             Decision::Moves { new, messages } => {
                 let content = content.copy()?;
                 let effect = RegistryEffect::Arrive { id, new, content };
-                self.record(scheme, code, input, effect, messages)
+                self.record(input, effect, messages)
             }
             Decision::Repeat => Ok(Stepped::Repeat),
             Decision::Late => Ok(Stepped::Late),
@@ -136,53 +103,37 @@ impl Tables {
     /// Takes a notification that isn't refused for what it is.
     fn take_notification(
         &mut self,
-        alloc: Global,
-        scheme: &Scheme,
-        code: Code,
         input: &Input,
         notification: &Notification,
     ) -> Result<Stepped, Refusal>
-        requires kept { IsKept scheme.now code self.old }
+        requires kept { IsKept self.old.scheme self.old.code self.old }
         requires input { (moment : Moment)
             × (input.now ≡ inputs.Received (messages.Notification notification.now) moment) }
-        requires welcome { first_of (registry_refusals code (history scheme.now (Registry code) self.old.journal.items)
+        requires welcome { first_of (registry_refusals self.old.code (history self.old.scheme (Registry self.old.code) self.old.records.inputs)
             (messages.Notification notification.now)) ≡ None }
-        ensures { Takes scheme.now code self.old self.new input.now result }
+        ensures { Takes self.old.scheme self.old.code self.old self.new input.now result }
     {
-        if notification.id.code == code {
-            self.conclude(alloc, scheme, code, input, notification)
+        if notification.id.code == self.code {
+            self.conclude(input, notification)
         } else {
-            self.finish(alloc, scheme, code, input, notification)
+            self.finish(input, notification)
         }
     }
 
     /// Takes a notification about a transfer out of the registry.
-    fn conclude(
-        &mut self,
-        alloc: Global,
-        scheme: &Scheme,
-        code: Code,
-        input: &Input,
-        notification: &Notification,
-    ) -> Result<Stepped, Refusal>
-        requires kept { IsKept scheme.now code self.old }
+    fn conclude(&mut self, input: &Input, notification: &Notification) -> Result<Stepped, Refusal>
+        requires kept { IsKept self.old.scheme self.old.code self.old }
         requires input { (moment : Moment)
             × (input.now ≡ inputs.Received (messages.Notification notification.now) moment) }
-        requires welcome { first_of (registry_refusals code (history scheme.now (Registry code) self.old.journal.items)
+        requires welcome { first_of (registry_refusals self.old.code (history self.old.scheme (Registry self.old.code) self.old.records.inputs)
             (messages.Notification notification.now)) ≡ None }
-        requires own { same_code notification.now.id.code code ≡ true }
-        ensures { Takes scheme.now code self.old self.new input.now result }
+        requires own { same_code notification.now.id.code self.old.code ≡ true }
+        ensures { Takes self.old.scheme self.old.code self.old self.new input.now result }
     {
         let (id, told) = (notification.id, notification.notified.status());
-        match self.initiator.notice(alloc, id, told)? {
+        match self.initiator.notice(self.alloc, id, told)? {
             Decision::Moves { new, messages } => {
-                self.record(
-                    scheme,
-                    code,
-                    input,
-                    RegistryEffect::Conclude { id, new },
-                    messages,
-                )
+                self.record(input, RegistryEffect::Conclude { id, new }, messages)
             }
             Decision::Repeat => Ok(Stepped::Repeat),
             Decision::Late => Ok(Stepped::Late),
@@ -190,27 +141,20 @@ impl Tables {
     }
 
     /// Takes a notification about a transfer to the registry.
-    fn finish(
-        &mut self,
-        alloc: Global,
-        scheme: &Scheme,
-        code: Code,
-        input: &Input,
-        notification: &Notification,
-    ) -> Result<Stepped, Refusal>
-        requires kept { IsKept scheme.now code self.old }
+    fn finish(&mut self, input: &Input, notification: &Notification) -> Result<Stepped, Refusal>
+        requires kept { IsKept self.old.scheme self.old.code self.old }
         requires input { (moment : Moment)
             × (input.now ≡ inputs.Received (messages.Notification notification.now) moment) }
-        requires welcome { first_of (registry_refusals code (history scheme.now (Registry code) self.old.journal.items)
+        requires welcome { first_of (registry_refusals self.old.code (history self.old.scheme (Registry self.old.code) self.old.records.inputs)
             (messages.Notification notification.now)) ≡ None }
-        requires foreign { same_code notification.now.id.code code ≡ false }
-        ensures { Takes scheme.now code self.old self.new input.now result }
+        requires foreign { same_code notification.now.id.code self.old.code ≡ false }
+        ensures { Takes self.old.scheme self.old.code self.old self.new input.now result }
     {
         let (id, told) = (notification.id, notification.notified.status());
-        match self.acquirer.notice(alloc, &self.holdings, id, told)? {
+        match self.acquirer.notice(self.alloc, &self.holdings, id, told)? {
             Decision::Moves { new, messages } => {
                 let effect = self.ending(id, new);
-                self.record(scheme, code, input, effect, messages)
+                self.record(input, effect, messages)
             }
             Decision::Repeat => Ok(Stepped::Repeat),
             Decision::Late => Ok(Stepped::Late),

@@ -1,7 +1,7 @@
 //! Calls of stores, each made again where memory ran out.
 
-use crate::records::{are_two, two};
 use crate::same::assert_same;
+use crate::sample_records::{are_two, two};
 use desk::stores::{NodeStore, StoreFault};
 use protocol::wire::Input;
 use std::alloc::Global;

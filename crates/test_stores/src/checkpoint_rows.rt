@@ -5,8 +5,8 @@ use crate::fused_files::{
     FOREVER, RoomyFiles, RoomyStore, after_losses, assert_refused, closed, copied, have_blown,
     new_files, open_as, opened, with_bytes,
 };
-use crate::records::{are_two, two};
 use crate::roomy::Roomy;
+use crate::sample_records::{are_two, two};
 use desk::stores::{NodeStore, StoreFault};
 use sqlite::{File, Files};
 use sqlite_disk::{Disk, Fuse};

@@ -1,8 +1,8 @@
 //! Orders and messages, one after the other, until nothing is left to be sent.
 
 use crate::links::Link;
-use crate::records::record;
 use crate::same::room;
+use crate::sample_records::record;
 use desk::Told;
 use exchanges::{Counted, Exchange, exchange};
 use protocol::status::{Moment, TransactionId};

@@ -4,8 +4,8 @@ use crate::fused_files::{
     FOREVER, RoomyFiles, RoomyStore, after_losses, assert_refused, changed, closed, have_blown,
     new_files, open_as, opened, refused, registry,
 };
-use crate::records::{ACCEPTED, PROPOSE, has_text, two};
 use crate::same::assert_same;
+use crate::sample_records::{ACCEPTED, PROPOSE, has_text, two};
 use desk::stores::{NodeStore, StoreFault};
 use sqlite::File;
 use sqlite_disk::Disk;

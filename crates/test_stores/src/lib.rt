@@ -29,13 +29,13 @@ mod migration_rows;
 #[cfg(test)]
 mod old_stores;
 #[cfg(test)]
-mod records;
-#[cfg(test)]
 mod reopening_rows;
 #[cfg(test)]
 mod roomy;
 #[cfg(test)]
 mod same;
+#[cfg(test)]
+mod sample_records;
 #[cfg(test)]
 mod stumble;
 #[cfg(test)]

@@ -4,8 +4,8 @@ use crate::fused_files::{
 };
 use crate::links::new_core;
 use crate::old_stores::{PROPOSE_ONE, old_files};
-use crate::records::{PROPOSE, has_text};
 use crate::same::assert_same;
+use crate::sample_records::{PROPOSE, has_text};
 use desk::State;
 use desk::stores::{NodeStore, StoreFault};
 use protocol::NodeCore;

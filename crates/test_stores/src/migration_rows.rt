@@ -2,8 +2,8 @@ use crate::fused_files::{RoomyFiles, assert_refused, changed, closed, open_as, r
 use crate::old_stores::{
     ACCEPTED_ONE, PROPOSE_ONE, assert_format, old_files, old_files_entries_first,
 };
-use crate::records::{ACCEPTED, PROPOSE};
 use crate::same::{assert_same, room};
+use crate::sample_records::{ACCEPTED, PROPOSE};
 use desk::stores::{NodeStore, StoreFault};
 use operator::show;
 use std::alloc::Global;

@@ -1,5 +1,5 @@
 use crate::same::assert_same;
-use outbox::Outbox;
+use protocol::records::Outbox;
 use protocol::status::TransactionId;
 use protocol::units::{Code, NoMemory, Node};
 use protocol::wire::{Message, Request};

@@ -5,8 +5,8 @@ ghost use Rattle.std.specs.Prelude.{◌≡◌, ◌↔◌, [], IfNone, IfOk, IfSo
 ghost use Rattle.status.specs.Id.{id_cmp};
 ghost use Rattle.weave.specs.Steps.{AreAllNumbered, Fits, IsNextBy, IsNotRecorded, Waits, whole_at, without_tails};
 
+use crate::committed::next_input;
 use crate::numbers::number_in_bag;
-use crate::records::next_input;
 use protocol::WorldEvent;
 use status::{Moment, TransactionId};
 use std::collections::BTreeMap;

@@ -2,7 +2,7 @@
 ghost use Rattle.std.specs.Prelude.{◌≡◌, IfNone, IfSome, length};
 ghost use Rattle.weave.specs.Left.{AreDoneBelow, IsLeft, count_at};
 
-use crate::records::committed_count;
+use crate::committed::committed_count;
 use protocol::index_of;
 use scheme::Scheme;
 use units::Node;

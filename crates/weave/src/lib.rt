@@ -1,13 +1,13 @@
 //! From journals of all nodes back to one run: a list of events that leads to them, or that there is none.
 #![tactic(auto)]
 
+mod committed;
 mod cores;
 mod fault;
 mod following;
 mod giving;
 mod left;
 mod numbers;
-mod records;
 mod watch;
 mod weaving;
 

@@ -2,12 +2,13 @@
 
 use log_core::LogCore;
 use protocol::{NodeCore, Stepped};
+use records::Records;
 use registry_core::RegistryCore;
 use scheme::Scheme;
 use status::{Status, TransactionId};
 use std::alloc::Global;
 use units::{NoMemory, Node, Refusal};
-use wire::{Input, Message};
+use wire::Input;
 
 /// The core of a registry, or of the log.
 #[derive(Debug, Drop)]
@@ -49,10 +50,10 @@ impl NodeCore for Core {
         }
     }
 
-    fn journal(&self) -> &[Input] {
+    fn recorded(&self) -> &Records {
         match self {
-            Core::Registry(core) => core.journal(),
-            Core::Log(core) => core.journal(),
+            Core::Registry(core) => core.recorded(),
+            Core::Log(core) => core.recorded(),
         }
     }
 
@@ -63,52 +64,10 @@ impl NodeCore for Core {
         }
     }
 
-    fn outbox(&self, key: usize) -> Option<&Message> {
-        match self {
-            Core::Registry(core) => core.outbox(key),
-            Core::Log(core) => core.outbox(key),
-        }
-    }
-
-    fn acknowledged(&self, key: usize) -> bool {
-        match self {
-            Core::Registry(core) => core.acknowledged(key),
-            Core::Log(core) => core.acknowledged(key),
-        }
-    }
-
-    fn sends(&self) -> usize {
-        match self {
-            Core::Registry(core) => core.sends(),
-            Core::Log(core) => core.sends(),
-        }
-    }
-
-    fn records(&self) -> usize {
-        match self {
-            Core::Registry(core) => core.records(),
-            Core::Log(core) => core.records(),
-        }
-    }
-
     fn status_of(&self, id: TransactionId) -> Option<Status> {
         match self {
             Core::Registry(core) => core.status_of(id),
             Core::Log(core) => core.status_of(id),
-        }
-    }
-
-    fn sent_by(&self, records: usize) -> usize {
-        match self {
-            Core::Registry(core) => core.sent_by(records),
-            Core::Log(core) => core.sent_by(records),
-        }
-    }
-
-    fn next_unacknowledged(&self, peer: Node, from: usize) -> Option<usize> {
-        match self {
-            Core::Registry(core) => core.next_unacknowledged(peer, from),
-            Core::Log(core) => core.next_unacknowledged(peer, from),
         }
     }
 

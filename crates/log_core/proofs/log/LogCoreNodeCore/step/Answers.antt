@@ -7,4 +7,4 @@ returns-clause-owned c = owned_by_initiator c.args.self.now.scheme c.args.self.n
 
 pub returns-clause-ends_stay : goal.returns-clause-ends_stay
 returns-clause-ends_stay c =
-    ends_after c.self.inside.scheme c.self.inside.tables c.take.new.self c.args.self.now c.self.view_is c.args.input.now c.take.result c.take.ensures.journal_is
+    ends_after c.self.inside.tables.scheme c.self.inside.tables c.take.new.self c.args.self.now c.self.view_is c.take.ensures.scheme_is c.args.input.now c.take.result c.take.ensures.taken.journal_is

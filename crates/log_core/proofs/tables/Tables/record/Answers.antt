@@ -1,38 +1,65 @@
-use Rattle.std.proofs.Common.{◌++◌, ◌∷◌, [], length, refl, ap, ◌∙◌}
-use Rattle.outbox.specs.Sending.{Sends}
-use Rattle.log_core.specs.declared.tables.Tables.{Tables}
-use Rattle.log_core.proofs.CarriedEffects.{effect_apart, same_carried}
-use Rattle.log_core.proofs.KeptByMoves.{kept_moved}
+use Rattle.std.proofs.Common.{inl, refl, sym, ap, subst, ◌∙◌}
+use Rattle.units.specs.declared.code.Node.TheVariants.{Itl}
+use Rattle.records.specs.Sending.{Sends}
+use Rattle.protocol.proofs.TakenIntoRecords.{recorded_into, room_enters, unfitting}
+use Rattle.log_core.proofs.CarriedEffects.{effects_send, may_carry, same_carried_out}
+use Rattle.log_core.proofs.KeptByOrders.{kept_carried}
 use Rattle.log_core.proofs.KnownLabels.{labelled_so}
-use Rattle.log_core.proofs.TakenInputs.{are_same, takes_refused, takes_recorded, room_enters, unfitting}
+use Rattle.log_core.proofs.TakenInputs.{GivenUp, takes_err, takes_refused}
 use Rattle.log_core.proofs.tables.Tables.record.Goals as goal
+
+pub returns-in_err-place : goal.returns-in_err-place
+returns-in_err-place c =
+    let s = c.args.self.now.scheme in
+    let was = c.args.self.now in
+    let i = c.args.input.now in
+    let x = c.requires.transitions in
+    takes_err s was _ i c.from_residual.result _ c.requires.kept
+    (record { scheme = refl; records = c.in_err-place.ensures.0; allotments = refl; book = refl; under_way = refl; orders = λ d. refl; transfers = λ t. refl; checked = λ w. refl }) c.from_residual.ensures.1
+    (λ r e. subst (λ q. GivenUp s was i q.code) (sym e) (unfitting s Itl was.records.inputs i x.0 c.in_err-place.field-0.0.code x.1 c.in_err-place.ensures.1))
+
+pub carry_out-requires-clause-may : goal.carry_out-requires-clause-may
+carry_out-requires-clause-may c =
+    let s = c.args.self.now.scheme in
+    let was = c.args.self.now in
+    let i = c.args.input.now in
+    let x = c.requires.transitions in
+    may_carry s was i x.0 c.args.effect c.requires.kept (room_enters s Itl was.records.inputs i x.0 x.1 c.in_ok-place.ensures.0) x.3 c.requires.allowed
+
+pub carry_out-requires-clause-labelled : goal.carry_out-requires-clause-labelled
+carry_out-requires-clause-labelled c = labelled_so c.args.self.now.scheme c.args.self.now c.requires.kept
+
+pub take_back-requires : goal.take_back-requires
+take_back-requires c = (c.args.self.now.records.sent, _, ap (λ r. r.sent) (c.carry_out.ensures.records ∙ c.in_ok-place.ensures.2))
 
 pub returns-in-Err : goal.returns-in-Err
 returns-in-Err c =
-    let s = c.args.scheme.now in
     let was = c.args.self.now in
-    let i = c.args.input.now in
-    takes_refused s was was i c.in-Err.refused c.requires.kept (are_same was) (unfitting s was i _ c.in-Err.refused.code c.requires.transitions.1 c.in-Err.ensures.err)
-
-pub carry_out-requires-clause-apart : goal.carry_out-requires-clause-apart
-carry_out-requires-clause-apart c =
-    let x = c.requires.transitions in
-    effect_apart c.args.scheme.now c.args.self.now c.args.input.now x.0 c.args.effect c.args.moment.seconds c.requires.kept
-    (room_enters c.args.scheme.now c.args.self.now c.args.input.now _ x.1 c.in-Ok.ensures.ok) x.3
-
-pub carry_out-requires-clause-labelled : goal.carry_out-requires-clause-labelled
-carry_out-requires-clause-labelled c = labelled_so c.args.scheme.now c.args.self.now c.requires.kept
+    let same = c.in-Err.ensures.err in
+    takes_refused was.scheme was _ c.args.input.now c.in-Err.refused c.requires.kept
+    (record {
+      scheme = same.scheme;
+      records = c.take_back.ensures was.records c.args.input.now _ (c.carry_out.ensures.records ∙ c.in_ok-place.ensures.2);
+      allotments = same.allotments;
+      book = same.book;
+      under_way = same.under_way;
+      orders = same.orders;
+      transfers = same.transfers;
+      checked = same.checked;
+    })
+    (inl c.in-Err.ensures.refused)
 
 pub returns : goal.returns
 returns c =
-    let s = c.args.scheme.now in
+    let s = c.args.self.now.scheme in
     let was = c.args.self.now in
+    let i = c.args.input.now in
     let x = c.requires.transitions in
-    let enters = room_enters s was c.args.input.now _ x.1 c.in-Ok.ensures.ok in
-    let more = c.push_reserved.ensures.items ∙ ap (λ v. v.items ++ c.in-Ok.record ∷ []) c.carry_out.ensures.journal ∙ ap (λ js. js ++ c.in-Ok.record ∷ []) c.reserve.ensures.items ∙ ap (λ i. was.journal.items ++ i ∷ []) c.in-Ok.ensures.copy in
-    let sent = c.carry_out.ensures.outbox ∙ c.in_default.ensures.ok ∙ ap (λ ms. was.outbox ++ Sends ms ∷ []) (c.into_vec.ensures ∙ x.2) in
-    let place = c.len-place.ensures ∙ ap (λ v. v.len) c.carry_out.ensures.journal ∙ c.reserve.new.self.ok.0 ∙ ap length c.reserve.ensures.items in
-    let now = c.carry_out.new.self in
-    let after : Tables = record { journal = c.push_reserved.new.self; register = now.register; transfers = now.transfers; checked = now.checked; outbox = now.outbox } in
-    takes_recorded s was after c.args.input.now x.0 c.len-place.result enters place more
-    (kept_moved s was after c.args.input.now x.0 c.args.effect c.args.moment.seconds c.requires.kept enters c.requires.input x.3 c.requires.known (same_carried c.args.effect c.args.moment.seconds _ was now after (refl, refl, refl) (refl, refl, refl) c.in_default-carry_out.ensures.ok) more sent)
+    let admitted = c.in_ok-place.ensures in
+    let enters = room_enters s Itl was.records.inputs i x.0 x.1 admitted.0 in
+    let more = c.carry_out.ensures.records ∙ admitted.2 in
+    record {
+      taken = recorded_into s Itl was.records _ i x.0 _ c.in_ok-place.place c.requires.kept.records enters admitted.1 more (effects_send _ i x.0 c.args.effect x.3 ∙ ap (λ ms. Sends ms) (sym (c.into_vec.ensures ∙ x.2)));
+      kept = kept_carried s was _ i x.0 c.args.effect c.requires.kept enters x.3 c.requires.allowed (same_carried_out c.args.effect _ was _ (refl, refl, refl) c.in_default.ensures.ok) (ap (λ r. r.inputs) more);
+      scheme_is = c.carry_out.ensures.scheme;
+    }

@@ -5,11 +5,12 @@ use Rattle.log_core.specs.Transfers.{IsWithdrawal}
 use Rattle.log_core.proofs.DecidedMessages.{Decides, comes_late, comes_to, given_up, last, moves, request_decided, row_at}
 use Rattle.log_core.proofs.EffectsOfMessages.{request_effect}
 use Rattle.log_core.proofs.TakenInputs.{GivenUp, are_same, takes_err, takes_late}
+use Rattle.log_core.specs.Taking.{IsMessageOrCleanUp}
 use Rattle.log_core.proofs.tables.Tables.withdraw.Goals as goal
 
 pub returns-in_err-messages : goal.returns-in_err-messages
 returns-in_err-messages c =
-    let s = c.args.scheme.now in
+    let s = c.args.self.now.scheme in
     let was = c.args.self.now in
     let kept = c.requires.kept in
     let x = c.args.request.now in
@@ -22,7 +23,7 @@ returns-in_err-messages c =
 
 pub record-requires-clause-transitions : goal.record-requires-clause-transitions
 record-requires-clause-transitions c =
-    let s = c.args.scheme.now in
+    let s = c.args.self.now.scheme in
     let was = c.args.self.now in
     let kept = c.requires.kept in
     let x = c.args.request.now in
@@ -35,13 +36,16 @@ record-requires-clause-transitions c =
       to c.in-Moves.new ∷ [],
       m.1,
       m.2,
-      request_effect x.id c.args.moment (to c.in-Moves.new).messages (last s was kept x.id) c.in-Moves.new effect m.0
-          (subst (λ o. IsWithdrawal x.id o effect) (kept.kept.transfers x.id) c.in_ok-effect-in-Moves.ensures),
+      (
+        subst IsMessageOrCleanUp (sym c.requires.input) tt,
+        request_effect x.id c.args.moment (to c.in-Moves.new).messages (last s was kept x.id) c.in-Moves.new effect m.0
+            (subst (λ o. IsWithdrawal x.id o effect) (kept.kept.transfers x.id) c.in_ok-effect-in-Moves.ensures),
+      ),
     )
 
 pub returns-in-Late : goal.returns-in-Late
 returns-in-Late c =
-    let s = c.args.scheme.now in
+    let s = c.args.self.now.scheme in
     let was = c.args.self.now in
     let kept = c.requires.kept in
     let x = c.args.request.now in

@@ -10,4 +10,4 @@ if_ok (Err e) P Q h p = tt
 pub returns : goal.returns
 returns c =
     if_ok c.lines.result _ _
-    (λ v is. lines_report c.args.self.now c.self.inside.tables.holdings v.items (unit_holding_so c.self.inside.scheme c.self.inside.code c.self.inside.tables c.self.invariant c.args.self.now c.self.view_is) is) c.lines.ensures
+    (λ v is. lines_report c.args.self.now c.self.inside.tables.holdings v.items (unit_holding_so c.self.inside.tables.scheme c.self.inside.tables.code c.self.inside.tables c.self.invariant c.args.self.now c.self.view_is) is) c.lines.ensures

@@ -6,8 +6,8 @@ use Rattle.registry_core.proofs.tables.Tables.arrive.Goals as goal
 pub returns-in_err-new : goal.returns-in_err-new
 returns-in_err-new c = takes_failed c.requires.kept (arrived c.requires.kept c.requires.input.1 c.requires.welcome c.proposal.ensures) c.in_err-new.was c.from_residual.ensures.1
 
-pub record-requires-clause-row : goal.record-requires-clause-row
-record-requires-clause-row c =
+pub record-requires-clause-transitions : goal.record-requires-clause-transitions
+record-requires-clause-transitions c =
     moves_so c.requires.kept (arrived c.requires.kept c.requires.input.1 c.requires.welcome c.proposal.ensures) (Arrive c.args.proposal.now.id c.in-Moves.new c.in_ok-content-in-Moves.content) c.requires.input.1 (c.in_ok-new.was ∙ ap Ok c.in-Moves.is)
     (refl, refl, sym c.in_ok-content-in-Moves.ensures)
 

@@ -7,8 +7,8 @@ pub returns-in_err-new : goal.returns-in_err-new
 returns-in_err-new c =
     takes_failed c.requires.kept (concluded c.requires.kept c.requires.input.1 c.requires.welcome c.requires.own c.status-told.ensures c.notice.ensures) c.in_err-new.was c.from_residual.ensures.1
 
-pub record-requires-clause-row : goal.record-requires-clause-row
-record-requires-clause-row c =
+pub record-requires-clause-transitions : goal.record-requires-clause-transitions
+record-requires-clause-transitions c =
     moves_so c.requires.kept (concluded c.requires.kept c.requires.input.1 c.requires.welcome c.requires.own c.status-told.ensures c.notice.ensures) (Conclude c.args.notification.now.id c.in-Moves.new) c.requires.input.1 (c.in_ok-new.was ∙ ap Ok c.in-Moves.is) (refl, refl, c.requires.own)
 
 pub returns-in-Repeat : goal.returns-in-Repeat

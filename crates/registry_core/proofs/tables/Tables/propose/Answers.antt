@@ -6,14 +6,14 @@ use Rattle.registry_core.proofs.tables.Tables.propose.Goals as goal
 
 pub returns-in_err-new_transfer : goal.returns-in_err-new_transfer
 returns-in_err-new_transfer c =
-    takes_err c.args.scheme.now c.args.code c.args.self.now c.args.self.now c.args.input.now c.from_residual.result _ c.requires.kept (are_same c.args.self.now) c.from_residual.ensures.1
-    (λ r e. subst (λ q. GivenUp c.args.scheme.now c.args.code c.args.self.now c.args.input.now q.code) (sym e) (order_given_up c.requires.kept c.requires.input c.in_err-new_transfer.ensures.refused))
+    takes_err c.args.self.now.scheme c.args.self.now.code c.args.self.now c.args.self.now c.args.input.now c.from_residual.result _ c.requires.kept (are_same c.args.self.now) c.from_residual.ensures.1
+    (λ r e. subst (λ q. GivenUp c.args.self.now.scheme c.args.self.now.code c.args.self.now c.args.input.now q.code) (sym e) (order_given_up c.requires.kept c.requires.input c.in_err-new_transfer.ensures.refused))
 
 pub returns-in_err-messages : goal.returns-in_err-messages
 returns-in_err-messages c =
     takes_failed c.requires.kept (proposed c.requires.kept c.requires.input c.in_ok-new_transfer.ensures.ok c.in_ok-new_transfer.ensures.id c.in_ok-new_transfer.ensures.content c.propose.ensures) c.in_err-messages.was c.from_residual-in_err-messages.ensures.1
 
-pub record-requires-clause-row : goal.record-requires-clause-row
-record-requires-clause-row c =
+pub record-requires-clause-transitions : goal.record-requires-clause-transitions
+record-requires-clause-transitions c =
     moves_so c.requires.kept (proposed c.requires.kept c.requires.input c.in_ok-new_transfer.ensures.ok c.in_ok-new_transfer.ensures.id c.in_ok-new_transfer.ensures.content c.propose.ensures) (Open c.in_ok-new_transfer.new_transfer) c.requires.input
     (c.in_ok-messages.was ∙ ap Ok c.in-Moves.is) (refl, ap Some (sym c.in_ok-new_transfer.ensures.content))

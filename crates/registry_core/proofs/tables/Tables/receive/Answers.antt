@@ -11,12 +11,12 @@ use Rattle.registry_core.proofs.tables.Tables.receive.Goals as goal
 
 pub returns-in-Some : goal.returns-in-Some
 returns-in-Some c =
-    let s = c.args.scheme.now in
-    let k = c.args.code in
+    let s = c.args.self.now.scheme in
+    let k = c.args.self.now.code in
     let was = c.args.self.now in
     let i = c.args.input.now in
     let kept = c.requires.kept in
-    let es = history s (Registry k) was.journal.items in
+    let es = history s (Registry k) was.records.inputs in
     let first = c.message_refusal.ensures es kept.kept.own kept.kept.foreign in
     takes_refused s k was was i (record { code = c.in-Some.refused }) kept (are_same was)
     (inr (ap (verdict_by_rules s k was) c.requires.input.1 ∙ message_refused s k was kept c.args.message.now c.requires.input.0 c.in-Some.refused (sym first ∙ c.in-Some.is)))
@@ -26,12 +26,12 @@ arrive-requires-clause-input c = (c.requires.input.0, c.requires.input.1 ∙ ap 
 
 pub arrive-requires-clause-welcome : goal.arrive-requires-clause-welcome
 arrive-requires-clause-welcome c =
-    let s = c.args.scheme.now in
-    let k = c.args.code in
+    let s = c.args.self.now.scheme in
+    let k = c.args.self.now.code in
     let was = c.args.self.now in
     let i = c.args.input.now in
     let kept = c.requires.kept in
-    let es = history s (Registry k) was.journal.items in
+    let es = history s (Registry k) was.records.inputs in
     let first = c.message_refusal.ensures es kept.kept.own kept.kept.foreign in
     ap (λ m. first_of (registry_refusals k es m)) (sym c.in-Proposal.is) ∙ sym first ∙ c.in_default.is
 
@@ -40,23 +40,23 @@ take_notification-requires-clause-input c = (c.requires.input.0, c.requires.inpu
 
 pub take_notification-requires-clause-welcome : goal.take_notification-requires-clause-welcome
 take_notification-requires-clause-welcome c =
-    let s = c.args.scheme.now in
-    let k = c.args.code in
+    let s = c.args.self.now.scheme in
+    let k = c.args.self.now.code in
     let was = c.args.self.now in
     let i = c.args.input.now in
     let kept = c.requires.kept in
-    let es = history s (Registry k) was.journal.items in
+    let es = history s (Registry k) was.records.inputs in
     let first = c.message_refusal.ensures es kept.kept.own kept.kept.foreign in
     ap (λ m. first_of (registry_refusals k es m)) (sym c.in-Notification.is) ∙ sym first ∙ c.in_default.is
 
 pub returns-in-Request : goal.returns-in-Request
 returns-in-Request c =
-    let s = c.args.scheme.now in
-    let k = c.args.code in
+    let s = c.args.self.now.scheme in
+    let k = c.args.self.now.code in
     let was = c.args.self.now in
     let i = c.args.input.now in
     let kept = c.requires.kept in
-    let es = history s (Registry k) was.journal.items in
+    let es = history s (Registry k) was.records.inputs in
     let first = c.message_refusal.ensures es kept.kept.own kept.kept.foreign in
     takes_refused s k was was i (record { code = 46 }) kept (are_same was) (inr (ap (verdict_by_rules s k was) (c.requires.input.1 ∙ ap (λ m. Received m c.requires.input.0) c.in-Request.is)
     ∙ request_refused s k was kept c.in-Request.field-0 c.requires.input.0 (ap (λ m. first_of (registry_refusals k es m)) (sym c.in-Request.is) ∙ sym first ∙ c.in_default.is)))

@@ -1,43 +1,53 @@
-use Rattle.std.proofs.Common.{◌++◌, ◌∷◌, [], length, inl, refl, ap, ◌∙◌}
-use Rattle.outbox.specs.Sending.{Sends}
-use Rattle.registry_core.proofs.EffectsMayBe.{may_carry}
-use Rattle.registry_core.proofs.KeptByMoves.{kept_moved}
-use Rattle.registry_core.proofs.TakenInputs.{takes_refused, takes_recorded, room_enters, unfitting}
+use Rattle.std.proofs.Common.{inl, refl, sym, ap, subst, ◌∙◌}
+use Rattle.units.specs.declared.code.Node.TheVariants.{Registry}
+use Rattle.records.specs.Sending.{Sends}
+use Rattle.protocol.specs.Verdict.{history}
+use Rattle.protocol.proofs.TakenIntoRecords.{recorded_into, room_enters, unfitting}
+use Rattle.registry_core.proofs.EffectsMayBe.{effects_send, may_carry}
+use Rattle.registry_core.proofs.KeptByOrders.{kept_carried}
+use Rattle.registry_core.proofs.TakenInputs.{GivenUp, takes_err, takes_refused}
 use Rattle.registry_core.proofs.tables.Tables.record.Goals as goal
 
-pub returns-in-Err : goal.returns-in-Err
-returns-in-Err c =
-    let s = c.args.scheme.now in
+pub returns-in_err-place : goal.returns-in_err-place
+returns-in_err-place c =
+    let s = c.args.self.now.scheme in
+    let k = c.args.self.now.code in
     let was = c.args.self.now in
     let i = c.args.input.now in
-    takes_refused s c.args.code was _ i c.in-Err.refused c.requires.kept
-    (record { journal = c.fitting.ensures.items; holdings = refl; initiator = refl; acquirer = refl; outbox = refl })
-    (unfitting s c.args.code was i _ c.in-Err.refused.code c.requires.row.1 c.in-Err.ensures.err)
-
-pub returns-in-Err-record : goal.returns-in-Err-record
-returns-in-Err-record c =
-    takes_refused c.args.scheme.now c.args.code c.args.self.now _ c.args.input.now (record { code = 50 }) c.requires.kept
-    (record { journal = c.fitting.ensures.items; holdings = refl; initiator = refl; acquirer = refl; outbox = c.in-Err-record.ensures.err }) (inl refl)
-
-pub returns-in-Err-done : goal.returns-in-Err-done
-returns-in-Err-done c =
-    takes_refused c.args.scheme.now c.args.code c.args.self.now _ c.args.input.now c.in-Err-done.refused c.requires.kept
-    (record { journal = c.fitting.ensures.items; holdings = c.in-Err-done.ensures.err.2; initiator = c.in-Err-done.ensures.err.0; acquirer = c.in-Err-done.ensures.err.1; outbox = c.take_back.ensures c.args.self.now.outbox _ c.in_default.ensures.ok })
-    (inl c.in-Err-done.ensures.refused)
+    let x = c.requires.transitions in
+    takes_err s k was _ i c.from_residual.result _ c.requires.kept (record { scheme = refl; code = refl; records = c.in_err-place.ensures.0; holdings = refl; initiator = refl; acquirer = refl }) c.from_residual.ensures.1
+    (λ r e. subst (λ q. GivenUp s k was i q.code) (sym e) (unfitting s (Registry k) was.records.inputs i x.0 c.in_err-place.field-0.0.code x.1 c.in_err-place.ensures.1))
 
 pub carry_out-done-requires : goal.carry_out-done-requires
 carry_out-done-requires c =
-    let x = c.requires.row in
-    may_carry c.args.scheme.now c.args.code c.args.self.now c.args.input.now x.0 c.args.effect c.requires.kept
-    (room_enters c.args.scheme.now c.args.code c.args.self.now c.args.input.now _ x.1 c.in-Ok.ensures.ok) x.3 c.requires.reservable
+    let s = c.args.self.now.scheme in
+    let k = c.args.self.now.code in
+    let was = c.args.self.now in
+    let i = c.args.input.now in
+    let x = c.requires.transitions in
+    may_carry s k was i x.0 c.args.effect c.requires.kept (room_enters s (Registry k) was.records.inputs i x.0 x.1 c.in_ok-place.ensures.0) x.3 c.requires.allowed
+
+pub returns-in-Err : goal.returns-in-Err
+returns-in-Err c =
+    let was = c.args.self.now in
+    let carried = c.in-Err.ensures in
+    takes_refused was.scheme was.code was _ c.args.input.now c.in-Err.refused c.requires.kept
+    (record { scheme = refl; code = refl; records = c.take_back.ensures was.records c.args.input.now _ c.in_ok-place.ensures.2; holdings = carried.err.2; initiator = carried.err.0; acquirer = carried.err.1 })
+    (inl carried.refused)
 
 pub returns : goal.returns
 returns c =
-    let s = c.args.scheme.now in
-    let x = c.requires.row in
-    let enters = room_enters s c.args.code c.args.self.now c.args.input.now _ x.1 c.in-Ok.ensures.ok in
-    let more = c.push_reserved.ensures.items ∙ ap (λ js. js ++ c.in-Ok.record ∷ []) c.fitting.ensures.items ∙ ap (λ i. c.args.self.now.journal.items ++ i ∷ []) c.in-Ok.ensures.copy in
-    let sent = c.in_default.ensures.ok ∙ ap (λ ms. c.args.self.now.outbox ++ Sends ms ∷ []) (c.into_vec.ensures ∙ x.2) in
-    let place = c.len-place.ensures ∙ c.fitting.new.journal.ok.0 ∙ ap length c.fitting.ensures.items in
-    takes_recorded s c.args.code c.args.self.now _ c.args.input.now (x.0 ∷ []) c.len-place.result enters place more
-    (kept_moved s c.args.code c.args.self.now _ c.args.input.now x.0 c.args.effect c.requires.kept enters x.3 c.in_default-done.ensures.ok more sent)
+    let s = c.args.self.now.scheme in
+    let k = c.args.self.now.code in
+    let was = c.args.self.now in
+    let i = c.args.input.now in
+    let x = c.requires.transitions in
+    let admitted = c.in_ok-place.ensures in
+    let enters = room_enters s (Registry k) was.records.inputs i x.0 x.1 admitted.0 in
+    let sends = effects_send k (history s (Registry k) was.records.inputs) i x.0 c.args.effect x.3 ∙ ap (λ ms. Sends ms) (sym (c.into_vec.ensures ∙ x.2)) in
+    record {
+      taken = recorded_into s (Registry k) was.records _ i x.0 _ c.in_ok-place.place c.requires.kept.records enters admitted.1 admitted.2 sends;
+      kept = kept_carried s k was _ i x.0 c.args.effect c.requires.kept enters x.3 c.in_default.ensures.ok (ap (λ r. r.inputs) admitted.2);
+      scheme_is = refl;
+      code_is = refl;
+    }

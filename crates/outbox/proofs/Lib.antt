@@ -1,5 +1,0 @@
-pub mod Sendings
-pub mod AwaitingMessages
-pub mod KeptTables
-pub mod LeastKeys
-pub mod OutgoingRecords

@@ -1,8 +1,0 @@
-use Rattle.std.proofs.Common.{◌≡◌, ◌&&◌, not, take}
-use Rattle.std.specs.BTreeSet.{contains}
-use Rattle.outbox.specs.Awaiting.{among, unacknowledged_cmp}
-use Rattle.outbox.specs.declared.unacknowledged.Unacknowledged.{Unacknowledged}
-use Rattle.outbox.proofs.awaiting.forget_all.Given as goal
-
-abbrev pub invariant-loop-i : goal.invariant-loop-i
-invariant-loop-i l = (q : Unacknowledged) → contains unacknowledged_cmp l.unacknowledged q ≡ (contains unacknowledged_cmp l.initial.unacknowledged q && not (among l.start (take l.i l.messages) q))

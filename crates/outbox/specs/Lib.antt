@@ -1,5 +1,0 @@
-pub mod Sending
-pub mod Awaiting
-pub mod Kept
-pub mod Totals
-pub mod Outgoing

@@ -1,8 +1,0 @@
--- Counts of messages. No public contract cites it.
-use Rattle.std.specs.Prelude.{ℕ, List, [], ◌∷◌}
-use Rattle.outbox.specs.declared.record.Record.{Record}
-
--- how many messages there are after the records, with that many before
-abbrev pub total : ℕ → List Record → ℕ
-total before [] = before
-total before (r ∷ rs) = total r.sends rs

@@ -1,0 +1,4 @@
+pub mod Sendings
+pub mod AwaitingMessages
+pub mod KeptTables
+pub mod LeastKeys

@@ -1,6 +1,0 @@
-use Rattle.std.proofs.Common.{◌∙◌}
-use Rattle.registry_core.proofs.CoreReadings.{acknowledged_so}
-use Rattle.registry_core.proofs.registry.RegistryCoreNodeCore.acknowledged.Goals as goal
-
-pub returns : goal.returns
-returns c = c.is_acknowledged.ensures ∙ acknowledged_so c.self.inside.scheme c.self.inside.code c.self.inside.tables c.self.invariant c.args.self.now c.self.view_is c.args.key

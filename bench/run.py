@@ -48,10 +48,12 @@ TRACED = "futex,connect,accept4,sendto,recvfrom,write,fdatasync,fsync,clock_nano
 
 @dataclasses.dataclass
 class Ended:
-    """What a program printed, how long it took, its processor time, and the most memory that it had in megabytes."""
+    """What a program printed, how long it took, its processor time, that of the kernel in it, and the most memory that it had
+    in megabytes."""
     said: str
     seconds: float
     busy: float
+    kernel: float
     megabytes: float
 
 
@@ -66,7 +68,7 @@ def timed(words, env=None):
         said.seek(0)
         told.seek(0)
         check_end(words, started.returncode, said=told.read())
-        return Ended(said.read(), seconds, used.ru_utime + used.ru_stime, used.ru_maxrss / 1024)
+        return Ended(said.read(), seconds, used.ru_utime + used.ru_stime, used.ru_stime, used.ru_maxrss / 1024)
 
 
 def parties(registries, count):
@@ -118,21 +120,24 @@ class Bench:
         return ended
 
     def compare(self, registries, count, kind, sync, tries):
-        """The rate, its ratio to C's, and the processor time of a transfer in milliseconds and as a multiple of C's."""
+        """The rate, its ratio to C's, and the processor time of a transfer in milliseconds, beside C's, with the kernel's in it."""
         env = self.env(sync, 0 if kind == "together" else NAP)
         idle = min((self.play(registries, 0, kind, env) for _ in range(2)), key=lambda it: it.seconds)
         ours, theirs, commits = [], [], 0
         for _ in range(tries):
             ended = self.play(registries, count, kind, env)
-            ours.append((ended.seconds - idle.seconds, ended.busy - idle.busy))
+            ours.append((ended.seconds - idle.seconds, ended.busy - idle.busy, ended.kernel - idle.kernel))
             ended = self.play_in_c(registries, count, kind, env)
             micros, commits = map(int, ended.said.split())
-            theirs.append((micros / 1_000_000, ended.busy))
-        seconds, busy = map(min, zip(*ours))
-        other, other_busy = map(min, zip(*theirs))
+            theirs.append((micros / 1_000_000, ended.busy, ended.kernel))
+        if min(ours)[0] <= 0:
+            sys.exit("a run without transfers takes longer than one with them: let it have more transfers")
+        seconds, busy, kernel = map(min, zip(*ours))
+        other, other_busy, other_kernel = map(min, zip(*theirs))
         print(f"{registries:3} registries, syncs of {sync / 1000} ms more, {kind}: {count / seconds:.0f} a second, C {count / other:.0f}; "
-              f"{other / seconds:.2f} of C's rate; {busy / count * 1000:.2f} ms of processor time a transfer, {busy / other_busy:.1f} "
-              f"times C's; C makes {commits / count:.1f} commits each", flush=True)
+              f"{other / seconds:.2f} of C's rate; {busy / count * 1000:.2f} ms of processor time a transfer, the kernel's "
+              f"{kernel / count * 1000:.2f}, C {other_busy / count * 1000:.2f} and {other_kernel / count * 1000:.2f}; C makes "
+              f"{commits / count:.1f} commits each", flush=True)
         return count / seconds, other / seconds, busy / count
 
     def calls(self, registries, count):

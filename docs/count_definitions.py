@@ -118,7 +118,7 @@ def main():
     print("names of limits and codes among them: %d" % len(names))
     repository = Repository(top)
     print("definitions of all crates: %d, of which public contracts reach %d" % (repository.count(), len(repository.reached())))
-    misplaced = repository.misplaced()
+    misplaced = list(repository.misplaced())
     print("\n".join(misplaced), end="\n" if misplaced else "")
     sys.exit(1 if misplaced else 0)
 

@@ -20,7 +20,6 @@ ghost use Rattle.accounts.specs.Holdings.{kind_in};
 ghost use Rattle.protocol.specs.Scheme.{Scheme};
 ghost use Rattle.protocol.specs.AtRegistry.{unless_held};
 ghost use Rattle.protocol.specs.Checks.{Holding, acquirer_findings};
-ghost use Rattle.protocol.specs.Cores.{IsExpectedOrNoMemory};
 ghost use Rattle.protocol.specs.Deciding.{column_of_proposal};
 ghost use Rattle.protocol.specs.Decisions.{decided};
 ghost use Rattle.protocol.specs.Effects.{acquirer_sends};
@@ -35,7 +34,7 @@ use crate::messages::on_proposal;
 use crate::table::{finish, put};
 use crate::transfer::IncomingTransfer;
 use accounts::Holdings;
-use checks::{acquirer_findings, holds_some};
+use checks::{acquirer_findings, column_of_proposal, holds_some};
 use protocol::Decision;
 use protocol::scheme::Scheme;
 use status::{Content, RecordedStatus, Role, Row, RowInput, Status, TransactionId, row};
@@ -44,7 +43,7 @@ use std::collections::{BTreeMap, BTreeSet};
 use std::marker::Model;
 use units::refusal_code::{NO_ROW, TRANSFER_ACCEPTED};
 use units::{Code, Items, NoMemory, Refusal};
-use wire::AcquirerCodes;
+use wire::{AcquirerCodes, Message};
 
 /// The transfers to a registry, by their identifiers. It decides what the acquirer's table says to an input, without
 /// any change, and does then what a decision that moves a transfer asks for.
@@ -76,16 +75,6 @@ fn codes_in(found: &Option<AcquirerCodes>) -> &[u16]
     match found {
         None => &[],
         Some(codes) => codes.as_slice(),
-    }
-}
-
-/// The column of a proposal in which these codes were found, and of which no content is recorded.
-fn column_of_proposal(codes: &[u16]) -> RowInput
-    ensures { result ≡ column_of_proposal None codes.now }
-{
-    match codes {
-        [] => RowInput::ProposalWithoutFinding,
-        _ => RowInput::ProposalWithFindings,
     }
 }
 
@@ -134,58 +123,55 @@ impl Acquirer {
         }
     }
 
-    /// What the table says to a proposal that the log passes on, equal to the one whose content is recorded, if one
-    /// is. Where none is, Accepted or Rejected is to be sent, by what is found in it. Fails with `NO_ROW` where the
-    /// table has no such row, and with `OUT_OF_MEMORY`.
-    pub fn proposal(
+    /// What is found in the proposal of a transfer whose content isn't recorded, and nothing in any other. Or `NoMemory`.
+    pub fn findings(
         &self,
         alloc: Global,
         scheme: &Scheme,
         holdings: &Holdings,
         id: TransactionId,
         content: &Content,
-    ) -> Result<Decision, Refusal>
-        ensures { (known_so : Holding) (found : List ℕ) → Knows scheme.now self.now.code holdings.now known_so
-            → found ≡ acquirer_findings scheme.now self.now.code known_so content.now
-            → IsExpectedOrNoMemory result
-            (decided (acquirer_row (known_transfer (map.get self.now.transfers id))
-            (column_of_proposal (kept_content (map.get self.now.transfers id)) found))
-            (acquirer_sends self.now.code id found
-            (column_of_proposal (kept_content (map.get self.now.transfers id)) found))) }
+    ) -> Result<Option<AcquirerCodes>, NoMemory>
+        ensures { (known_so : Holding) → Knows scheme.now self.now.code holdings.now known_so
+            → IfOk result (λ found. codes_in found
+            ≡ (if is_some (kept_content (map.get self.now.transfers id)) then [] else acquirer_findings scheme.now
+            self.now.code known_so content.now)) }
     {
         if self.content(id).is_some() {
-            return self.equal_proposal(alloc, id);
+            return Ok(None);
         }
-        let found = acquirer_findings(alloc, scheme, self.code, holdings, content)?;
-        match row(
-            Role::Acquirer,
-            self.known(id),
-            column_of_proposal(codes_in(&found)),
-        ) {
-            Row::Move(new) => {
-                let messages = on_proposal(alloc, self.code, id, found)?;
-                Ok(Decision::Moves { new, messages })
-            }
-            Row::Repeat => Ok(Decision::Repeat),
-            Row::Late => Ok(Decision::Late),
-            Row::Refused => Err(Refusal { code: NO_ROW }),
-        }
+        acquirer_findings(alloc, scheme, self.code, holdings, content)
     }
 
-    /// What the table says to a proposal equal to the one that is recorded.
-    fn equal_proposal(&self, alloc: Global, id: TransactionId) -> Result<Decision, Refusal>
-        ensures { result ≡ decided (acquirer_row (known_transfer (map.get self.now.transfers id)) column.EqualProposal)
-            [] }
+    /// What the table says to a proposal that the log passes on, in which that was found. Where a content is recorded
+    /// for the transfer, it is equal to that. Fails with `NO_ROW` where the table has no such row.
+    pub fn proposal(
+        &self,
+        id: TransactionId,
+        found: &Option<AcquirerCodes>,
+    ) -> Result<Decision, Refusal>
+        ensures { result ≡ decided (acquirer_row (known_transfer (map.get self.now.transfers id))
+            (column_of_proposal (kept_content (map.get self.now.transfers id)) (codes_in found.now))) }
     {
-        match row(Role::Acquirer, self.known(id), RowInput::EqualProposal) {
-            Row::Move(new) => Ok(Decision::Moves {
-                new,
-                messages: Items::new(alloc),
-            }),
-            Row::Repeat => Ok(Decision::Repeat),
-            Row::Late => Ok(Decision::Late),
-            Row::Refused => Err(Refusal { code: NO_ROW }),
-        }
+        Decision::by_row(row(
+            Role::Acquirer,
+            self.known(id),
+            column_of_proposal(self.content(id), codes_in(found)),
+        ))
+    }
+
+    /// What is sent where a transfer comes, by what was found in its proposal: Accepted to the log, or Rejected with the
+    /// codes.
+    pub fn notifies(
+        &self,
+        alloc: Global,
+        id: TransactionId,
+        found: Option<AcquirerCodes>,
+    ) -> Result<Items<Message>, NoMemory>
+        ensures { IfOk result (λ messages. messages ≡ acquirer_sends self.now.code id (codes_in found)
+            (column_of_proposal None (codes_in found))) }
+    {
+        on_proposal(alloc, self.code, id, found)
     }
 
     /// Whether one of the transfer's units is held.
@@ -204,7 +190,6 @@ impl Acquirer {
     /// holds one of its units. Fails with `NO_ROW` where the table has no such row. Takes no memory.
     pub fn notice(
         &self,
-        alloc: Global,
         holdings: &Holdings,
         id: TransactionId,
         told: Status,
@@ -213,19 +198,13 @@ impl Acquirer {
             → result ≡ decided
             (unless_held (option_map_or (λ k. list_any (λ p. known_so.is_held p.unit) (pieces k.units)) (kept_content
             (map.get self.now.transfers id)) false)
-            (acquirer_row (known_transfer (map.get self.now.transfers id)) (column.Notified told))) [] }
+            (acquirer_row (known_transfer (map.get self.now.transfers id)) (column.Notified told))) }
     {
         match row(Role::Acquirer, self.known(id), RowInput::Notified(told)) {
             Row::Move(Status::Completed) if self.holds_some_of(holdings, id) => {
                 Err(Refusal { code: NO_ROW })
             }
-            Row::Move(new) => Ok(Decision::Moves {
-                new,
-                messages: Items::new(alloc),
-            }),
-            Row::Repeat => Ok(Decision::Repeat),
-            Row::Late => Ok(Decision::Late),
-            Row::Refused => Err(Refusal { code: NO_ROW }),
+            other => Decision::by_row(other),
         }
     }
 

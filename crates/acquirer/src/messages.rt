@@ -1,10 +1,11 @@
 //! What an acquirer sends.
-ghost use Rattle.std.specs.Prelude.{◌≡◌, [], ◌∷◌, IfOk};
+ghost use Rattle.std.specs.Prelude.{◌≡◌, IfOk};
 ghost use Rattle.protocol.specs.Deciding.{column_of_proposal};
 ghost use Rattle.protocol.specs.Effects.{acquirer_sends};
 ghost use Rattle.checks.specs.Finding.{codes_in};
 ghost use Rattle.std.specs.Prelude.{None};
 
+use protocol::one_message;
 use status::TransactionId;
 use std::alloc::Global;
 use units::{Code, Items, NoMemory, Node};
@@ -30,7 +31,5 @@ pub(crate) fn on_proposal(
         id,
         notified,
     };
-    let mut messages = Vec::new(alloc);
-    messages.push(Message::Notification(answer))?;
-    Ok(Items::from_vec(messages))
+    one_message(alloc, Message::Notification(answer))
 }

@@ -4,6 +4,7 @@
 mod acquirer;
 mod blocks;
 mod canonical;
+mod column;
 mod findings;
 mod log;
 mod order;
@@ -12,6 +13,7 @@ mod registries;
 
 pub use acquirer::{acquirer_findings, holds_some};
 pub use blocks::has_repeats;
-pub use log::log_findings;
+pub use column::column_of_proposal;
+pub use log::{is_eligible, log_findings};
 pub use order::{NewTransfer, propose_check};
 pub use register::{BookEntry, Register, UnderWay};

@@ -105,7 +105,7 @@ fn starts_eligible(scheme: &Scheme, code: Code) -> bool
 }
 
 /// Whether the registry may take part in transfers: as the last order for it says, else as at the start.
-fn is_eligible(scheme: &Scheme, orders: &BTreeMap<Code, bool>, code: Code) -> bool
+pub fn is_eligible(scheme: &Scheme, orders: &BTreeMap<Code, bool>, code: Code) -> bool
     ensures { result ≡ unwrap_or (tree.get code_cmp orders.now code) (starts_eligible scheme.now code) }
 {
     match orders.get(&code) {

@@ -28,7 +28,7 @@ pub use clock::{Clock, WallClock};
 pub use desk::{Desk, Ended};
 pub use gate::{Gate, OpenGate, Spot};
 pub use life::{Life, Settled, Unsettled};
-pub use notes::{Asked, Lengths, Note, Ticket, Told};
+pub use notes::{Asked, Lengths, Note, Ticket, Told, is_unjudged};
 pub use opening::Opening;
 pub use seat::Seat;
 pub use settling::{settle, settle_with};

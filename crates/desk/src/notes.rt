@@ -1,8 +1,11 @@
 //! What a state is asked, and what it returns.
+ghost use Rattle.std.specs.Prelude.{◌≡◌};
+ghost use Rattle.desk.specs.Telling.{is_unjudged};
 
 use protocol::Stepped;
 use status::{Status, TransactionId};
 use units::Refusal;
+use units::refusal_code::{NODE_STOPPED, OUT_OF_MEMORY};
 use wire::Input;
 
 /// What a state is asked.
@@ -23,6 +26,13 @@ pub enum Told {
     Status(Option<Status>),
     /// The input was refused, or the state had stopped.
     Refused(Refusal),
+}
+
+/// Whether no journal judged what was refused so: the state had stopped, or memory ran out.
+pub fn is_unjudged(refusal: Refusal) -> bool
+    ensures { result ≡ is_unjudged refusal.code }
+{
+    refusal.code == NODE_STOPPED || refusal.code == OUT_OF_MEMORY
 }
 
 /// What was asked, what was returned, and how many records the journal then had.

@@ -4,7 +4,7 @@ ghost use Rattle.units.specs.RefusalCodes.{out_of_memory};
 ghost use Rattle.desk.specs.Rooms.{TellNoRecord};
 ghost use Rattle.desk.specs.Telling.{kept};
 
-use crate::notes::{Asked, Lengths, Note, Ticket, Told};
+use crate::notes::{Asked, Lengths, Note, Ticket, Told, is_unjudged};
 use crate::state::{Receipt, Taken};
 use protocol::Stepped;
 use status::TransactionId;
@@ -12,7 +12,6 @@ use std::alloc::Global;
 use std::marker::Model;
 use std::mem;
 use units::NoMemory;
-use units::refusal_code::{NODE_STOPPED, OUT_OF_MEMORY};
 use wire::Input;
 
 /// What one thread was told: the records that it made, and whatever else it learned about the journal.
@@ -108,10 +107,7 @@ impl Seat {
                     }
                     Asked::Query(_) => {}
                 },
-                Told::Refused(refusal)
-                    if refusal.code == NODE_STOPPED || refusal.code == OUT_OF_MEMORY => {
-                    drop(asked)
-                }
+                Told::Refused(refusal) if is_unjudged(refusal) => drop(asked),
                 told => {
                     self.notes.push_reserved(Note {
                         asked,

@@ -17,7 +17,6 @@ ghost use Rattle.accounts.specs.Holdings as held;
 ghost use Rattle.accounts.specs.Refusals.{MayReserve};
 ghost use Rattle.protocol.specs.AtRegistry.{content_of};
 ghost use Rattle.protocol.specs.Checks.{Holding};
-ghost use Rattle.protocol.specs.Cores.{IsExpectedOrNoMemory};
 ghost use Rattle.protocol.specs.Decisions.{decided, unless};
 ghost use Rattle.protocol.specs.Effects.{initiator_sends};
 ghost use Rattle.checks.specs.Knowing.{Knows};
@@ -31,15 +30,16 @@ use accounts::Holdings;
 use checks::{NewTransfer, propose_check};
 use protocol::Decision;
 use protocol::scheme::Scheme;
-use status::{Order, Role, Row, RowInput, Status, TransactionId, row};
+use protocol::wire::Message;
+use status::{Order, Role, RowInput, Status, TransactionId, row};
 use std::alloc::Global;
 use std::collections::BTreeMap;
 use std::marker::Model;
-use units::refusal_code::{NO_LONGER_PROPOSED, NO_ROW, NOT_PROPOSED_HERE};
-use units::{Code, Refusal};
+use units::refusal_code::{NO_LONGER_PROPOSED, NOT_PROPOSED_HERE};
+use units::{Code, Items, NoMemory, Refusal};
 
 /// The transfers that a registry proposed, by their identifiers. It decides what the initiator's table says to an
-/// input, without any change, and does then what a decision that moves a transfer asks for.
+/// input, without any change, says what is sent where a transfer moves, and does then what that asks for.
 #[derive(Debug, Drop)]
 pub struct Initiator {
     code: Code,
@@ -108,43 +108,34 @@ impl Initiator {
         propose_check(alloc, scheme, self.code, holdings, self.last, order)
     }
 
-    /// What the table says to a new transfer: a new transfer is to be Proposed to the log. Fails with `NO_ROW` where
-    /// the registry has a transfer of that identifier, and with `OUT_OF_MEMORY`.
-    pub fn propose(&self, alloc: Global, new_transfer: &NewTransfer) -> Result<Decision, Refusal>
-        ensures { IsExpectedOrNoMemory result
-            (decided (initiator_row (known_transfer (map.get self.now.transfers new_transfer.now.id)) column.Propose)
-            (initiator_sends self.now.code new_transfer.now.id (Some new_transfer.now.content) column.Propose)) }
+    /// What the table says to a new transfer with that identifier. Fails with `NO_ROW` where the registry has a
+    /// transfer with it.
+    pub fn propose(&self, id: TransactionId) -> Result<Decision, Refusal>
+        ensures { result ≡ decided (initiator_row (known_transfer (map.get self.now.transfers id)) column.Propose) }
     {
-        match row(
-            Role::Initiator,
-            known(self.transfer(new_transfer.id)),
-            RowInput::Propose,
-        ) {
-            Row::Move(new) => {
-                let messages = on_proposing(
-                    alloc,
-                    self.code,
-                    new_transfer.id,
-                    &new_transfer.content,
-                )?;
-                Ok(Decision::Moves { new, messages })
-            }
-            Row::Repeat => Ok(Decision::Repeat),
-            Row::Late => Ok(Decision::Late),
-            Row::Refused => Err(Refusal { code: NO_ROW }),
-        }
+        Decision::by_row(row(Role::Initiator, known(self.transfer(id)), RowInput::Propose))
+    }
+
+    /// What is sent where a new transfer is Proposed: the proposal to the log.
+    pub fn proposes(
+        &self,
+        alloc: Global,
+        new_transfer: &NewTransfer,
+    ) -> Result<Items<Message>, NoMemory>
+        ensures { IfOk result
+            (λ messages. messages ≡ initiator_sends self.now.code new_transfer.now.id
+            (Some new_transfer.now.content) column.Propose) }
+    {
+        on_proposing(alloc, self.code, new_transfer.id, &new_transfer.content)
     }
 
     /// What the table says to an order to ask the log for the transfer's cancellation: the first is to be sent, and
-    /// any other is a repeat. Fails with `NOT_PROPOSED_HERE` where this registry didn't propose the transfer, with
-    /// `NO_LONGER_PROPOSED` where it has another status than Proposed, and with `OUT_OF_MEMORY`.
-    pub fn request(&self, alloc: Global, id: TransactionId) -> Result<Decision, Refusal>
-        ensures { (content : Option Terms)
-            → IsExpectedOrNoMemory result
-            (unless (cancellation_refusals self.now id)
+    /// any other is a repeat. Fails with `NOT_PROPOSED_HERE` where this registry didn't propose the transfer, and with
+    /// `NO_LONGER_PROPOSED` where it has another status than Proposed.
+    pub fn request(&self, id: TransactionId) -> Result<Decision, Refusal>
+        ensures { result ≡ unless (cancellation_refusals self.now id)
             (decided (initiator_row (known_transfer (map.get self.now.transfers id))
-            (column_of_request (map.get self.now.transfers id)))
-            (initiator_sends self.now.code id content (column_of_request (map.get self.now.transfers id))))) }
+            (column_of_request (map.get self.now.transfers id)))) }
     {
         let transfer = self.transfer(id);
         if id.code != self.code || transfer.is_none() {
@@ -157,44 +148,43 @@ impl Initiator {
                 code: NO_LONGER_PROPOSED,
             });
         }
-        let column = request_column(transfer);
-        match row(Role::Initiator, known(transfer), column) {
-            Row::Move(new) => {
-                let messages = on_request(alloc, self.code, id, column)?;
-                Ok(Decision::Moves { new, messages })
-            }
-            Row::Repeat => Ok(Decision::Repeat),
-            Row::Late => Ok(Decision::Late),
-            Row::Refused => Err(Refusal { code: NO_ROW }),
-        }
+        Decision::by_row(row(Role::Initiator, known(transfer), request_column(transfer)))
+    }
+
+    /// What is sent where the order to ask for the transfer's cancellation is recorded: the request to the log.
+    pub fn requests(&self, alloc: Global, id: TransactionId) -> Result<Items<Message>, NoMemory>
+        ensures { (content : Option Terms)
+            → IfOk result (λ messages. messages ≡ initiator_sends self.now.code id content
+            (column_of_request (map.get self.now.transfers id))) }
+    {
+        on_request(alloc, self.code, id, request_column(self.transfer(id)))
     }
 
     /// What the table says to the log's notification of that status. Fails with `NO_ROW` where the table has no such
-    /// row, and with `OUT_OF_MEMORY`.
-    pub fn notice(
+    /// row.
+    pub fn notice(&self, id: TransactionId, told: Status) -> Result<Decision, Refusal>
+        ensures { result ≡ decided
+            (initiator_row (known_transfer (map.get self.now.transfers id)) (column.Notified told)) }
+    {
+        Decision::by_row(row(
+            Role::Initiator,
+            known(self.transfer(id)),
+            RowInput::Notified(told),
+        ))
+    }
+
+    /// What is sent where the notification of that status is recorded: Completed to the log after Accepted, and nothing
+    /// after any other.
+    pub fn notifies(
         &self,
         alloc: Global,
         id: TransactionId,
         told: Status,
-    ) -> Result<Decision, Refusal>
+    ) -> Result<Items<Message>, NoMemory>
         ensures { (content : Option Terms)
-            → IsExpectedOrNoMemory result
-            (decided (initiator_row (known_transfer (map.get self.now.transfers id)) (column.Notified told))
-            (initiator_sends self.now.code id content (column.Notified told))) }
+            → IfOk result (λ messages. messages ≡ initiator_sends self.now.code id content (column.Notified told)) }
     {
-        match row(
-            Role::Initiator,
-            known(self.transfer(id)),
-            RowInput::Notified(told),
-        ) {
-            Row::Move(new) => {
-                let messages = on_notified(alloc, self.code, id, told)?;
-                Ok(Decision::Moves { new, messages })
-            }
-            Row::Repeat => Ok(Decision::Repeat),
-            Row::Late => Ok(Decision::Late),
-            Row::Refused => Err(Refusal { code: NO_ROW }),
-        }
+        on_notified(alloc, self.code, id, told)
     }
 
     /// The new transfer is a transfer that is Proposed, and its units are reserved for it. After `OUT_OF_MEMORY`,

@@ -1,22 +1,14 @@
 //! What an initiator sends.
-ghost use Rattle.std.specs.Prelude.{◌≡◌, ◌⊎◌, [], ◌∷◌, Option, IfOk, Some};
+ghost use Rattle.std.specs.Prelude.{◌≡◌, ◌⊎◌, Option, IfOk, Some};
 ghost use Rattle.protocol.specs.Effects.{initiator_sends};
 ghost use Rattle.status.specs.Content.{Content as Terms};
 ghost use Rattle.status.specs.declared.rows.RowInput.TheVariants as words;
 
+use protocol::one_message;
 use protocol::wire::{Message, Notification, NotifiedStatus, Proposal, ProposalStatus, Request};
 use status::{Content, RowInput, Status, TransactionId};
 use std::alloc::Global;
 use units::{Code, Items, NoMemory, Node};
-
-/// A list of one message.
-fn one(alloc: Global, message: Message) -> Result<Items<Message>, NoMemory>
-    ensures { IfOk result (λ messages. messages ≡ message ∷ []) }
-{
-    let mut messages = Vec::new(alloc);
-    messages.push(message)?;
-    Ok(Items::from_vec(messages))
-}
 
 /// The proposal to the log.
 pub(crate) fn on_proposing(
@@ -34,7 +26,7 @@ pub(crate) fn on_proposing(
         status: ProposalStatus::Proposed,
         content: content.copy()?,
     };
-    one(alloc, Message::Proposal(proposal))
+    one_message(alloc, Message::Proposal(proposal))
 }
 
 /// What follows an order to ask for cancellation: a request to the log after the first one.
@@ -55,7 +47,7 @@ pub(crate) fn on_request(
         to: Node::Itl,
         id,
     };
-    one(alloc, Message::Request(request))
+    one_message(alloc, Message::Request(request))
 }
 
 /// What follows a notification of that status: Completed to the log after Accepted, and nothing after any other.
@@ -77,5 +69,5 @@ pub(crate) fn on_notified(
         id,
         notified: NotifiedStatus::Completed,
     };
-    one(alloc, Message::Notification(completed))
+    one_message(alloc, Message::Notification(completed))
 }

@@ -44,4 +44,4 @@ some_listed (x ∷ xs) n e h = (x, xs, refl)
 
 pub cancelled_sends : (scheme : Scheme) (tables : Tables) → IsKept scheme tables → (shown ids : List TransactionId) → shown ≡ ids → flat_map (λ t. log_sends t (transfer_state_content (transfer_state_in tables t)) [] column.CleanUp) shown
     ≡ flat_map (λ t. log_sends t (content_in (newest (transitions_of (history scheme Itl tables.records.inputs)) t)) [] column.CleanUp) ids
-cancelled_sends scheme tables kept shown ids is = λ i. flat_map (λ t. log_sends t (content_so scheme tables kept t i) [] column.CleanUp) (is i)
+cancelled_sends scheme tables kept shown ids is = λ i. flat_map (λ t. log_sends t (content_so kept t i) [] column.CleanUp) (is i)

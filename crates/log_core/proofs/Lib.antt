@@ -19,7 +19,6 @@ pub mod CleanedVerdicts
 pub mod TakenInputs
 pub mod EligibleRegistries
 pub mod CarriedEffects
-pub mod FirstCauses
 pub mod DecidedMessages
 pub mod EffectsOfMessages
 pub mod AgedTransfers

@@ -14,12 +14,14 @@ use Rattle.wire.specs.declared.input.Input.TheVariants.{Propose, Request, OpenAc
 use Rattle.scheme.specs.declared.registries.Scheme.{Scheme}
 use Rattle.records.specs.Records.{RecordsView}
 use Rattle.protocol.specs.AtLog.{log_verdict}
-use Rattle.protocol.specs.Deciding.{IsLate, IsRefused, IsRepeat}
+use Rattle.protocol.specs.Deciding.{IsRefused}
+use Rattle.protocol.specs.Decisions.{step_of}
 use Rattle.protocol.specs.History.{Entry}
 use Rattle.protocol.specs.Taking.{TakesInto}
 use Rattle.protocol.specs.Verdict.{history, verdict}
+use Rattle.protocol.specs.declared.decision.Stale.{Stale}
 use Rattle.protocol.specs.declared.node_core.Stepped.{Stepped}
-use Rattle.protocol.specs.declared.node_core.Stepped.TheVariants as stepped
+use Rattle.protocol.proofs.DecidedVerdicts.{stale_verdict}
 use Rattle.protocol.proofs.TakenIntoRecords as records
 use Rattle.log_core.specs.Kept.{AreKept, IsKept, waiting_cmp}
 use Rattle.log_core.specs.Taking.{Takes, verdict_by_rules}
@@ -78,11 +80,8 @@ module _ (scheme : Scheme) where
       → Takes scheme tables tables' input result
   takes_err tables tables' input result P h same e why = takes_same tables tables' input result h same (records.err_into scheme Itl tables.records tables'.records input result P h.records same.records e why)
 
-  pub takes_repeat : (tables : Tables) (input : Input) → IsKept scheme tables → verdict_by_rules scheme tables input ≡ IsRepeat → Takes scheme tables tables input (Ok stepped.Repeat)
-  takes_repeat tables input h is = takes_same tables tables input (Ok stepped.Repeat) h (are_same tables) (records.repeat_into scheme Itl tables.records input h.records is)
-
-  pub takes_late : (tables : Tables) (input : Input) → IsKept scheme tables → verdict_by_rules scheme tables input ≡ IsLate → Takes scheme tables tables input (Ok stepped.Late)
-  takes_late tables input h is = takes_same tables tables input (Ok stepped.Late) h (are_same tables) (records.late_into scheme Itl tables.records input h.records is)
+  pub takes_unmoved : (tables : Tables) (input : Input) (why : Stale) → IsKept scheme tables → verdict_by_rules scheme tables input ≡ stale_verdict why → Takes scheme tables tables input (Ok (step_of why))
+  takes_unmoved tables input why h is = takes_same tables tables input (Ok (step_of why)) h (are_same tables) (records.stale_into scheme Itl tables.records input why h.records is)
 
   -- ---- orders of registries
 

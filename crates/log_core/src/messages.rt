@@ -7,6 +7,7 @@ ghost use Rattle.units.specs.declared.code.Node.TheVariants as nodes;
 ghost use Rattle.status.specs.declared.rows.RowInput.TheVariants as column;
 ghost use Rattle.wire.specs.NotifiedStatuses.{notified_codes, notified_status};
 
+use protocol::one_message;
 use status::{Content, TransactionId};
 use std::alloc::Global;
 use units::{Code, Items, NoMemory, Node};
@@ -24,15 +25,6 @@ fn notification(registry: Code, id: TransactionId, notified: NotifiedStatus) -> 
     })
 }
 
-/// A list of one message.
-fn one(alloc: Global, message: Message) -> Result<Items<Message>, NoMemory>
-    ensures { IfOk result (λ messages. messages ≡ message ∷ []) }
-{
-    let mut messages = Vec::new(alloc);
-    messages.push(message)?;
-    Ok(Items::from_vec(messages))
-}
-
 /// What follows a proposal, by what was found in it: the proposal as Checked to the acquirer, or Terminated with the
 /// codes to the initiator.
 pub(crate) fn on_proposal(
@@ -45,7 +37,7 @@ pub(crate) fn on_proposal(
         (column_of_proposal None (codes_in found))) }
 {
     if let Some(codes) = found {
-        return one(
+        return one_message(
             alloc,
             notification(id.code, id, NotifiedStatus::Terminated(codes)),
         );
@@ -57,7 +49,7 @@ pub(crate) fn on_proposal(
         status: ProposalStatus::Checked,
         content: content.copy()?,
     };
-    one(alloc, Message::Proposal(proposal))
+    one_message(alloc, Message::Proposal(proposal))
 }
 
 /// What follows a notification: Accepted and Rejected go to the initiator, and Completed to the acquirer.
@@ -71,15 +63,15 @@ pub(crate) fn on_notified(
         (notified_codes notified.now) (column.Notified (notified_status notified.now))) }
 {
     match (notified, content) {
-        (NotifiedStatus::Accepted, _) => one(
+        (NotifiedStatus::Accepted, _) => one_message(
             alloc,
             notification(id.code, id, NotifiedStatus::Accepted),
         ),
         (NotifiedStatus::Rejected(codes), _) => {
             let notified = NotifiedStatus::Rejected(codes.copy()?);
-            one(alloc, notification(id.code, id, notified))
+            one_message(alloc, notification(id.code, id, notified))
         }
-        (NotifiedStatus::Completed, Some(content)) => one(
+        (NotifiedStatus::Completed, Some(content)) => one_message(
             alloc,
             notification(content.acquirer(), id, NotifiedStatus::Completed),
         ),

@@ -1,7 +1,5 @@
 //! Why the log refuses a message, before its table is asked.
 ghost use Rattle.std.specs.Prelude.{◌≡◌, List, option_copied, option_map};
-ghost use Rattle.units.specs.Code.{same_node};
-ghost use Rattle.units.specs.declared.code.Node.TheVariants as nodes;
 ghost use Rattle.status.specs.declared.id.TransactionId.{TransactionId as Id};
 ghost use Rattle.wire.specs.declared.message.Message.TheVariants as messages;
 ghost use Rattle.protocol.specs.AtLog as log;
@@ -16,28 +14,15 @@ ghost use Rattle.log_core.specs.Transfers.{transfer_state_of};
 use crate::registries::is_member;
 use crate::transfer::LoggedTransfer;
 use crate::transfers::{content, status};
+use protocol::{is_log, is_registry};
 use scheme::Scheme;
 use status::{Content, Status, TransactionId};
 use std::collections::BTreeMap;
+use units::Node;
 use units::refusal_code::{
     NO_ROW, OTHER_ADDRESSEE, OTHER_CONTENT, SENDER_NOT_ALLOWED, UNKNOWN_TRANSACTION, WRONG_PARTY,
 };
-use units::{Code, Node};
 use wire::{Message, Notification, Proposal, ProposalStatus, Request};
-
-/// Whether the node is the log.
-fn is_log(node: Node) -> bool
-    ensures { result ≡ same_node node nodes.Itl }
-{
-    node == Node::Itl
-}
-
-/// Whether the node is the registry of that code.
-fn is_registry(node: Node, code: Code) -> bool
-    ensures { result ≡ same_node node (nodes.Registry code) }
-{
-    node == Node::Registry(code)
-}
 
 /// Whether the node is no registry of the scheme.
 fn is_no_registry(scheme: &Scheme, node: Node) -> bool

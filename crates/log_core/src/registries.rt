@@ -1,10 +1,9 @@
-//! What the log goes by of registries: which the scheme has, and which may take part in transfers.
+//! What the log goes by of registries: which the scheme has, and the last orders on which may take part in transfers.
 ghost use Rattle.std.specs.BTreeMap as tree;
-ghost use Rattle.std.specs.Prelude.{◌≡◌, unwrap_or, OnOk, OnErr, Some, if◌then◌else◌};
+ghost use Rattle.std.specs.Prelude.{◌≡◌, OnOk, OnErr, Some, if◌then◌else◌};
 ghost use Rattle.units.specs.Code.{same_code};
 ghost use Rattle.units.specs.Keys.{code_cmp};
 ghost use Rattle.units.specs.declared.code.Code as declared_code;
-ghost use Rattle.checks.specs.Knowing.{starts_eligible};
 ghost use Rattle.protocol.specs.Registries.{has_member};
 
 use scheme::Scheme;
@@ -16,17 +15,6 @@ pub(crate) fn is_member(scheme: &Scheme, code: Code) -> bool
     ensures { result ≡ has_member scheme.now code }
 {
     scheme.member(code).is_some()
-}
-
-/// Whether the registry may take part in transfers: as the last order for it says, else as at the start.
-pub(crate) fn is_eligible(scheme: &Scheme, orders: &BTreeMap<Code, bool>, code: Code) -> bool
-    ensures { result ≡ unwrap_or (tree.get code_cmp orders.now code) (starts_eligible scheme.now code) }
-{
-    match (orders.get(&code), scheme.member(code)) {
-        (Some(may), _) => *may,
-        (None, Some(member)) => member.eligible,
-        (None, None) => false,
-    }
 }
 
 /// The last order for the registry is that one. After `NoMemory` nothing has changed.

@@ -11,10 +11,10 @@ ghost use Rattle.log_core.specs.Taking.{Takes, verdict_by_rules};
 ghost use Rattle.log_core.specs.Transfers.{IsAllowed};
 
 use crate::effect::LogEffect;
-use crate::registries::{is_eligible, is_member};
+use crate::registries::is_member;
 use crate::transfer::LoggedTransfer;
 use crate::waiting::Waiting;
-use checks::Register;
+use checks::{Register, is_eligible};
 use protocol::{Stepped, acknowledge};
 use records::Records;
 use scheme::Scheme;

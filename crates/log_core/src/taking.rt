@@ -12,11 +12,12 @@ ghost use Rattle.log_core.specs.Taking.{Takes};
 ghost use Rattle.log_core.specs.Transfers.{IsWithdrawal};
 
 use crate::effect::{LogEffect, TransferEffect};
+use crate::messages::{on_notified, on_proposal, on_request};
 use crate::refusals::message_refusal;
 use crate::tables::Tables;
-use crate::transfers::status;
+use crate::transfers::{content, status};
 use protocol::{Decision, Stepped};
-use status::{Moment, Status, TransactionId};
+use status::{Moment, RowInput, Status, TransactionId};
 use units::refusal_code::NO_ROW;
 use units::{NoMemory, Refusal};
 use wire::{Input, Message, Notification, Proposal, Request};
@@ -75,15 +76,17 @@ impl Tables {
             (messages.Proposal proposal.now)) ≡ None }
         ensures { Takes self.old.scheme self.old self.new input.now result }
     {
-        let (id, content) = (proposal.id, &proposal.content);
-        match self.on_proposal(id, content)? {
-            Decision::Moves { new, messages } => {
-                let content = Some(content.copy()?);
+        let (id, proposed) = (proposal.id, &proposal.content);
+        let found = self.findings(id, proposed)?;
+        let decision = self.decide(id, self.column_of_proposal(id, &found))?;
+        match decision {
+            Decision::Moves(new) => {
+                let messages = on_proposal(self.alloc, id, proposed, found)?;
+                let content = Some(proposed.copy()?);
                 let effect = TransferEffect::Begin { id, new, content };
                 self.record(input, LogEffect::Transfers { effect, moment }, messages)
             }
-            Decision::Repeat => Ok(Stepped::Repeat),
-            Decision::Late => Ok(Stepped::Late),
+            Decision::Stays(stale) => Ok(Stepped::from(stale)),
         }
     }
 
@@ -100,14 +103,16 @@ impl Tables {
             (messages.Notification notification.now)) ≡ None }
         ensures { Takes self.old.scheme self.old self.new input.now result }
     {
-        let id = notification.id;
-        match self.on_notified(id, &notification.notified)? {
-            Decision::Moves { new, messages } => {
+        let (id, notified) = (notification.id, &notification.notified);
+        let decision = self.decide(id, RowInput::Notified(notified.status()))?;
+        match decision {
+            Decision::Moves(new) => {
+                let content = content(&self.transfers, id);
+                let messages = on_notified(self.alloc, id, content, notified)?;
                 let effect = TransferEffect::Advance { id, new };
                 self.record(input, LogEffect::Transfers { effect, moment }, messages)
             }
-            Decision::Repeat => Ok(Stepped::Repeat),
-            Decision::Late => Ok(Stepped::Late),
+            Decision::Stays(stale) => Ok(Stepped::from(stale)),
         }
     }
 
@@ -125,13 +130,14 @@ impl Tables {
         ensures { Takes self.old.scheme self.old self.new input.now result }
     {
         let id = request.id;
-        match self.on_request(id)? {
-            Decision::Moves { messages, .. } => {
+        let decision = self.decide(id, RowInput::Request)?;
+        match decision {
+            Decision::Moves(_) => {
+                let messages = on_request(self.alloc, id, content(&self.transfers, id))?;
                 let effect = self.withdrawal(id)?;
                 self.record(input, LogEffect::Transfers { effect, moment }, messages)
             }
-            Decision::Repeat => Ok(Stepped::Repeat),
-            Decision::Late => Ok(Stepped::Late),
+            Decision::Stays(stale) => Ok(Stepped::from(stale)),
         }
     }
 

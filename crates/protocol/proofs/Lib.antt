@@ -4,6 +4,7 @@ pub mod RefusedBy
 pub mod OutgoingRecords
 pub mod RecordsRead
 pub mod TakenIntoRecords
+pub mod DecidedVerdicts
 pub mod NodeIndices
 pub mod CountsInLists
 pub mod UnitsOfBlocks

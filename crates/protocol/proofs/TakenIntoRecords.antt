@@ -22,8 +22,12 @@ use Rattle.protocol.specs.History.{Transition, messages_of}
 use Rattle.protocol.specs.Outgoing.{did, outgoing}
 use Rattle.protocol.specs.Taking.{TakesInto}
 use Rattle.protocol.specs.Verdict.{history, transitions_made, verdict}
+use Rattle.protocol.specs.Decisions.{step_of}
+use Rattle.protocol.specs.declared.decision.Stale.{Stale}
+use Rattle.protocol.specs.declared.decision.Stale.TheVariants as stale
 use Rattle.protocol.specs.declared.node_core.Stepped.{Stepped}
 use Rattle.protocol.specs.declared.node_core.Stepped.TheVariants as stepped
+use Rattle.protocol.proofs.DecidedVerdicts.{stale_verdict}
 use Rattle.protocol.proofs.Histories.{length_history}
 use Rattle.protocol.proofs.OutgoingRecords.{none_made, outgoing_snoc}
 use Rattle.protocol.proofs.RecordsRead.{acknowledged_read, sends_read}
@@ -56,6 +60,10 @@ module _ (scheme : Scheme) (n : Node) where
 
   pub late_into : (old : RecordsView) (input : Input) → AreRecordsOf scheme n old.inputs old → verdict scheme n (history scheme n old.inputs) input ≡ IsLate → TakesInto scheme n old old input (Ok stepped.Late)
   late_into old input are is = record { answer_is = inl (ap (answer_of (length old.inputs)) (sym is)); journal_is = refl; records = are }
+
+  pub stale_into : (old : RecordsView) (input : Input) (why : Stale) → AreRecordsOf scheme n old.inputs old → verdict scheme n (history scheme n old.inputs) input ≡ stale_verdict why → TakesInto scheme n old old input (Ok (step_of why))
+  stale_into old input stale.Repeat are is = repeat_into old input are is
+  stale_into old input stale.Late are is = late_into old input are is
 
   -- those of no record
   pub no_records : AreRecordsOf scheme n [] (record { inputs = []; sent = [] })

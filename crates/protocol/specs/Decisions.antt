@@ -1,23 +1,30 @@
--- What a role is to decide for an input, by the causes of refusals, the row of its table, and the messages that it
--- sends.
-use Rattle.std.specs.Prelude.{cond, List, [], ◌∷◌, Result, Ok, Err}
+-- What a role is to decide for an input, by the causes of refusals and the row of its table; and what becomes of an
+-- input that changes nothing.
+use Rattle.std.specs.Prelude.{cond, [], ◌∷◌, Result, Ok, Err}
 use Rattle.units.specs.RefusalCodes.{no_row}
 use Rattle.units.specs.declared.refusal.Refusal.{Refusal}
 use Rattle.status.specs.declared.rows.Row.{Row}
 use Rattle.status.specs.declared.rows.Row.TheVariants.{Move, Repeat, Late, Refused}
-use Rattle.wire.specs.declared.message.Message.{Message}
 use Rattle.protocol.specs.declared.decision.Decision.{Decision}
-use Rattle.protocol.specs.declared.decision.Decision.TheVariants as decision
+use Rattle.protocol.specs.declared.decision.Decision.TheVariants.{Moves, Stays}
+use Rattle.protocol.specs.declared.decision.Stale.{Stale}
+use Rattle.protocol.specs.declared.decision.Stale.TheVariants as stale
+use Rattle.protocol.specs.declared.node_core.Stepped.{Stepped}
+use Rattle.protocol.specs.declared.node_core.Stepped.TheVariants as stepped
 use Rattle.protocol.specs.Checks.{Causes}
 
--- by the row, with the messages that are sent where it moves
-abbrev pub decided : Row → List Message → Result Decision Refusal
-decided (Move new) messages = Ok (decision.Moves new messages)
-decided Repeat messages = Ok decision.Repeat
-decided Late messages = Ok decision.Late
-decided Refused messages = Err (record { code = no_row })
+-- by the row
+abbrev pub decided : Row → Result Decision Refusal
+decided (Move new) = Ok (Moves new)
+decided Repeat = Ok (Stays stale.Repeat)
+decided Late = Ok (Stays stale.Late)
+decided Refused = Err (record { code = no_row })
 
 -- refused by the first cause that holds, else what follows
 abbrev pub unless : {X : Type 0} → Causes → Result X Refusal → Result X Refusal
 unless [] answer = answer
 unless (c ∷ cs) answer = cond c.0 (Err (record { code = c.1 })) (unless cs answer)
+
+abbrev pub step_of : Stale → Stepped
+step_of stale.Repeat = stepped.Repeat
+step_of stale.Late = stepped.Late

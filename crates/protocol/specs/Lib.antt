@@ -9,6 +9,7 @@ pub mod AtLog
 pub mod Verdict
 pub mod Cores
 pub mod Decisions
+pub mod Outcomes
 pub mod Table
 pub mod Refusing
 pub mod World

@@ -1,5 +1,8 @@
 //! What happens in a world, and what comes of it.
+ghost use Rattle.std.specs.Prelude.{◌≡◌};
+ghost use Rattle.protocol.specs.Outcomes.{outcome_of};
 
+use crate::node_core::Stepped;
 use status::Moment;
 use units::Node;
 use wire::{Input, Message};
@@ -34,6 +37,18 @@ pub enum Outcome {
     Refused(u16),
     Done,
     NotPossible,
+}
+
+impl From<Stepped> for Outcome {
+    ghost from_gives = { λ stepped outcome. outcome ≡ outcome_of stepped };
+
+    fn from(stepped: Stepped) -> Outcome {
+        match stepped {
+            Stepped::Recorded(place) => Outcome::Recorded(place as u64),
+            Stepped::Repeat => Outcome::Repeat,
+            Stepped::Late => Outcome::Late,
+        }
+    }
 }
 
 /// A message in the bag, with the node that posted it and its key there.

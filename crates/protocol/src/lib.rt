@@ -6,6 +6,7 @@
 
 mod decision;
 mod event;
+mod messages;
 mod node_core;
 mod nodes;
 mod recording;
@@ -13,10 +14,11 @@ mod refusals;
 mod replay_fault;
 mod resuming;
 
-pub use decision::Decision;
+pub use decision::{Decision, Stale};
 pub use event::{Outcome, Posted, WorldEvent};
+pub use messages::one_message;
 pub use node_core::{NodeCore, Stepped};
-pub use nodes::{index_of, node_at, nodes_of};
+pub use nodes::{index_of, is_log, is_registry, node_at, nodes_of};
 pub use recording::acknowledge;
 pub use refusals::refusals_have_causes;
 pub use replay_fault::ReplayFault;

@@ -1,10 +1,12 @@
-//! The nodes of a scheme and their indices: the log, then the registries in the scheme's order.
+//! The nodes of a scheme and their indices: the log, then the registries in the scheme's order; and which node one is.
 ghost use Rattle.std.specs.Prelude.{◌≡◌, ◌<◌, IfOk, Some, length, slice_get};
+ghost use Rattle.units.specs.Code.{same_node};
+ghost use Rattle.units.specs.declared.code.Node.TheVariants.{Itl, Registry};
 ghost use Rattle.protocol.specs.Registries.{nodes, index_of};
 
 use scheme::Scheme;
 use std::alloc::Global;
-use units::{NoMemory, Node};
+use units::{Code, NoMemory, Node};
 
 /// The nodes of the scheme: the log, then the registries in the scheme's order. Fails with `NoMemory` where memory ran
 /// out.
@@ -42,4 +44,18 @@ pub fn node_at(scheme: &Scheme, index: usize) -> Node
         return Node::Itl;
     }
     Node::Registry(scheme.registries()[index - 1].code)
+}
+
+/// Whether the node is the log.
+pub fn is_log(node: Node) -> bool
+    ensures { result ≡ same_node node Itl }
+{
+    node == Node::Itl
+}
+
+/// Whether the node is the registry of that code.
+pub fn is_registry(node: Node, code: Code) -> bool
+    ensures { result ≡ same_node node (Registry code) }
+{
+    node == Node::Registry(code)
 }

@@ -1,4 +1,4 @@
--- What the tables do with an input for which a role has decided.
+-- The verdict on a message that a registry refuses, and the effect of one that ends a transfer to it.
 use Rattle.std.proofs.Common.{◌≡◌, ℕ, Bool, true, false, not, List, [], ◌∷◌, Some, None, Ok, Err, inl, inr, refl, sym, ap, subst, ◌∙◌}
 use Rattle.std.specs.FinMap as map
 use Rattle.std.specs.Prelude.{Result, is_some}
@@ -7,12 +7,10 @@ use Rattle.units.specs.Code.{same_code}
 use Rattle.units.specs.RefusalCodes.{no_row}
 use Rattle.units.specs.declared.code.Code.{Code}
 use Rattle.units.specs.declared.code.Node.TheVariants.{Registry}
-use Rattle.units.specs.declared.refusal.Refusal.{Refusal}
 use Rattle.status.specs.Rows.{acquirer_row, initiator_row}
 use Rattle.status.specs.Status.{same_status}
 use Rattle.status.specs.declared.rows.RecordedStatus.{RecordedStatus}
 use Rattle.status.specs.declared.rows.RecordedStatus.TheVariants.{Bare, Stands, Unknown}
-use Rattle.status.specs.declared.rows.Row.{Row}
 use Rattle.status.specs.declared.rows.Row.TheVariants.{Move, Refused}
 use Rattle.status.specs.declared.rows.RowInput.TheVariants as column
 use Rattle.status.specs.declared.rows.RowInput.TheVariants.{Notified}
@@ -28,17 +26,12 @@ use Rattle.wire.specs.declared.message.Request.{Request}
 use Rattle.scheme.specs.declared.registries.Scheme.{Scheme}
 use Rattle.status.specs.declared.moment.Moment.{Moment}
 use Rattle.protocol.specs.AtRegistry.{holding, holds_some, registry_answer, registry_refusals, unless_held}
-use Rattle.protocol.specs.Checks.{Causes}
-use Rattle.protocol.specs.Cores.{IsExpectedOrNoMemory}
 use Rattle.protocol.specs.Deciding as decide
 use Rattle.protocol.specs.Effects.{acquirer_sends, initiator_sends}
 use Rattle.units.proofs.Lists.OneValue.{clash}
-use Rattle.protocol.specs.Deciding.{IsLate, IsRefused, IsRepeat, by_row, content_in, recorded_if_room, known, refuse}
-use Rattle.protocol.specs.Decisions.{decided, unless}
+use Rattle.protocol.specs.Deciding.{IsRefused, by_row, content_in, known}
 use Rattle.protocol.specs.History.{Entry, Transition, newest, transitions_of}
 use Rattle.protocol.specs.Verdict.{history}
-use Rattle.protocol.specs.declared.decision.Decision.{Decision}
-use Rattle.protocol.specs.declared.decision.Decision.TheVariants as decision
 use Rattle.checks.specs.Knowing.{Knows}
 use Rattle.checks.specs.Refusing.{first_of}
 use Rattle.safety.proofs.MovesAndHistories.TableRows.{acquirer_from, acquirer_notified, unless_moves}
@@ -48,45 +41,18 @@ use Rattle.registry_core.specs.Kept.{IsKept}
 use Rattle.registry_core.specs.Readings.{is_foreign}
 use Rattle.registry_core.specs.Taking.{verdict_by_rules}
 use Rattle.registry_core.specs.declared.tables.Tables.{Tables}
-use Rattle.registry_core.proofs.DecisionsAndVerdicts.{unless_enters, unless_late, unless_moves as causes_move, unless_refused, unless_repeat}
-use Rattle.registry_core.proofs.FirstRefusals.{first_none, refuse_first, refuse_none}
+use Rattle.checks.proofs.FirstCauses.{refuse_first}
+use Rattle.registry_core.proofs.FirstRefusals.{first_none, refuse_none}
 use Rattle.registry_core.proofs.KnownHoldings.{knows}
 use Rattle.registry_core.proofs.RecordedEntries.{entered_made, replays_entered}
 use Rattle.registry_core.proofs.TablesSayHistory.{foreign_there_so}
-use Rattle.registry_core.proofs.TakenInputs.{GivenUp, verdict_so}
+use Rattle.registry_core.proofs.TakenInputs.{verdict_so}
 
 -- what the holdings know is what the history says
 pub knows_so : (scheme : Scheme) (c : Code) (tables : Tables) → IsKept scheme c tables → Knows scheme c tables.holdings (holding scheme c (history scheme (Registry c) tables.records.inputs))
 knows_so scheme c tables kept =
     let es = history scheme (Registry c) tables.records.inputs in
     knows scheme c es (entered_made scheme c es (replays_entered scheme c tables.records.inputs kept.records.replays)) tables.holdings kept.kept.unit_holdings kept.kept.accounts
-
--- ---- a decision, where the verdict on the input goes by that row after those causes
-
-module _ (scheme : Scheme) (c : Code) (tables : Tables) (input : Input) (to : Status → Transition) (cs : Causes) (row : Row) (ms : List Message) (d : Result Decision Refusal)
-    (is : IsExpectedOrNoMemory d (unless cs (decided row ms)))
-    (row_is : verdict_by_rules scheme c tables input ≡ refuse cs (by_row scheme (history scheme (Registry c) tables.records.inputs) to row)) where
-  pub given_up : (r : Refusal) → d ≡ Err r → GivenUp scheme c tables input r.code
-  given_up r h =
-      elim (unless_refused scheme (history scheme (Registry c) tables.records.inputs) to cs row ms d r is h) [
-        | inl memory ↦ inl memory
-        | inr e ↦ inr (row_is ∙ e)
-      ]
-
-  pub moves : (new : Status) (ms' : List Message) → d ≡ Ok (decision.Moves new ms') → verdict_by_rules scheme c tables input ≡ recorded_if_room scheme (history scheme (Registry c) tables.records.inputs) (to new ∷ [])
-  moves new ms' h = row_is ∙ unless_enters scheme (history scheme (Registry c) tables.records.inputs) to cs row ms ms' new d is h
-
-  pub sends : (new : Status) (ms' : List Message) → d ≡ Ok (decision.Moves new ms') → ms' ≡ ms
-  sends new ms' h = (causes_move cs row ms ms' new d is h).2
-
-  pub row_moves : (new : Status) (ms' : List Message) → d ≡ Ok (decision.Moves new ms') → row ≡ Move new
-  row_moves new ms' h = (causes_move cs row ms ms' new d is h).1
-
-  pub repeats : d ≡ Ok decision.Repeat → verdict_by_rules scheme c tables input ≡ IsRepeat
-  repeats h = row_is ∙ unless_repeat scheme (history scheme (Registry c) tables.records.inputs) to cs row ms d is h
-
-  pub comes_late : d ≡ Ok decision.Late → verdict_by_rules scheme c tables input ≡ IsLate
-  comes_late h = row_is ∙ unless_late scheme (history scheme (Registry c) tables.records.inputs) to cs row ms d is h
 
 -- ---- messages
 

@@ -17,22 +17,14 @@ use Rattle.status.specs.declared.id.TransactionId.{TransactionId}
 use Rattle.std.proofs.lemmas.Bool.{cond-false}
 use Rattle.protocol.specs.AtRegistry.{content_of, holding, new_transfer_verdict, registry_verdict}
 use Rattle.checks.specs.Refusing.{first_of, order_refusals}
+use Rattle.checks.proofs.FirstCauses.{refuse_first}
 use Rattle.status.specs.Id.{id_at}
 use Rattle.status.specs.Rows.{initiator_row}
 use Rattle.protocol.specs.Effects.{initiator_sends}
 use Rattle.protocol.specs.Verdict.{transitions_made}
 use Rattle.safety.proofs.OneRegistry.ProposalNumbers.{next_is_new}
-use Rattle.units.proofs.Lists.OneValue.{one_some}
 use Rattle.safety.proofs.MovesAndHistories.TransitionForms.{proposed}
 use Rattle.units.specs.RefusalCodes.{transactions_used_up}
-
-pub refuse_first : (cs : Causes) (v : Verdict) (n : ℕ) → first_of cs ≡ Some n → refuse cs v ≡ IsRefused n
-refuse_first [] v n h = absurd (cc (h))
-refuse_first (c ∷ cs) v n h = go c.0 c.1 h (refuse_first cs v n)
-  where
-    go : (b : Bool) (m : ℕ) → cond b (Some m) (first_of cs) ≡ Some n → (first_of cs ≡ Some n → refuse cs v ≡ IsRefused n) → cond b (IsRefused m) (refuse cs v) ≡ IsRefused n
-    go true m e rest = ap (λ (k : ℕ). IsRefused k) (one_some m n e)
-    go false m e rest = rest e
 
 pub first_none : (cs : Causes) → first_of cs ≡ None → NoneStands cs
 first_none [] h = tt

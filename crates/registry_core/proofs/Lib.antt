@@ -21,7 +21,6 @@ pub mod KeptByMoves
 pub mod TakenInputs
 pub mod KeptByOrders
 pub mod TakenAcknowledgements
-pub mod DecisionsAndVerdicts
 pub mod CoreReadings
 pub mod RowsOfInputs
 pub mod DecidedInputs

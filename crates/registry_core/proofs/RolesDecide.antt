@@ -1,5 +1,5 @@
 -- What a role decided for an input, beside the verdict on it; and what the tables do by that.
-use Rattle.std.proofs.Common.{append-nil, ◌≡◌, ◌+◌, ◌⊎◌, ℕ, true, false, List, [], ◌∷◌, Some, None, Ok, Err, inl, inr, refl, sym, ap, subst, ◌∙◌}
+use Rattle.std.proofs.Common.{append-nil, ◌≡◌, ◌+◌, ◌⊎◌, ℕ, cond, true, false, List, [], ◌∷◌, Some, None, Ok, Err, inl, inr, refl, sym, ap, subst, ◌∙◌}
 use Rattle.std.specs.FinMap.{get}
 use Rattle.std.specs.List.{list_any}
 use Rattle.std.specs.Option.{option_map_or}
@@ -17,6 +17,8 @@ use Rattle.status.specs.Rows.{acquirer_row, initiator_row}
 use Rattle.status.specs.declared.id.TransactionId.{TransactionId}
 use Rattle.status.specs.declared.moment.Moment.{Moment}
 use Rattle.status.specs.declared.rows.Row.{Row}
+use Rattle.status.specs.declared.rows.Row.TheVariants.{Move}
+use Rattle.status.specs.declared.rows.RowInput.{RowInput}
 use Rattle.status.specs.declared.rows.RowInput.TheVariants as column
 use Rattle.status.specs.declared.rows.RowInput.TheVariants.{Notified}
 use Rattle.status.specs.declared.status.Status.{Status}
@@ -29,47 +31,43 @@ use Rattle.wire.specs.declared.message.Notification.{Notification}
 use Rattle.wire.specs.declared.message.Proposal.{Proposal}
 use Rattle.scheme.specs.declared.registries.Scheme.{Scheme}
 use Rattle.protocol.specs.AtRegistry.{content_of, holding, registry_refusals, unless_held}
-use Rattle.protocol.specs.Checks.{Causes, Holding, acquirer_findings}
-use Rattle.protocol.specs.Cores.{IsExpectedOrNoMemory}
-use Rattle.protocol.specs.Deciding.{by_row, content_in, recorded_if_room, moved, column_of_proposal, refuse}
-use Rattle.protocol.specs.Decisions.{decided, unless}
+use Rattle.protocol.specs.Checks.{Holding, acquirer_findings}
+use Rattle.protocol.specs.Deciding.{content_in, recorded_if_room, moved, column_of_proposal}
+use Rattle.protocol.specs.Decisions.{decided, step_of, unless}
 use Rattle.protocol.specs.Effects.{acquirer_sends, initiator_sends}
 use Rattle.protocol.specs.History.{Entry, Transition, messages_of, newest, proposals, transitions_of}
 use Rattle.protocol.specs.Pieces.{pieces}
 use Rattle.protocol.specs.Verdict.{history}
 use Rattle.protocol.specs.declared.decision.Decision.{Decision}
-use Rattle.protocol.specs.declared.decision.Decision.TheVariants as decision
+use Rattle.protocol.specs.declared.decision.Decision.TheVariants.{Moves, Stays}
+use Rattle.protocol.specs.declared.decision.Stale.{Stale}
 use Rattle.protocol.specs.declared.node_core.Stepped.{Stepped}
-use Rattle.protocol.specs.declared.node_core.Stepped.TheVariants as stepped
+use Rattle.protocol.proofs.DecidedVerdicts.{decided_so, moves_by, same_column, verdict_of}
 use Rattle.checks.specs.Knowing.{Knows}
 use Rattle.checks.specs.Refusing.{first_of, order_refusals}
 use Rattle.initiator.specs.Transfers as initiator
 use Rattle.acquirer.specs.Transfers as acquirer
+use Rattle.acquirer.specs.declared.transfer.IncomingTransfer.{IncomingTransfer}
+use Rattle.safety.proofs.MovesAndHistories.TableRows.{acquirer_offered}
 use Rattle.safety.proofs.OneRegistry.TransactionEnds.{own_code}
 use Rattle.registry_core.specs.Effects.{AreEffects, IsEffect, ending}
 use Rattle.registry_core.specs.Kept.{IsKept}
 use Rattle.registry_core.specs.Taking.{Takes, verdict_by_rules}
 use Rattle.registry_core.specs.declared.effect.RegistryEffect.{RegistryEffect}
 use Rattle.registry_core.specs.declared.tables.Tables.{Tables}
-use Rattle.registry_core.proofs.DecidedInputs.{comes_late, ending_effect, given_up, knows_so, moves, repeats, row_moves, sends, welcome_foreign}
+use Rattle.registry_core.proofs.DecidedInputs.{ending_effect, knows_so, welcome_foreign}
 use Rattle.registry_core.proofs.FirstRefusals.{order_refused}
 use Rattle.registry_core.proofs.RowsOfInputs.{arrive_row, finish_row, propose_row, request_row, conclude_row}
 use Rattle.registry_core.proofs.TablesSayHistory.{foreign_known_so}
-use Rattle.registry_core.proofs.TakenInputs.{GivenUp, are_same, verdict_so, takes_err, takes_late, takes_repeat}
+use Rattle.registry_core.proofs.TakenInputs.{GivenUp, are_same, verdict_so, takes_err, takes_unmoved}
 
 -- the history of the tables' journal
 abbrev past : Scheme → Code → Tables → List Entry
 past scheme c tables = history scheme (Registry c) tables.records.inputs
 
--- a role's decision goes by a row, after causes of refusals, and sends messages; and so does the verdict, whose
--- transition is the one given for a status
+-- the verdict on the input is the one that the decision makes, whose transition to a status is that one
 pub record Decided (scheme : Scheme) (c : Code) (tables : Tables) (input : Input) (to : Status → Transition) (d : Result Decision Refusal) : Type 0 where
-  pub causes : Causes
-  pub row : Row
-  pub messages : List Message
-  pub is : IsExpectedOrNoMemory d (unless causes (decided row messages))
-  pub row_is : verdict_by_rules scheme c tables input ≡ refuse causes (by_row scheme (past scheme c tables) to row)
-  pub sent : (new : Status) → (to new).messages ≡ messages
+  pub verdict_is : verdict_by_rules scheme c tables input ≡ verdict_of scheme (past scheme c tables) to d
 
 -- one transition has the effect that it asks for
 one_effect : (c : Code) (es : List Entry) (input : Input) (x : Transition) (effect : RegistryEffect) → IsEffect c es input x effect → AreEffects c es input (x ∷ []) effect
@@ -80,22 +78,37 @@ one_effect c es input x effect h = h
 module _ {scheme : Scheme} {c : Code} {tables : Tables} {input : Input} {to : Status → Transition} {d : Result Decision Refusal} (kept : IsKept scheme c tables) (by : Decided scheme c tables input to d) where
   pub takes_failed : {result : Result Stepped Refusal} {r : Refusal} → d ≡ Err r → IsErrAnd result (λ e. e ≡ r) → Takes scheme c tables tables input result
   takes_failed {result} {r} h e =
-      takes_err scheme c tables tables input result (λ e. e ≡ r) kept (are_same tables) e (λ e is. subst (λ (q : Refusal). GivenUp scheme c tables input q.code) (sym is) (given_up scheme c tables input to by.causes by.row by.messages d by.is by.row_is r h))
+      takes_err scheme c tables tables input result (λ e. e ≡ r) kept (are_same tables) e (λ e is. subst (λ (q : Refusal). GivenUp scheme c tables input q.code) (sym is) (inr (by.verdict_is ∙ ap (verdict_of scheme (past scheme c tables) to) h)))
 
-  pub takes_again : d ≡ Ok decision.Repeat → Takes scheme c tables tables input (Ok stepped.Repeat)
-  takes_again h = takes_repeat scheme c tables input kept (repeats scheme c tables input to by.causes by.row by.messages d by.is by.row_is h)
+  pub takes_stale : {why : Stale} {step : Stepped} → d ≡ Ok (Stays why) → step ≡ step_of why → Takes scheme c tables tables input (Ok step)
+  takes_stale {why} {step} h is =
+      subst (λ (s : Stepped). Takes scheme c tables tables input (Ok s)) (sym is) (takes_unmoved scheme c tables input why kept (by.verdict_is ∙ ap (verdict_of scheme (past scheme c tables) to) h))
 
-  pub takes_too_late : d ≡ Ok decision.Late → Takes scheme c tables tables input (Ok stepped.Late)
-  takes_too_late h = takes_late scheme c tables input kept (comes_late scheme c tables input to by.causes by.row by.messages d by.is by.row_is h)
-
-  pub moves_so : (effect : RegistryEffect) {given : Input} {new : Status} {ms : List Message} → input ≡ given → d ≡ Ok (decision.Moves new ms) → IsEffect c (past scheme c tables) given (to new) effect
+  pub moves_so : (effect : RegistryEffect) {given : Input} {new : Status} {ms : List Message} → input ≡ given → d ≡ Ok (Moves new) → ms ≡ (to new).messages → IsEffect c (past scheme c tables) given (to new) effect
       → (xs : List Transition) × (verdict_by_rules scheme c tables input ≡ recorded_if_room scheme (past scheme c tables) xs) × (ms ≡ messages_of xs) × AreEffects c (past scheme c tables) input xs effect
-  moves_so effect {given} {new} {ms} is h e = (
+  moves_so effect {given} {new} {ms} is h sent e = (
     to new ∷ [],
-    moves scheme c tables input to by.causes by.row by.messages d by.is by.row_is new ms h,
-    sends scheme c tables input to by.causes by.row by.messages d by.is by.row_is new ms h ∙ sym (by.sent new) ∙ sym (append-nil (to new).messages),
+    by.verdict_is ∙ ap (verdict_of scheme (past scheme c tables) to) h,
+    sent ∙ sym (append-nil (to new).messages),
     one_effect c (past scheme c tables) input (to new) effect (subst (λ i. IsEffect c (past scheme c tables) i (to new) effect) (sym is) e),
   )
+
+-- where memory ran out, nothing has changed
+pub takes_no_memory : {scheme : Scheme} {c : Code} {tables : Tables} {input : Input} {result : Result Stepped Refusal} → IsKept scheme c tables → IsErrAnd result (λ e. e.code ≡ out_of_memory) → Takes scheme c tables tables input result
+takes_no_memory {scheme} {c} {tables} {input} {result} kept e = takes_err scheme c tables tables input result (λ e. e.code ≡ out_of_memory) kept (are_same tables) e (λ e is. inl is)
+
+-- ---- a proposal that moves is new
+
+moves_new : (t : TransactionId) (x : Option IncomingTransfer) (found : List ℕ) (new : Status) → acquirer_row (acquirer.known_transfer x) (column_of_proposal (acquirer.kept_content x) found) ≡ Move new → acquirer.kept_content x ≡ None
+moves_new t None found new h = refl
+moves_new t (Some x) found new h = go x.content refl
+  where
+    go : (k : Option Content) → x.content ≡ k → x.content ≡ None
+    go None is = is
+    go (Some k) is =
+        absurd
+        (acquirer_offered (record { id = t; new = x.status; content = Some k; moment = 0; messages = [] }) found new
+        (subst (λ (o : Option Content). acquirer_row (acquirer.known_of (record x { content = o })) (column_of_proposal o found) ≡ Move new) is h))
 
 -- ---- what the roles decide
 
@@ -122,91 +135,104 @@ module _ {scheme : Scheme} {c : Code} {tables : Tables} (kept : IsKept scheme c 
   abbrev pub to_propose : Order → TransactionId → Status → Transition
   to_propose o t = moved t (Some (content_of o)) 0 (initiator_sends c t (Some (content_of o)) column.Propose)
 
-  pub proposed : {input : Input} {d : Result Decision Refusal} {o : Order} {t : TransactionId} {k : Content} → input ≡ Propose o → ((q : Holding) → Knows scheme tables.initiator.code tables.holdings q → first_of (order_refusals scheme tables.initiator.code q tables.initiator.last o) ≡ None)
-      → id_at tables.initiator.code (tables.initiator.last + 1) ≡ Some t → k ≡ content_of o
-      → IsExpectedOrNoMemory d (decided (initiator_row (initiator.known_transfer (get tables.initiator.transfers t)) column.Propose) (initiator_sends tables.initiator.code t (Some k) column.Propose)) → Decided scheme c tables input (to_propose o t) d
-  proposed {input} {d} {o} {t} {k} given passes number content decides =
+  pub proposed : {input : Input} {d : Result Decision Refusal} {o : Order} {t : TransactionId} → input ≡ Propose o → ((q : Holding) → Knows scheme tables.initiator.code tables.holdings q → first_of (order_refusals scheme tables.initiator.code q tables.initiator.last o) ≡ None)
+      → id_at tables.initiator.code (tables.initiator.last + 1) ≡ Some t → d ≡ decided (initiator_row (initiator.known_transfer (get tables.initiator.transfers t)) column.Propose) → Decided scheme c tables input (to_propose o t) d
+  proposed {input} {d} {o} {t} given passes number decides =
       let at = subst (λ l. id_at c (l + 1) ≡ Some t) kept.kept.last (subst (λ e. id_at e (tables.initiator.last + 1) ≡ Some t) kept.kept.initiator number) in
-      let row = initiator_row (initiator.known_transfer (get tables.initiator.transfers t)) column.Propose in
       record {
-        causes = [];
-        row = row;
-        messages = initiator_sends c t (Some (content_of o)) column.Propose;
-        is = subst (λ x. IsExpectedOrNoMemory d (decided row (initiator_sends c t (Some x) column.Propose))) content (subst (λ e. IsExpectedOrNoMemory d (decided row (initiator_sends e t (Some k) column.Propose))) kept.kept.initiator decides);
-        row_is = ap (verdict_by_rules scheme c tables) given ∙ propose_row scheme c tables kept o t (order_passes o passes) at (own_code scheme c (proposals (past scheme c tables) + 1) t at);
-        sent = λ new. refl;
+        verdict_is =
+            ap (verdict_by_rules scheme c tables) given ∙ propose_row scheme c tables kept o t (order_passes o passes) at (own_code scheme c (proposals (past scheme c tables) + 1) t at)
+            ∙ decided_so scheme (past scheme c tables) (to_propose o t) [] (initiator_row (initiator.known_transfer (get tables.initiator.transfers t)) column.Propose) d decides;
       }
+
+  pub proposal_sent : (o : Order) {t : TransactionId} {k : Content} {ms : List Message} (new : Status) → k ≡ content_of o → ms ≡ initiator_sends tables.initiator.code t (Some k) column.Propose → ms ≡ (to_propose o t new).messages
+  proposal_sent o {t} {k} {ms} new content sent = sent ∙ (λ i. initiator_sends (kept.kept.initiator i) t (Some (content i)) column.Propose)
 
   -- an order to ask for a transfer's cancellation
+  abbrev asked_column : TransactionId → RowInput
+  asked_column t = initiator.column_of_request (get tables.initiator.transfers t)
+
+  abbrev pub last_content : TransactionId → Option Content
+  last_content t = content_in (newest (transitions_of (past scheme c tables)) t)
+
   abbrev pub to_ask : TransactionId → Status → Transition
-  to_ask t = moved t (content_in (newest (transitions_of (past scheme c tables)) t)) 0 (initiator_sends c t (content_in (newest (transitions_of (past scheme c tables)) t)) (initiator.column_of_request (get tables.initiator.transfers t)))
+  to_ask t = moved t (last_content t) 0 (initiator_sends c t (last_content t) (asked_column t))
 
   pub requested : {input : Input} {d : Result Decision Refusal} {t : TransactionId} → input ≡ Request t
-      → ((k : Option Content) → IsExpectedOrNoMemory d (unless (initiator.cancellation_refusals tables.initiator t)
-      (decided (initiator_row (initiator.known_transfer (get tables.initiator.transfers t)) (initiator.column_of_request (get tables.initiator.transfers t))) (initiator_sends tables.initiator.code t k (initiator.column_of_request (get tables.initiator.transfers t))))))
-      → Decided scheme c tables input (to_ask t) d
+      → d ≡ unless (initiator.cancellation_refusals tables.initiator t) (decided (initiator_row (initiator.known_transfer (get tables.initiator.transfers t)) (asked_column t))) → Decided scheme c tables input (to_ask t) d
   requested {input} {d} {t} given decides =
-      let last = content_in (newest (transitions_of (past scheme c tables)) t) in
-      let asks = initiator.column_of_request (get tables.initiator.transfers t) in
-      let row = initiator_row (initiator.known_transfer (get tables.initiator.transfers t)) asks in
       record {
-        causes = initiator.cancellation_refusals tables.initiator t;
-        row = row;
-        messages = initiator_sends c t last asks;
-        is = subst (λ e. IsExpectedOrNoMemory d (unless (initiator.cancellation_refusals tables.initiator t) (decided row (initiator_sends e t last asks)))) kept.kept.initiator (decides last);
-        row_is = ap (verdict_by_rules scheme c tables) given ∙ request_row scheme c tables kept t;
-        sent = λ new. refl;
+        verdict_is =
+            ap (verdict_by_rules scheme c tables) given ∙ request_row scheme c tables kept t
+            ∙ decided_so scheme (past scheme c tables) (to_ask t) (initiator.cancellation_refusals tables.initiator t) (initiator_row (initiator.known_transfer (get tables.initiator.transfers t)) (asked_column t)) d decides;
       }
+
+  pub request_sent : (t : TransactionId) {ms : List Message} (new : Status) → ((k : Option Content) → ms ≡ initiator_sends tables.initiator.code t k (asked_column t)) → ms ≡ (to_ask t new).messages
+  request_sent t {ms} new sent = sent (last_content t) ∙ ap (λ e. initiator_sends e t (last_content t) (asked_column t)) kept.kept.initiator
 
   -- a proposal
-  abbrev pub to_arrive : Proposal → Moment → Status → Transition
-  to_arrive p moment =
-      let found = acquirer_findings scheme c (holding scheme c (past scheme c tables)) p.content in
-      moved p.id (Some p.content) moment.seconds (acquirer_sends c p.id found (column_of_proposal (acquirer.kept_content (get tables.acquirer.transfers p.id)) found))
+  abbrev pub findings : Proposal → List ℕ
+  findings p = acquirer_findings scheme c (holding scheme c (past scheme c tables)) p.content
 
-  pub arrived : {input : Input} {d : Result Decision Refusal} {p : Proposal} {moment : Moment} → input ≡ Received (message.Proposal p) moment → first_of (registry_refusals c (past scheme c tables) (message.Proposal p)) ≡ None
-      → ((q : Holding) (found : List ℕ) → Knows scheme tables.acquirer.code tables.holdings q → found ≡ acquirer_findings scheme tables.acquirer.code q p.content
-      → IsExpectedOrNoMemory d (decided (acquirer_row (acquirer.known_transfer (get tables.acquirer.transfers p.id)) (column_of_proposal (acquirer.kept_content (get tables.acquirer.transfers p.id)) found))
-      (acquirer_sends tables.acquirer.code p.id found (column_of_proposal (acquirer.kept_content (get tables.acquirer.transfers p.id)) found))))
-      → Decided scheme c tables input (to_arrive p moment) d
-  arrived {input} {d} {p} {moment} given welcome decides =
+  abbrev kept_in : Proposal → Option Content
+  kept_in p = acquirer.kept_content (get tables.acquirer.transfers p.id)
+
+  abbrev arrive_row_of : Proposal → Row
+  arrive_row_of p = acquirer_row (acquirer.known_transfer (get tables.acquirer.transfers p.id)) (column_of_proposal (kept_in p) (findings p))
+
+  abbrev pub to_arrive : Proposal → Moment → Status → Transition
+  to_arrive p moment = moved p.id (Some p.content) moment.seconds (acquirer_sends c p.id (findings p) (column_of_proposal (kept_in p) (findings p)))
+
+  -- what was found in it, where it is new
+  abbrev pub AreFound : Proposal → List ℕ → Type 0
+  AreFound p codes = (q : Holding) → Knows scheme tables.acquirer.code tables.holdings q → codes ≡ cond (is_some (kept_in p)) [] (acquirer_findings scheme tables.acquirer.code q p.content)
+
+  found_so : (p : Proposal) (codes : List ℕ) → AreFound p codes → codes ≡ cond (is_some (kept_in p)) [] (findings p)
+  found_so p codes found =
       let h = holding scheme c (past scheme c tables) in
-      let found = acquirer_findings scheme c h p.content in
-      let finds = column_of_proposal (acquirer.kept_content (get tables.acquirer.transfers p.id)) found in
-      let row = acquirer_row (acquirer.known_transfer (get tables.acquirer.transfers p.id)) finds in
+      subst (λ e. Knows scheme e tables.holdings h → codes ≡ cond (is_some (kept_in p)) [] (acquirer_findings scheme e h p.content)) kept.kept.acquirer (found h) (knows_so scheme c tables kept)
+
+  arrive_decides : {d : Result Decision Refusal} (p : Proposal) (codes : List ℕ) → AreFound p codes → d ≡ decided (acquirer_row (acquirer.known_transfer (get tables.acquirer.transfers p.id)) (column_of_proposal (kept_in p) codes)) → d ≡ decided (arrive_row_of p)
+  arrive_decides p codes found decides = decides ∙ ap (λ col. decided (acquirer_row (acquirer.known_transfer (get tables.acquirer.transfers p.id)) col)) (same_column (kept_in p) codes (findings p) (found_so p codes found))
+
+  pub arrived : {input : Input} {d : Result Decision Refusal} {p : Proposal} {moment : Moment} {codes : List ℕ} → input ≡ Received (message.Proposal p) moment → first_of (registry_refusals c (past scheme c tables) (message.Proposal p)) ≡ None → AreFound p codes
+      → d ≡ decided (acquirer_row (acquirer.known_transfer (get tables.acquirer.transfers p.id)) (column_of_proposal (kept_in p) codes)) → Decided scheme c tables input (to_arrive p moment) d
+  arrived {input} {d} {p} {moment} {codes} given welcome found decides =
       record {
-        causes = [];
-        row = row;
-        messages = acquirer_sends c p.id found finds;
-        is = subst (λ e. Knows scheme e tables.holdings h → found ≡ acquirer_findings scheme e h p.content → IsExpectedOrNoMemory d (decided row (acquirer_sends e p.id found finds))) kept.kept.acquirer (decides h found) (knows_so scheme c tables kept) refl;
-        row_is = ap (verdict_by_rules scheme c tables) given ∙ arrive_row scheme c tables kept p moment found welcome (welcome_foreign c (past scheme c tables) p welcome) refl;
-        sent = λ new. refl;
+        verdict_is =
+            ap (verdict_by_rules scheme c tables) given ∙ arrive_row scheme c tables kept p moment (findings p) welcome (welcome_foreign c (past scheme c tables) p welcome) refl
+            ∙ decided_so scheme (past scheme c tables) (to_arrive p moment) [] (arrive_row_of p) d (arrive_decides p codes found decides);
       }
+
+  pub arrival_sent : {d : Result Decision Refusal} (p : Proposal) {codes : List ℕ} {new : Status} {ms : List Message} (moment : Moment) → AreFound p codes
+      → d ≡ decided (acquirer_row (acquirer.known_transfer (get tables.acquirer.transfers p.id)) (column_of_proposal (kept_in p) codes)) → d ≡ Ok (Moves new) → ms ≡ acquirer_sends tables.acquirer.code p.id codes (column_of_proposal None codes) → ms ≡ (to_arrive p moment new).messages
+  arrival_sent {d} p {codes} {new} {ms} moment found decides h sent =
+      let new_here = moves_new p.id (get tables.acquirer.transfers p.id) (findings p) new (moves_by (arrive_row_of p) new (sym (arrive_decides p codes found decides) ∙ h)) in
+      let same : codes ≡ findings p = found_so p codes found ∙ ap (λ k. cond (is_some k) [] (findings p)) new_here in
+      sent ∙ (λ i. acquirer_sends (kept.kept.acquirer i) p.id (same i) (column_of_proposal None (same i))) ∙ ap (λ k. acquirer_sends c p.id (findings p) (column_of_proposal k (findings p))) (sym new_here)
 
   -- a notification on a transfer out of the registry
+  abbrev conclude_row_of : Notification → Row
+  conclude_row_of n = initiator_row (initiator.known_transfer (get tables.initiator.transfers n.id)) (Notified (notified_status n.notified))
+
   abbrev pub to_conclude : Notification → Moment → Status → Transition
-  to_conclude n moment = moved n.id (content_in (newest (transitions_of (past scheme c tables)) n.id)) moment.seconds (initiator_sends c n.id (content_in (newest (transitions_of (past scheme c tables)) n.id)) (Notified (notified_status n.notified)))
+  to_conclude n moment = moved n.id (last_content n.id) moment.seconds (initiator_sends c n.id (last_content n.id) (Notified (notified_status n.notified)))
 
   pub concluded : {input : Input} {d : Result Decision Refusal} {n : Notification} {moment : Moment} {told : Status} → input ≡ Received (message.Notification n) moment → first_of (registry_refusals c (past scheme c tables) (message.Notification n)) ≡ None → same_code n.id.code c ≡ true
-      → told ≡ notified_status n.notified
-      → ((k : Option Content) → IsExpectedOrNoMemory d (decided (initiator_row (initiator.known_transfer (get tables.initiator.transfers n.id)) (Notified told)) (initiator_sends tables.initiator.code n.id k (Notified told))))
-      → Decided scheme c tables input (to_conclude n moment) d
+      → told ≡ notified_status n.notified → d ≡ decided (initiator_row (initiator.known_transfer (get tables.initiator.transfers n.id)) (Notified told)) → Decided scheme c tables input (to_conclude n moment) d
   concluded {input} {d} {n} {moment} {told} given welcome own is decides =
-      let last = content_in (newest (transitions_of (past scheme c tables)) n.id) in
-      let row = initiator_row (initiator.known_transfer (get tables.initiator.transfers n.id)) (Notified (notified_status n.notified)) in
       record {
-        causes = [];
-        row = row;
-        messages = initiator_sends c n.id last (Notified (notified_status n.notified));
-        is = subst (λ e. IsExpectedOrNoMemory d (decided row (initiator_sends e n.id last (Notified (notified_status n.notified))))) kept.kept.initiator
-            (subst (λ s. IsExpectedOrNoMemory d (decided (initiator_row (initiator.known_transfer (get tables.initiator.transfers n.id)) (Notified s)) (initiator_sends tables.initiator.code n.id last (Notified s)))) is (decides last));
-        row_is = ap (verdict_by_rules scheme c tables) given ∙ conclude_row scheme c tables kept n moment welcome own;
-        sent = λ new. refl;
+        verdict_is =
+            ap (verdict_by_rules scheme c tables) given ∙ conclude_row scheme c tables kept n moment welcome own
+            ∙ decided_so scheme (past scheme c tables) (to_conclude n moment) [] (conclude_row_of n) d (decides ∙ ap (λ s. decided (initiator_row (initiator.known_transfer (get tables.initiator.transfers n.id)) (Notified s))) is);
       }
+
+  pub conclusion_sent : (n : Notification) {told : Status} {ms : List Message} (moment : Moment) (new : Status) → told ≡ notified_status n.notified → ((k : Option Content) → ms ≡ initiator_sends tables.initiator.code n.id k (Notified told)) → ms ≡ (to_conclude n moment new).messages
+  conclusion_sent n {told} {ms} moment new is sent = sent (last_content n.id) ∙ (λ i. initiator_sends (kept.kept.initiator i) n.id (last_content n.id) (Notified (is i)))
 
   -- a notification on a transfer to the registry
   abbrev pub to_finish : Notification → Moment → Status → Transition
-  to_finish n moment = moved n.id (content_in (newest (transitions_of (past scheme c tables)) n.id)) moment.seconds []
+  to_finish n moment = moved n.id (last_content n.id) moment.seconds []
 
   abbrev pub is_held : Holding → Notification → Bool
   is_held q n = option_map_or (λ x. list_any (λ p. q.is_held p.unit) (pieces x.units)) (acquirer.kept_content (get tables.acquirer.transfers n.id)) false
@@ -214,35 +240,29 @@ module _ {scheme : Scheme} {c : Code} {tables : Tables} (kept : IsKept scheme c 
   abbrev finish_row_of : Notification → Row
   finish_row_of n = unless_held (is_held (holding scheme c (past scheme c tables)) n) (acquirer_row (acquirer.known_transfer (get tables.acquirer.transfers n.id)) (Notified (notified_status n.notified)))
 
-  finish_decides : {d : Result Decision Refusal} (n : Notification) {told : Status} → told ≡ notified_status n.notified
-      → ((q : Holding) → Knows scheme tables.acquirer.code tables.holdings q → d ≡ decided (unless_held (is_held q n) (acquirer_row (acquirer.known_transfer (get tables.acquirer.transfers n.id)) (Notified told))) [])
-      → d ≡ decided (finish_row_of n) []
+  -- what the acquirer says to one of that status
+  abbrev pub AreDecided : Notification → Status → Result Decision Refusal → Type 0
+  AreDecided n told d = (q : Holding) → Knows scheme tables.acquirer.code tables.holdings q → d ≡ decided (unless_held (is_held q n) (acquirer_row (acquirer.known_transfer (get tables.acquirer.transfers n.id)) (Notified told)))
+
+  finish_decides : {d : Result Decision Refusal} (n : Notification) {told : Status} → told ≡ notified_status n.notified → AreDecided n told d → d ≡ decided (finish_row_of n)
   finish_decides {d} n {told} is decides =
       let h = holding scheme c (past scheme c tables) in
-      subst (λ e. Knows scheme e tables.holdings h → d ≡ decided (unless_held (is_held h n) (acquirer_row (acquirer.known_transfer (get tables.acquirer.transfers n.id)) (Notified told))) []) kept.kept.acquirer (decides h) (knows_so scheme c tables kept)
-      ∙ ap (λ t. decided (unless_held (is_held h n) (acquirer_row (acquirer.known_transfer (get tables.acquirer.transfers n.id)) (Notified t))) []) is
+      subst (λ e. Knows scheme e tables.holdings h → d ≡ decided (unless_held (is_held h n) (acquirer_row (acquirer.known_transfer (get tables.acquirer.transfers n.id)) (Notified told)))) kept.kept.acquirer (decides h) (knows_so scheme c tables kept)
+      ∙ ap (λ t. decided (unless_held (is_held h n) (acquirer_row (acquirer.known_transfer (get tables.acquirer.transfers n.id)) (Notified t)))) is
 
   pub finished : {input : Input} {d : Result Decision Refusal} {n : Notification} {moment : Moment} {told : Status} → input ≡ Received (message.Notification n) moment
-      → first_of (registry_refusals c (past scheme c tables) (message.Notification n)) ≡ None → same_code n.id.code c ≡ false → told ≡ notified_status n.notified
-      → ((q : Holding) → Knows scheme tables.acquirer.code tables.holdings q → d ≡ decided (unless_held (is_held q n) (acquirer_row (acquirer.known_transfer (get tables.acquirer.transfers n.id)) (Notified told))) [])
-      → Decided scheme c tables input (to_finish n moment) d
+      → first_of (registry_refusals c (past scheme c tables) (message.Notification n)) ≡ None → same_code n.id.code c ≡ false → told ≡ notified_status n.notified → AreDecided n told d → Decided scheme c tables input (to_finish n moment) d
   finished {input} {d} {n} {moment} {told} given welcome foreign is decides =
       record {
-        causes = [];
-        row = finish_row_of n;
-        messages = [];
-        is = inl (finish_decides n is decides);
-        row_is = ap (verdict_by_rules scheme c tables) given ∙ finish_row scheme c tables kept n moment welcome foreign;
-        sent = λ new. refl;
+        verdict_is =
+            ap (verdict_by_rules scheme c tables) given ∙ finish_row scheme c tables kept n moment welcome foreign ∙ decided_so scheme (past scheme c tables) (to_finish n moment) [] (finish_row_of n) d (finish_decides n is decides);
       }
 
   -- what ends the transfer is the effect
-  pub finish_effect : {d : Result Decision Refusal} (n : Notification) (moment : Moment) {told new : Status} {ms : List Message} {effect : RegistryEffect} → first_of (registry_refusals c (past scheme c tables) (message.Notification n)) ≡ None
-      → same_code n.id.code c ≡ false → told ≡ notified_status n.notified
-      → ((q : Holding) → Knows scheme tables.acquirer.code tables.holdings q → d ≡ decided (unless_held (is_held q n) (acquirer_row (acquirer.known_transfer (get tables.acquirer.transfers n.id)) (Notified told))) [])
-      → d ≡ Ok (decision.Moves new ms) → effect ≡ ending (is_some (get tables.acquirer.transfers n.id)) n.id new → IsEffect c (past scheme c tables) (Received (message.Notification n) moment) (to_finish n moment new) effect
-  finish_effect {d} n moment {told} {new} {ms} {effect} welcome foreign is decides h ends =
-      let row = row_moves scheme c tables (Received (message.Notification n) moment) (to_finish n moment) [] (finish_row_of n) [] d (inl (finish_decides n is decides)) (finish_row scheme c tables kept n moment welcome foreign) new ms h in
+  pub finish_effect : {d : Result Decision Refusal} (n : Notification) (moment : Moment) {told new : Status} {effect : RegistryEffect} → same_code n.id.code c ≡ false → told ≡ notified_status n.notified → AreDecided n told d
+      → d ≡ Ok (Moves new) → effect ≡ ending (is_some (get tables.acquirer.transfers n.id)) n.id new → IsEffect c (past scheme c tables) (Received (message.Notification n) moment) (to_finish n moment new) effect
+  finish_effect {d} n moment {told} {new} {effect} foreign is decides h ends =
+      let row = moves_by (finish_row_of n) new (sym (finish_decides n is decides) ∙ h) in
       subst (λ e. IsEffect c (past scheme c tables) (Received (message.Notification n) moment) (to_finish n moment new) e) (sym ends)
       (ending_effect scheme c tables kept n moment (notified_status n.notified) new (is_held (holding scheme c (past scheme c tables)) n) (to_finish n moment new) foreign refl
       (ap (λ q. unless_held (is_held (holding scheme c (past scheme c tables)) n) (acquirer_row q (Notified (notified_status n.notified)))) (sym (foreign_known_so scheme c tables kept n.id foreign)) ∙ row))

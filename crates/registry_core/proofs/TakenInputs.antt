@@ -10,12 +10,13 @@ use Rattle.wire.specs.declared.input.Input.{Input}
 use Rattle.scheme.specs.declared.registries.Scheme.{Scheme}
 use Rattle.records.specs.Records.{RecordsView}
 use Rattle.protocol.specs.AtRegistry.{registry_verdict}
-use Rattle.protocol.specs.Deciding.{IsLate, IsRepeat}
+use Rattle.protocol.specs.Decisions.{step_of}
 use Rattle.protocol.specs.History.{Entry}
 use Rattle.protocol.specs.Taking.{TakesInto}
 use Rattle.protocol.specs.Verdict.{history, verdict}
+use Rattle.protocol.specs.declared.decision.Stale.{Stale}
 use Rattle.protocol.specs.declared.node_core.Stepped.{Stepped}
-use Rattle.protocol.specs.declared.node_core.Stepped.TheVariants as stepped
+use Rattle.protocol.proofs.DecidedVerdicts.{stale_verdict}
 use Rattle.protocol.proofs.TakenIntoRecords as records
 use Rattle.registry_core.specs.Kept.{AreKept, IsKept}
 use Rattle.registry_core.specs.Taking.{Takes, verdict_by_rules}
@@ -75,8 +76,5 @@ module _ (scheme : Scheme) (c : Code) where
       → Takes scheme c tables tables' input result
   takes_err tables tables' input result P h same e why = takes_same tables tables' input result h same (records.err_into scheme (Registry c) tables.records tables'.records input result P h.records same.records e why)
 
-  pub takes_repeat : (tables : Tables) (input : Input) → IsKept scheme c tables → verdict_by_rules scheme c tables input ≡ IsRepeat → Takes scheme c tables tables input (Ok stepped.Repeat)
-  takes_repeat tables input h is = takes_same tables tables input (Ok stepped.Repeat) h (are_same tables) (records.repeat_into scheme (Registry c) tables.records input h.records is)
-
-  pub takes_late : (tables : Tables) (input : Input) → IsKept scheme c tables → verdict_by_rules scheme c tables input ≡ IsLate → Takes scheme c tables tables input (Ok stepped.Late)
-  takes_late tables input h is = takes_same tables tables input (Ok stepped.Late) h (are_same tables) (records.late_into scheme (Registry c) tables.records input h.records is)
+  pub takes_unmoved : (tables : Tables) (input : Input) (why : Stale) → IsKept scheme c tables → verdict_by_rules scheme c tables input ≡ stale_verdict why → Takes scheme c tables tables input (Ok (step_of why))
+  takes_unmoved tables input why h is = takes_same tables tables input (Ok (step_of why)) h (are_same tables) (records.stale_into scheme (Registry c) tables.records input why h.records is)

@@ -1,8 +1,7 @@
 //! Why a registry refuses a message, before its tables are asked.
 ghost use Rattle.std.specs.Prelude.{◌≡◌, ◌&&◌, ◌||◌, not, false, List};
 ghost use Rattle.std.specs.FinMap as map;
-ghost use Rattle.units.specs.Code.{same_code, same_node};
-ghost use Rattle.units.specs.declared.code.Node.TheVariants as nodes;
+ghost use Rattle.units.specs.Code.{same_code};
 ghost use Rattle.status.specs.Status.{same_status};
 ghost use Rattle.status.specs.declared.id.TransactionId.{TransactionId as Id};
 ghost use Rattle.status.specs.declared.status.Status.TheVariants as statuses;
@@ -19,26 +18,13 @@ ghost use Rattle.registry_core.specs.Readings.{foreign_row, is_foreign, is_own, 
 use acquirer::Acquirer;
 use checks::has_repeats;
 use initiator::Initiator;
+use protocol::{is_log, is_registry};
 use status::{Content, Status, TransactionId};
+use units::Code;
 use units::refusal_code::{
     NO_ROW, OTHER_ADDRESSEE, OTHER_CONTENT, SENDER_NOT_ALLOWED, UNKNOWN_TRANSACTION, WRONG_PARTY,
 };
-use units::{Code, Node};
 use wire::{Message, Notification, Proposal, ProposalStatus, Request};
-
-/// Whether the node is the registry.
-fn is_registry(code: Code, node: Node) -> bool
-    ensures { result ≡ same_node node (nodes.Registry code) }
-{
-    node == Node::Registry(code)
-}
-
-/// Whether the node is the log.
-fn is_log(node: Node) -> bool
-    ensures { result ≡ same_node node nodes.Itl }
-{
-    node == Node::Itl
-}
 
 /// Whether the log has checked the proposal.
 fn is_checked(status: ProposalStatus) -> bool
@@ -100,7 +86,7 @@ pub(crate) fn proposal_refusal(code: Code, acquirer: &Acquirer, proposal: &Propo
         → map.get acquirer.now.transfers t ≡ row_at (is_foreign code) foreign_row (transitions_of es) t)
         → result ≡ first_of (registry_refusals code es (message.Proposal proposal.now)) }
 {
-    if !is_registry(code, proposal.to) {
+    if !is_registry(proposal.to, code) {
         return Some(OTHER_ADDRESSEE);
     }
     if !is_log(proposal.from) {
@@ -130,7 +116,7 @@ pub(crate) fn notification_refusal(
         → ((t : Id) → map.get acquirer.now.transfers t ≡ row_at (is_foreign code) foreign_row (transitions_of es) t)
         → result ≡ first_of (registry_refusals code es (message.Notification notification.now)) }
 {
-    if !is_registry(code, notification.to) {
+    if !is_registry(notification.to, code) {
         return Some(OTHER_ADDRESSEE);
     }
     if !is_log(notification.from) {
@@ -146,7 +132,7 @@ pub(crate) fn notification_refusal(
 pub(crate) fn request_refusal(code: Code, request: &Request) -> Option<u16>
     ensures { (es : List Entry) → result ≡ first_of (registry_refusals code es (message.Request request.now)) }
 {
-    if !is_registry(code, request.to) {
+    if !is_registry(request.to, code) {
         return Some(OTHER_ADDRESSEE);
     }
     if !is_log(request.from) {

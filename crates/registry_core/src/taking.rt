@@ -18,8 +18,8 @@ use crate::refusals::message_refusal;
 use crate::tables::Tables;
 use protocol::{Decision, Stepped};
 use status::{Order, Status, TransactionId};
-use units::Refusal;
 use units::refusal_code::NO_ROW;
+use units::{Items, Refusal};
 use wire::{Input, Message, Notification, Proposal};
 
 impl Tables {
@@ -32,12 +32,13 @@ impl Tables {
         let new_transfer = self
             .initiator
             .new_transfer(self.alloc, &self.scheme, &self.holdings, order)?;
-        match self.initiator.propose(self.alloc, &new_transfer)? {
-            Decision::Moves { messages, .. } => {
+        let decision = self.initiator.propose(new_transfer.id)?;
+        match decision {
+            Decision::Moves(_) => {
+                let messages = self.initiator.proposes(self.alloc, &new_transfer)?;
                 self.record(input, RegistryEffect::Open(new_transfer), messages)
             }
-            Decision::Repeat => Ok(Stepped::Repeat),
-            Decision::Late => Ok(Stepped::Late),
+            Decision::Stays(stale) => Ok(Stepped::from(stale)),
         }
     }
 
@@ -47,12 +48,13 @@ impl Tables {
         requires input { input.now ≡ inputs.Request id }
         ensures { Takes self.old.scheme self.old.code self.old self.new input.now result }
     {
-        match self.initiator.request(self.alloc, id)? {
-            Decision::Moves { messages, .. } => {
+        let decision = self.initiator.request(id)?;
+        match decision {
+            Decision::Moves(_) => {
+                let messages = self.initiator.requests(self.alloc, id)?;
                 self.record(input, RegistryEffect::Ask(id), messages)
             }
-            Decision::Repeat => Ok(Stepped::Repeat),
-            Decision::Late => Ok(Stepped::Late),
+            Decision::Stays(stale) => Ok(Stepped::from(stale)),
         }
     }
 
@@ -86,17 +88,18 @@ impl Tables {
         ensures { Takes self.old.scheme self.old.code self.old self.new input.now result }
     {
         let (id, content) = (proposal.id, &proposal.content);
-        match self
+        let found = self
             .acquirer
-            .proposal(self.alloc, &self.scheme, &self.holdings, id, content)?
-        {
-            Decision::Moves { new, messages } => {
+            .findings(self.alloc, &self.scheme, &self.holdings, id, content)?;
+        let decision = self.acquirer.proposal(id, &found)?;
+        match decision {
+            Decision::Moves(new) => {
+                let messages = self.acquirer.notifies(self.alloc, id, found)?;
                 let content = content.copy()?;
                 let effect = RegistryEffect::Arrive { id, new, content };
                 self.record(input, effect, messages)
             }
-            Decision::Repeat => Ok(Stepped::Repeat),
-            Decision::Late => Ok(Stepped::Late),
+            Decision::Stays(stale) => Ok(Stepped::from(stale)),
         }
     }
 
@@ -131,12 +134,13 @@ impl Tables {
         ensures { Takes self.old.scheme self.old.code self.old self.new input.now result }
     {
         let (id, told) = (notification.id, notification.notified.status());
-        match self.initiator.notice(self.alloc, id, told)? {
-            Decision::Moves { new, messages } => {
+        let decision = self.initiator.notice(id, told)?;
+        match decision {
+            Decision::Moves(new) => {
+                let messages = self.initiator.notifies(self.alloc, id, told)?;
                 self.record(input, RegistryEffect::Conclude { id, new }, messages)
             }
-            Decision::Repeat => Ok(Stepped::Repeat),
-            Decision::Late => Ok(Stepped::Late),
+            Decision::Stays(stale) => Ok(Stepped::from(stale)),
         }
     }
 
@@ -151,13 +155,13 @@ impl Tables {
         ensures { Takes self.old.scheme self.old.code self.old self.new input.now result }
     {
         let (id, told) = (notification.id, notification.notified.status());
-        match self.acquirer.notice(self.alloc, &self.holdings, id, told)? {
-            Decision::Moves { new, messages } => {
+        let decision = self.acquirer.notice(&self.holdings, id, told)?;
+        match decision {
+            Decision::Moves(new) => {
                 let effect = self.ending(id, new);
-                self.record(input, effect, messages)
+                self.record(input, effect, Items::new(self.alloc))
             }
-            Decision::Repeat => Ok(Stepped::Repeat),
-            Decision::Late => Ok(Stepped::Late),
+            Decision::Stays(stale) => Ok(Stepped::from(stale)),
         }
     }
 

@@ -8,12 +8,11 @@ ghost use Rattle.replies.specs.Beginning.{Becomes, Begins, line_of};
 use crate::answer::{Answer, refused_by};
 use crate::job::Job;
 use desk::stores::NodeStore;
-use desk::{Bell, Clock, Desk, Gate, Opening, Seat, Taken, Told};
+use desk::{Bell, Clock, Desk, Gate, Opening, Seat, Taken, Told, is_unjudged};
 use protocol::{NodeCore, refusals_have_causes};
 use std::marker::Model;
 use std::rt::Clock as SystemClock;
 use std::sync::Wait;
-use units::refusal_code::{NODE_STOPPED, OUT_OF_MEMORY};
 use wire::{Input, Message, Reply, ReplyCode};
 
 /// The reply to what wasn't judged by a journal: the node had stopped, or memory ran out. `None` where it was judged.
@@ -24,9 +23,7 @@ fn reply_at_once(told: Told) -> Option<Reply>
     ensures none { result ≡ None → is_without_journal told ≡ false }
 {
     match told {
-        Told::Refused(refusal) if refusal.code == NODE_STOPPED || refusal.code == OUT_OF_MEMORY => {
-            Some(refused_by(refusal.code))
-        }
+        Told::Refused(refusal) if is_unjudged(refusal) => Some(refused_by(refusal.code)),
         _ => None,
     }
 }

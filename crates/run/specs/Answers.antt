@@ -5,6 +5,7 @@ use Rattle.protocol.specs.Input.{Input}
 use Rattle.protocol.specs.Scheme.{Scheme}
 use Rattle.protocol.specs.Registries.{is_node}
 use Rattle.protocol.specs.World.{is_order, opening}
+use Rattle.protocol.specs.Outcomes.{outcome_of}
 use Rattle.protocol.specs.declared.event.Outcome.TheVariants as outcome
 use Rattle.protocol.specs.declared.node_core.Stepped.TheVariants.{Recorded, Repeat, Late}
 use Rattle.desk.specs.Settling.{Bears}
@@ -40,9 +41,7 @@ is_possible scheme (line.Until n id status turns) = is_node scheme n
 -- ---- the texts of answers
 
 abbrev pub told_text : Told → List ℕ
-told_text (Step (Recorded place)) = outcome_text (outcome.Recorded place)
-told_text (Step Repeat) = outcome_text outcome.Repeat
-told_text (Step Late) = outcome_text outcome.Late
+told_text (Step stepped) = outcome_text (outcome_of stepped)
 told_text (Status status) = codes "status " ++ status_or_none status
 told_text (Refused refusal) = outcome_text (outcome.Refused refusal.code)
 

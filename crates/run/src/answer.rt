@@ -4,7 +4,7 @@ ghost use Rattle.report.specs.ReportLines.{status_or_none};
 ghost use Rattle.run.specs.Answers.{answer_line, answer_lines};
 
 use desk::Told;
-use protocol::{Outcome, Stepped};
+use protocol::Outcome;
 use report::push_outcome;
 use status::Status;
 use std::alloc::Global;
@@ -38,9 +38,7 @@ fn push_answer(text: &mut String, number: u64, answer: ScriptAnswer) -> Result<(
 {
     let outcome = match answer {
         ScriptAnswer::NotPossible => Outcome::NotPossible,
-        ScriptAnswer::Told(Told::Step(Stepped::Recorded(place))) => Outcome::Recorded(place as u64),
-        ScriptAnswer::Told(Told::Step(Stepped::Repeat)) => Outcome::Repeat,
-        ScriptAnswer::Told(Told::Step(Stepped::Late)) => Outcome::Late,
+        ScriptAnswer::Told(Told::Step(stepped)) => Outcome::from(stepped),
         ScriptAnswer::Told(Told::Refused(refusal)) => Outcome::Refused(refusal.code),
         ScriptAnswer::Told(Told::Status(status)) => return push_status(text, number, status),
     };

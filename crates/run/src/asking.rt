@@ -8,7 +8,7 @@ ghost use Rattle.run.specs.Orders.{Adds, Notes};
 
 use crate::watch::{Watch, tell_committed};
 use desk::stores::NodeStore;
-use desk::{Asked, Bell, Desk, Opening, Seat, Taken, Told};
+use desk::{Asked, Bell, Desk, Opening, Seat, Taken, Told, is_unjudged};
 use input_lines::ScriptLine;
 use protocol::NodeCore;
 use protocol::wire::Input;
@@ -19,18 +19,17 @@ use std::sync::Wait;
 use std::thread;
 use std::time::Duration;
 use units::Refusal;
-use units::refusal_code::{NODE_STOPPED, OUT_OF_MEMORY};
 use world::Core;
 
 /// How long a script waits before it asks again, in milliseconds.
 const TURN: u64 = 1;
 
-/// Whether no journal judged what was told: the node had stopped, or memory ran out.
-fn is_unjudged(told: Told) -> bool
+/// Whether no journal judged what was told.
+fn is_without_journal(told: Told) -> bool
     ensures { result ≡ is_without_journal told }
 {
     match told {
-        Told::Refused(refusal) => { refusal.code == NODE_STOPPED || refusal.code == OUT_OF_MEMORY }
+        Told::Refused(refusal) => is_unjudged(refusal),
         _ => false,
     }
 }
@@ -46,7 +45,7 @@ fn confirmed<O: Opening, C: NodeCore, S: NodeStore, B: Bell, R: Wait + SystemClo
     ensures { IsConfirmed seat.old taken seat.new result }
 {
     let told = taken.told();
-    if is_unjudged(told) {
+    if is_without_journal(told) {
         drop(taken);
         return told;
     }
@@ -116,7 +115,7 @@ fn is_over(told: Told, status: Status) -> bool
 {
     match told {
         Told::Status(found) => found == Some(status),
-        _ => is_unjudged(told),
+        _ => is_without_journal(told),
     }
 }
 

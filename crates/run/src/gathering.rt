@@ -89,10 +89,19 @@ fn end_node<O: Opening, T: Taking, N: NodeTypes>(
         listener,
     } = station;
     drop(listener);
-    let stored = end_desk(node, desk)?;
-    match all_seats::<T>(threads, script) {
-        Ok(seats) => Ok(EndedNode { stored, seats }),
-        Err(NoMemory) => Err(OpFault::NoMemory),
+    let seats = all_seats::<T>(threads, script);
+    match end_desk(node, desk) {
+        Ok(stored) => match seats {
+            Ok(seats) => Ok(EndedNode { stored, seats }),
+            Err(NoMemory) => {
+                drop(stored);
+                Err(OpFault::NoMemory)
+            }
+        },
+        Err(fault) => {
+            drop(seats);
+            Err(fault)
+        }
     }
 }
 

@@ -16,13 +16,45 @@ pub struct LoadedNode<N: NodeTypes> {
     pub listener: N::Listener,
 }
 
-/// Adds a station.
-fn push<O: Opening, N: NodeTypes>(
-    stations: &mut Vec<Station<O, Core, N>>,
-    station: Station<O, Core, N>,
-) -> Result<(), NoMemory>
-    ensures { OnOk result (stations.new.items ≡ stations.old.items ++ station ∷ []) }
+/// The node's station, with a desk of its state that has a bell for each of these peers. Or `NoMemory`.
+fn station_of<O: Opening, N: NodeTypes>(
+    alloc: Global,
+    peers: &[Node],
+    loaded: LoadedNode<N>,
+) -> Result<Station<O, Core, N>, NoMemory>
+    requires { MayOpen N.Store.NodeStore O.opened loaded.stored }
+    ensures { IfOk result (λ s. s.node ≡ loaded.stored.state.node) }
 {
+    match Bells::with_peers(alloc, peers) {
+        Ok(bells) => {
+            let LoadedNode { stored, listener } = loaded;
+            let node = stored.state().node();
+            let desk = Desk::new(stored, bells);
+            Ok(Station {
+                node,
+                desk,
+                listener,
+            })
+        }
+        Err(NoMemory) => {
+            drop(loaded);
+            Err(NoMemory)
+        }
+    }
+}
+
+/// Adds the node's station. After `NoMemory` the stations are as they were.
+fn push_station<O: Opening, N: NodeTypes>(
+    alloc: Global,
+    stations: &mut Vec<Station<O, Core, N>>,
+    peers: &[Node],
+    loaded: LoadedNode<N>,
+) -> Result<(), NoMemory>
+    requires { MayOpen N.Store.NodeStore O.opened loaded.stored }
+    ensures { OnOk result (map (λ s. s.node) stations.new.items
+        ≡ map (λ s. s.node) stations.old.items ++ loaded.stored.state.node ∷ []) }
+{
+    let station = station_of(alloc, peers, loaded)?;
     stations.push(station)?;
     Ok(())
 }
@@ -47,18 +79,8 @@ pub(crate) fn stations_of<O: Opening, N: NodeTypes>(
 {
     let mut stations = Vec::new(alloc);
     for node in loaded {
-        let LoadedNode { stored, listener } = node;
-        let node = stored.state().node();
-        let bells = Bells::with_peers(alloc, peers_at(names, stations.len()))?;
-        let desk = Desk::new(stored, bells);
-        push(
-            &mut stations,
-            Station {
-                node,
-                desk,
-                listener,
-            },
-        )?;
+        let peers = peers_at(names, stations.len());
+        push_station(alloc, &mut stations, peers, node)?;
     }
     Ok(stations)
 }

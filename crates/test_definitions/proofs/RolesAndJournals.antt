@@ -11,10 +11,14 @@ use Rattle.wire.specs.declared.message.Message.{Message}
 use Rattle.wire.specs.declared.notified.NotifiedStatus.TheVariants as notified
 use Rattle.protocol.specs.declared.decision.Decision.{Decision}
 use Rattle.protocol.specs.declared.decision.Decision.TheVariants as decision
+use Rattle.protocol.specs.declared.decision.Stale.TheVariants as stale
+use Rattle.protocol.specs.declared.event.Outcome.TheVariants as outcome
+use Rattle.protocol.specs.declared.node_core.Stepped.TheVariants as stepped
 use Rattle.protocol.specs.Checks.{Causes, codes_of}
 use Rattle.protocol.specs.Cores.{after}
 use Rattle.protocol.specs.Deciding.{IsRepeat, IsRefused, refuse}
-use Rattle.protocol.specs.Decisions.{decided, unless}
+use Rattle.protocol.specs.Decisions.{decided, step_of, unless}
+use Rattle.protocol.specs.Outcomes.{outcome_of}
 use Rattle.protocol.specs.Refusing.{message_codes}
 use Rattle.protocol.specs.Weave.{Placed, journals_of}
 use Rattle.protocol.proofs.WorkedScheme.{jp, nz_node, jp_node, block, nz1, notification}
@@ -33,22 +37,27 @@ first_cause = (refl, refl, refl, refl, refl, refl)
 
 -- ---- by a row
 
-abbrev completed : Message
-completed = notification nz_node Itl nz1 notified.Completed
-
 abbrev decides : Decision → Result Decision Refusal
 decides decision = Ok decision
 
-pub decided_by_row : (decided (row.Move Completed) (completed ∷ []) ≡ decides (decision.Moves Completed (completed ∷ [])))
-    × (decided row.Repeat (completed ∷ []) ≡ decides decision.Repeat)
-    × (decided row.Late (completed ∷ []) ≡ decides decision.Late)
-    × (decided row.Refused (completed ∷ []) ≡ Err (record { code = 46 }))
+pub decided_by_row : (decided (row.Move Completed) ≡ decides (decision.Moves Completed)) × (decided row.Repeat ≡ decides (decision.Stays stale.Repeat)) × (decided row.Late ≡ decides (decision.Stays stale.Late)) × (decided row.Refused ≡ Err (record { code = 46 }))
 decided_by_row = (refl, refl, refl, refl)
+
+-- ---- what becomes of an input that changes nothing, and its outcome
+
+pub step_of_stale : (step_of stale.Repeat ≡ stepped.Repeat) × (step_of stale.Late ≡ stepped.Late)
+step_of_stale = (refl, refl)
+
+pub outcome_of_step : (outcome_of (stepped.Recorded 7) ≡ outcome.Recorded 7) × (outcome_of stepped.Repeat ≡ outcome.Repeat) × (outcome_of stepped.Late ≡ outcome.Late)
+outcome_of_step = (refl, refl, refl)
 
 -- ---- a journal after an answer
 
 abbrev first : Input
 first = orders 1 jp 7 (block 1 1 ∷ [])
+
+abbrev completed : Message
+completed = notification nz_node Itl nz1 notified.Completed
 
 abbrev next : Input
 next = comes (notification Itl nz_node nz1 notified.Accepted)

@@ -2,7 +2,7 @@
 
 use crate::given::{Given, input_of};
 use crate::same::{assert_same, assert_same_in};
-use protocol::Outcome::{Late, Recorded, Refused, Repeat};
+use protocol::Outcome::Refused;
 use protocol::scheme::Scheme;
 use protocol::units::refusal_code::OUT_OF_MEMORY;
 use protocol::units::{NoMemory, Node, Refusal};
@@ -44,9 +44,7 @@ fn assert_as_replayed<C: Seen>(rt: &impl Abort, core: &C) {
 
 fn outcome(stepped: Result<Stepped, Refusal>) -> Outcome {
     match stepped {
-        Ok(Stepped::Recorded(place)) => Recorded(place as u64),
-        Ok(Stepped::Repeat) => Repeat,
-        Ok(Stepped::Late) => Late,
+        Ok(stepped) => Outcome::from(stepped),
         Err(refusal) => Refused(refusal.code),
     }
 }

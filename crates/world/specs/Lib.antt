@@ -1,5 +1,4 @@
 pub mod Cores
-pub mod Outcomes
 pub mod Stations
 pub mod Kept
 pub mod RegistryLines

@@ -4,10 +4,9 @@ ghost use Rattle.std.specs.Prelude.{◌≡◌, ◌≤◌, ◌==◌, ◌||◌, []
 ghost use Rattle.std.specs.Ordering.{nat_cmp};
 ghost use Rattle.protocol.specs.World as worlds;
 ghost use Rattle.world.specs.Cores.{journal_of, node_of, scheme_of};
-ghost use Rattle.world.specs.Outcomes.{outcome_of};
 
 use crate::any_core::Core;
-use protocol::{NodeCore, Outcome, ReplayFault, Stepped, replay};
+use protocol::{NodeCore, Outcome, ReplayFault, replay};
 use std::alloc::Global;
 use std::collections::BTreeSet;
 use std::mem;
@@ -23,17 +22,6 @@ pub(crate) struct Station {
     /// The keys of the messages that it posted.
     pub posted: BTreeSet<u64>,
     pub ghost within: { committed ≤ length (journal_of core) },
-}
-
-/// What an input comes to that isn't refused.
-fn outcome_of(stepped: Stepped) -> Outcome
-    ensures { result ≡ outcome_of stepped }
-{
-    match stepped {
-        Stepped::Recorded(place) => Outcome::Recorded(place as u64),
-        Stepped::Repeat => Outcome::Repeat,
-        Stepped::Late => Outcome::Late,
-    }
 }
 
 /// The core of the first `records` records of the journal.
@@ -101,7 +89,7 @@ impl Station {
             return Ok(Outcome::NotPossible);
         }
         match self.core.step(input) {
-            Ok(stepped) => Ok(outcome_of(stepped)),
+            Ok(stepped) => Ok(Outcome::from(stepped)),
             Err(refusal) if refusal == Refusal::NO_MEMORY => Err(NoMemory),
             Err(refusal) => Ok(Outcome::Refused(refusal.code)),
         }

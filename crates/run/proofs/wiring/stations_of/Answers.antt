@@ -1,23 +1,22 @@
-use Rattle.std.proofs.Common.{◌∙◌, map, sym, ap, subst, arith}
+use Rattle.std.proofs.Common.{◌++◌, ◌∷◌, [], ◌∙◌, append_assoc, map, sym, ap, subst, arith}
 use Rattle.std.specs.Prelude.{All}
 use Rattle.std.proofs.lemmas.List.Elements.{All-head, All-rest}
 use Rattle.desk.specs.Keeping.{MayOpen}
-use Rattle.desk.specs.Views.{StateView}
-use Rattle.run.proofs.Wired.{all_handed, handed_on, room_left}
+use Rattle.run.proofs.Wired.{all_handed, room_left}
 use Rattle.run.proofs.wiring.stations_of.Goals as goal
 
 pub loop-node-init : goal.loop-node-init
 loop-node-init g c =
     rw (c.new-stations.ensures.items, c.into_iter-node-iterator.ensures.into_iter_gives.0) (record { names = c.requires.nodes; may_open = c.requires.may_open })
 
-pub new-desk-requires : goal.new-desk-requires
-new-desk-requires g c =
+pub push_station-requires-after_bounds : goal.push_station-requires-after_bounds
+push_station-requires-after_bounds g c = λ lifetimes live.
     let opens = MayOpen g.N.Store.NodeStore g.O.Opening.opened in
     let step = ap (map (λ n. n.stored)) c.in-Some.ensures.steps.0 in
     All-head opens c.in-Some.node.stored (map (λ n. n.stored) c.next.new.self.rest.items) (subst (All opens) step c.loop-node.invariant.may_open)
 
-pub peers_at-requires : goal.peers_at-requires
-peers_at-requires g c =
+pub peers_at-peers-requires : goal.peers_at-peers-requires
+peers_at-peers-requires g c =
     let stations = c.loop-node.stations in
     omega (
       arith,
@@ -33,9 +32,10 @@ loop-node-preserved g c =
     let rest = c.loop-node.node-iterator.rest.items in
     let next = c.next.new.self.rest.items in
     let step = c.in-Some.ensures.steps.0 in
-    let named = c.node-node.ensures ∙ ap (λ (h : StateView). h.node) c.state.ensures.state in
+    let before = map (λ s. s.node) c.loop-node.stations.items in
+    let names = map (λ n. n.stored.state.node) next in
     record {
-      names = handed_on (λ s. s.node) (λ n. n.stored.state.node) c.loop-node.stations.items c.push.new.stations.items _ rest next c.in-Some.node c.args.names.now c.in_ok-push.ensures step named kept.names;
+      names = ap (λ l. l ++ names) c.in_ok-push_station.ensures ∙ append_assoc before (c.in-Some.node.stored.state.node ∷ []) names ∙ ap (λ l. before ++ map (λ n. n.stored.state.node) l) (sym step) ∙ kept.names;
       may_open = All-rest opens c.in-Some.node.stored (map (λ n. n.stored) next) (map (λ n. n.stored) rest) (ap (map (λ n. n.stored)) step) kept.may_open;
     }
 

@@ -1,75 +1,44 @@
-use Rattle.std.proofs.Common.{Some, Ok, [], ◌∷◌, refl, sym, ap, subst, ◌∙◌}
+use Rattle.std.proofs.Common.{Some, Ok, sym, ap, subst, ◌∙◌}
 use Rattle.std.specs.Prelude.{option_map}
-use Rattle.units.specs.declared.code.Node.TheVariants.{Itl}
-use Rattle.protocol.specs.AtLog.{ledger}
-use Rattle.protocol.specs.Verdict.{history}
 use Rattle.log_core.specs.Readings.{of_transition}
-use Rattle.log_core.proofs.DecidedMessages.{Decides, comes_late, comes_to, findings, given_up, last, moves, proposal_column, proposal_decided, repeats, row_at}
-use Rattle.log_core.proofs.EffectsOfMessages.{proposal_effect, proposal_unknown}
-use Rattle.log_core.proofs.KnownRegisters.{registers_so}
-use Rattle.log_core.proofs.TakenInputs.{GivenUp, are_same, takes_err, takes_late, takes_repeat}
 use Rattle.log_core.specs.Taking.{IsMessageOrCleanUp}
+use Rattle.log_core.specs.declared.effect.LogEffect.TheVariants.{Transfers}
+use Rattle.log_core.specs.declared.effect.TransferEffect.TheVariants.{Begin}
+use Rattle.log_core.proofs.DecidedMessages.{IsDecided, check_sent, checked, checked_column, findings, last, moves_so, proposal_column, row_moves, takes_failed, takes_stale, to_check}
+use Rattle.log_core.proofs.EffectsOfMessages.{proposal_effect, proposal_unknown}
 use Rattle.log_core.proofs.tables.Tables.check.Goals as goal
 
-pub returns-in_err-new : goal.returns-in_err-new
-returns-in_err-new c =
-    let s = c.args.self.now.scheme in
-    let was = c.args.self.now in
+pub returns-in_err-decision : goal.returns-in_err-decision
+returns-in_err-decision c =
     let kept = c.requires.kept in
-    let x = c.args.proposal.now in
-    let d = c.on_proposal.result in
-    let to = (comes_to s was kept x.id (Some x.content) (findings s was kept x) c.args.moment (proposal_column s was kept x)) in
-    let row = (row_at s was kept x.id (proposal_column s was kept x)) in
-    let h : Decides s was c.args.input.now to row d = subst (λ i. Decides s was i to row d) (sym c.requires.input) (proposal_decided s was kept x c.args.moment d c.requires.welcome (c.on_proposal.ensures (ledger s (history s Itl was.records.inputs)) (findings s was kept x) (registers_so s was kept) refl)) in
-    takes_err s was was c.args.input.now c.from_residual.result _ kept (are_same was) c.from_residual.ensures.1
-    (λ r e. subst (λ q. GivenUp s was c.args.input.now q.code) (sym e) (given_up s was c.args.input.now to row d h c.in_err-new.field-0.0 c.in_err-new.was))
+    let col = checked_column kept c.args.proposal.now c.in_ok-found.ensures c.column_of_proposal.ensures in
+    takes_failed kept (checked kept c.requires.input c.requires.welcome col c.decide.ensures) c.in_err-decision.was c.from_residual-in_err-decision.ensures.1
 
 pub record-requires-clause-transitions : goal.record-requires-clause-transitions
 record-requires-clause-transitions c =
-    let s = c.args.self.now.scheme in
-    let was = c.args.self.now in
     let kept = c.requires.kept in
     let x = c.args.proposal.now in
-    let d = c.on_proposal.result in
-    let to = (comes_to s was kept x.id (Some x.content) (findings s was kept x) c.args.moment (proposal_column s was kept x)) in
-    let row = (row_at s was kept x.id (proposal_column s was kept x)) in
-    let h : Decides s was c.args.input.now to row d = subst (λ i. Decides s was i to row d) (sym c.requires.input) (proposal_decided s was kept x c.args.moment d c.requires.welcome (c.on_proposal.ensures (ledger s (history s Itl was.records.inputs)) (findings s was kept x) (registers_so s was kept) refl)) in
-    let m = moves s was c.args.input.now to row d h c.in-Moves.new c.in-Moves.messages (c.in_ok-new.was ∙ ap Ok c.in-Moves.is) in
-    (to c.in-Moves.new ∷ [], m.1, m.2, (subst IsMessageOrCleanUp (sym c.requires.input) tt, proposal_effect x.id c.args.moment (to c.in-Moves.new).messages (last s was kept x.id) c.in-Moves.new x.content c.in_ok-copy-in-Moves.field-0 (findings s was kept x) c.in_ok-copy-in-Moves.ensures m.0))
+    let new = c.in-Moves.new in
+    let to = to_check kept x c.args.moment in
+    let col = checked_column kept x c.in_ok-found.ensures c.column_of_proposal.ensures in
+    let moved = c.in_ok-decision.was ∙ ap Ok c.in-Moves.is in
+    let row = row_moves kept x.id (proposal_column kept x) (subst (λ k. IsDecided kept x.id k c.decide.result) col c.decide.ensures) moved in
+    let unknown = proposal_unknown x.id c.args.moment (to new).messages (last kept x.id) new (findings kept x) row in
+    moves_so kept (checked kept c.requires.input c.requires.welcome col c.decide.ensures) (Transfers (Begin x.id new (Some c.in_ok-copy-in-Moves.field-0)) c.args.moment) moved (check_sent kept x c.args.moment new c.in_ok-found.ensures unknown c.in_ok-messages-in-Moves.ensures)
+    (subst IsMessageOrCleanUp (sym c.requires.input) tt, proposal_effect x.id c.args.moment (to new).messages (last kept x.id) new x.content c.in_ok-copy-in-Moves.field-0 (findings kept x) c.in_ok-copy-in-Moves.ensures row)
 
 pub record-requires-clause-allowed : goal.record-requires-clause-allowed
 record-requires-clause-allowed c =
-    let s = c.args.self.now.scheme in
-    let was = c.args.self.now in
     let kept = c.requires.kept in
     let x = c.args.proposal.now in
-    let d = c.on_proposal.result in
-    let to = (comes_to s was kept x.id (Some x.content) (findings s was kept x) c.args.moment (proposal_column s was kept x)) in
-    let row = (row_at s was kept x.id (proposal_column s was kept x)) in
-    let h : Decides s was c.args.input.now to row d = subst (λ i. Decides s was i to row d) (sym c.requires.input) (proposal_decided s was kept x c.args.moment d c.requires.welcome (c.on_proposal.ensures (ledger s (history s Itl was.records.inputs)) (findings s was kept x) (registers_so s was kept) refl)) in
-    let m = moves s was c.args.input.now to row d h c.in-Moves.new c.in-Moves.messages (c.in_ok-new.was ∙ ap Ok c.in-Moves.is) in
-    kept.kept.transfers x.id ∙ ap (option_map of_transition) (proposal_unknown x.id c.args.moment (to c.in-Moves.new).messages (last s was kept x.id) c.in-Moves.new (findings s was kept x) m.0)
+    let new = c.in-Moves.new in
+    let to = to_check kept x c.args.moment in
+    let col = checked_column kept x c.in_ok-found.ensures c.column_of_proposal.ensures in
+    let row = row_moves kept x.id (proposal_column kept x) (subst (λ k. IsDecided kept x.id k c.decide.result) col c.decide.ensures) (c.in_ok-decision.was ∙ ap Ok c.in-Moves.is) in
+    kept.kept.transfers x.id ∙ ap (option_map of_transition) (proposal_unknown x.id c.args.moment (to new).messages (last kept x.id) new (findings kept x) row)
 
-pub returns-in-Repeat : goal.returns-in-Repeat
-returns-in-Repeat c =
-    let s = c.args.self.now.scheme in
-    let was = c.args.self.now in
+pub returns-in-Stays : goal.returns-in-Stays
+returns-in-Stays c =
     let kept = c.requires.kept in
-    let x = c.args.proposal.now in
-    let d = c.on_proposal.result in
-    let to = (comes_to s was kept x.id (Some x.content) (findings s was kept x) c.args.moment (proposal_column s was kept x)) in
-    let row = (row_at s was kept x.id (proposal_column s was kept x)) in
-    let h : Decides s was c.args.input.now to row d = subst (λ i. Decides s was i to row d) (sym c.requires.input) (proposal_decided s was kept x c.args.moment d c.requires.welcome (c.on_proposal.ensures (ledger s (history s Itl was.records.inputs)) (findings s was kept x) (registers_so s was kept) refl)) in
-    takes_repeat s was c.args.input.now kept (repeats s was c.args.input.now to row d h (c.in_ok-new.was ∙ ap Ok c.in-Repeat.is))
-
-pub returns-in-Late : goal.returns-in-Late
-returns-in-Late c =
-    let s = c.args.self.now.scheme in
-    let was = c.args.self.now in
-    let kept = c.requires.kept in
-    let x = c.args.proposal.now in
-    let d = c.on_proposal.result in
-    let to = (comes_to s was kept x.id (Some x.content) (findings s was kept x) c.args.moment (proposal_column s was kept x)) in
-    let row = (row_at s was kept x.id (proposal_column s was kept x)) in
-    let h : Decides s was c.args.input.now to row d = subst (λ i. Decides s was i to row d) (sym c.requires.input) (proposal_decided s was kept x c.args.moment d c.requires.welcome (c.on_proposal.ensures (ledger s (history s Itl was.records.inputs)) (findings s was kept x) (registers_so s was kept) refl)) in
-    takes_late s was c.args.input.now kept (comes_late s was c.args.input.now to row d h (c.in_ok-new.was ∙ ap Ok c.in-Late.is))
+    let col = checked_column kept c.args.proposal.now c.in_ok-found.ensures c.column_of_proposal.ensures in
+    takes_stale kept (checked kept c.requires.input c.requires.welcome col c.decide.ensures) (c.in_ok-decision.was ∙ ap Ok c.in-Stays.is) c.from.ensures

@@ -10,7 +10,8 @@ use Rattle.log_core.proofs.AgedTransfers.{cancelled_sends, none_listed, some_lis
 use Rattle.log_core.proofs.CleanedUp.{expired_messages}
 use Rattle.log_core.proofs.CleanedIds.{expired_ids}
 use Rattle.log_core.proofs.CleanedVerdicts.{clean_up_effect, clean_up_enters, clean_up_known, clean_up_repeats}
-use Rattle.log_core.proofs.TakenInputs.{takes_repeat}
+use Rattle.protocol.specs.declared.decision.Stale.TheVariants.{Repeat}
+use Rattle.log_core.proofs.TakenInputs.{takes_unmoved}
 use Rattle.log_core.proofs.tables.Tables.clean_up.Goals as goal
 
 pub returns-then-is_empty : goal.returns-then-is_empty
@@ -21,7 +22,7 @@ returns-then-is_empty c =
     let a = c.in_ok-ids.ensures.aged in
     let ids = c.in_ok-ids.ids in
     let are = expired_ids s was kept c.args.moment.seconds a.1.front a.1.rest a.1.parts c.expired.ensures.ordered a.1.aged a.1.young ids.items (subst (λ l. IsPermutation l ids.items) (sym a.1.held) a.2) c.in_ok-ids.ensures.sorted in
-    takes_repeat s was c.args.input.now kept (ap (verdict_by_rules s was) c.requires.input ∙ clean_up_repeats s was c.args.moment (are ∙ none_listed ids.items ids.len ids.ok.0 (sym c.is_empty.ensures ∙ c.if-is_empty.true)))
+    takes_unmoved s was c.args.input.now Repeat kept (ap (verdict_by_rules s was) c.requires.input ∙ clean_up_repeats s was c.args.moment (are ∙ none_listed ids.items ids.len ids.ok.0 (sym c.is_empty.ensures ∙ c.if-is_empty.true)))
 
 pub record-requires-clause-transitions : goal.record-requires-clause-transitions
 record-requires-clause-transitions c =

@@ -16,7 +16,7 @@ returns-in-Some c =
     let es = history s Itl was.records.inputs in
     let first = c.message_refusal.ensures es kept.kept.transfers in
     takes_refused s was was c.args.input.now (record { code = c.in-Some.refused }) kept (are_same was)
-    (inr (ap (verdict_by_rules s was) c.requires.input ∙ refused s was kept c.args.message.now c.args.moment c.in-Some.refused (sym first ∙ c.in-Some.is)))
+    (inr (ap (verdict_by_rules s was) c.requires.input ∙ refused kept c.args.message.now c.args.moment c.in-Some.refused (sym first ∙ c.in-Some.is)))
 
 pub check-requires-clause-welcome : goal.check-requires-clause-welcome
 check-requires-clause-welcome c =

@@ -1,58 +1,33 @@
-use Rattle.std.proofs.Common.{Ok, [], ◌∷◌, sym, ap, subst, ◌∙◌}
-use Rattle.wire.specs.NotifiedStatuses.{notified_codes, notified_status}
+use Rattle.std.proofs.Common.{Ok, sym, ap, subst, ◌∙◌}
 use Rattle.protocol.specs.Deciding.{content_in}
-use Rattle.log_core.proofs.DecidedMessages.{Decides, comes_late, comes_to, given_up, last, moves, notified_column, notified_decided, repeats, row_at}
-use Rattle.log_core.proofs.EffectsOfMessages.{notified_effect}
-use Rattle.log_core.proofs.TakenInputs.{GivenUp, are_same, takes_err, takes_late, takes_repeat}
+use Rattle.status.specs.declared.rows.RowInput.TheVariants.{Notified}
+use Rattle.wire.specs.NotifiedStatuses.{notified_codes, notified_status}
 use Rattle.log_core.specs.Taking.{IsMessageOrCleanUp}
+use Rattle.log_core.specs.declared.effect.LogEffect.TheVariants.{Transfers}
+use Rattle.log_core.specs.declared.effect.TransferEffect.TheVariants.{Advance}
+use Rattle.log_core.proofs.DecidedMessages.{IsDecided, last, moves_so, notified, notified_column, row_moves, sent_of, takes_failed, takes_stale, to_advance}
+use Rattle.log_core.proofs.EffectsOfMessages.{notified_effect}
 use Rattle.log_core.proofs.tables.Tables.take_notification.Goals as goal
 
-pub returns-in_err-new : goal.returns-in_err-new
-returns-in_err-new c =
-    let s = c.args.self.now.scheme in
-    let was = c.args.self.now in
-    let kept = c.requires.kept in
+pub returns-in_err-decision : goal.returns-in_err-decision
+returns-in_err-decision c =
     let x = c.args.notification.now in
-    let d = c.on_notified.result in
-    let to = (comes_to s was kept x.id (content_in (last s was kept x.id)) (notified_codes x.notified) c.args.moment (notified_column s was kept x)) in
-    let row = (row_at s was kept x.id (notified_column s was kept x)) in
-    let h : Decides s was c.args.input.now to row d = subst (λ i. Decides s was i to row d) (sym c.requires.input) (notified_decided s was kept x c.args.moment d c.requires.welcome c.on_notified.ensures) in
-    takes_err s was was c.args.input.now c.from_residual.result _ kept (are_same was) c.from_residual.ensures.1
-    (λ r e. subst (λ q. GivenUp s was c.args.input.now q.code) (sym e) (given_up s was c.args.input.now to row d h c.in_err-new.field-0.0 c.in_err-new.was))
+    let is = subst (λ s. IsDecided c.requires.kept x.id (Notified s) c.decide.result) c.status.ensures c.decide.ensures in
+    takes_failed c.requires.kept (notified c.requires.kept c.requires.input c.requires.welcome is) c.in_err-decision.was c.from_residual.ensures.1
 
 pub record-requires-clause-transitions : goal.record-requires-clause-transitions
 record-requires-clause-transitions c =
-    let s = c.args.self.now.scheme in
-    let was = c.args.self.now in
     let kept = c.requires.kept in
     let x = c.args.notification.now in
-    let d = c.on_notified.result in
-    let to = (comes_to s was kept x.id (content_in (last s was kept x.id)) (notified_codes x.notified) c.args.moment (notified_column s was kept x)) in
-    let row = (row_at s was kept x.id (notified_column s was kept x)) in
-    let h : Decides s was c.args.input.now to row d = subst (λ i. Decides s was i to row d) (sym c.requires.input) (notified_decided s was kept x c.args.moment d c.requires.welcome c.on_notified.ensures) in
-    let m = moves s was c.args.input.now to row d h c.in-Moves.new c.in-Moves.messages (c.in_ok-new.was ∙ ap Ok c.in-Moves.is) in
-    (to c.in-Moves.new ∷ [], m.1, m.2, (subst IsMessageOrCleanUp (sym c.requires.input) tt, notified_effect x.id c.args.moment (to c.in-Moves.new).messages (last s was kept x.id) c.in-Moves.new (content_in (last s was kept x.id)) (notified_status x.notified) m.0))
+    let new = c.in-Moves.new in
+    let to = to_advance kept x c.args.moment in
+    let is = subst (λ s. IsDecided kept x.id (Notified s) c.decide.result) c.status.ensures c.decide.ensures in
+    let moved = c.in_ok-decision.was ∙ ap Ok c.in-Moves.is in
+    moves_so kept (notified kept c.requires.input c.requires.welcome is) (Transfers (Advance x.id new) c.args.moment) moved (sent_of kept x.id (notified_codes x.notified) (notified_column kept x) c.content-content.ensures c.in_ok-messages-in-Moves.ensures)
+    (subst IsMessageOrCleanUp (sym c.requires.input) tt, notified_effect x.id c.args.moment (to new).messages (last kept x.id) new (content_in (last kept x.id)) (notified_status x.notified) (row_moves kept x.id (notified_column kept x) is moved))
 
-pub returns-in-Repeat : goal.returns-in-Repeat
-returns-in-Repeat c =
-    let s = c.args.self.now.scheme in
-    let was = c.args.self.now in
-    let kept = c.requires.kept in
+pub returns-in-Stays : goal.returns-in-Stays
+returns-in-Stays c =
     let x = c.args.notification.now in
-    let d = c.on_notified.result in
-    let to = (comes_to s was kept x.id (content_in (last s was kept x.id)) (notified_codes x.notified) c.args.moment (notified_column s was kept x)) in
-    let row = (row_at s was kept x.id (notified_column s was kept x)) in
-    let h : Decides s was c.args.input.now to row d = subst (λ i. Decides s was i to row d) (sym c.requires.input) (notified_decided s was kept x c.args.moment d c.requires.welcome c.on_notified.ensures) in
-    takes_repeat s was c.args.input.now kept (repeats s was c.args.input.now to row d h (c.in_ok-new.was ∙ ap Ok c.in-Repeat.is))
-
-pub returns-in-Late : goal.returns-in-Late
-returns-in-Late c =
-    let s = c.args.self.now.scheme in
-    let was = c.args.self.now in
-    let kept = c.requires.kept in
-    let x = c.args.notification.now in
-    let d = c.on_notified.result in
-    let to = (comes_to s was kept x.id (content_in (last s was kept x.id)) (notified_codes x.notified) c.args.moment (notified_column s was kept x)) in
-    let row = (row_at s was kept x.id (notified_column s was kept x)) in
-    let h : Decides s was c.args.input.now to row d = subst (λ i. Decides s was i to row d) (sym c.requires.input) (notified_decided s was kept x c.args.moment d c.requires.welcome c.on_notified.ensures) in
-    takes_late s was c.args.input.now kept (comes_late s was c.args.input.now to row d h (c.in_ok-new.was ∙ ap Ok c.in-Late.is))
+    let is = subst (λ s. IsDecided c.requires.kept x.id (Notified s) c.decide.result) c.status.ensures c.decide.ensures in
+    takes_stale c.requires.kept (notified c.requires.kept c.requires.input c.requires.welcome is) (c.in_ok-decision.was ∙ ap Ok c.in-Stays.is) c.from.ensures

@@ -1,20 +1,16 @@
-use Rattle.std.proofs.Common.{Ok, refl, ap, ◌∙◌}
+use Rattle.std.proofs.Common.{Ok, refl, sym, ap, ◌∙◌}
 use Rattle.registry_core.specs.declared.effect.RegistryEffect.TheVariants.{Conclude}
-use Rattle.registry_core.proofs.RolesDecide.{moves_so, concluded, takes_again, takes_failed, takes_too_late}
+use Rattle.registry_core.proofs.RolesDecide.{concluded, conclusion_sent, moves_so, takes_failed, takes_stale}
 use Rattle.registry_core.proofs.tables.Tables.conclude.Goals as goal
 
-pub returns-in_err-new : goal.returns-in_err-new
-returns-in_err-new c =
-    takes_failed c.requires.kept (concluded c.requires.kept c.requires.input.1 c.requires.welcome c.requires.own c.status-told.ensures c.notice.ensures) c.in_err-new.was c.from_residual.ensures.1
+pub returns-in_err-decision : goal.returns-in_err-decision
+returns-in_err-decision c =
+    takes_failed c.requires.kept (concluded c.requires.kept c.requires.input.1 c.requires.welcome c.requires.own c.status-told.ensures c.notice.ensures) c.in_err-decision.was c.from_residual.ensures.1
 
 pub record-requires-clause-transitions : goal.record-requires-clause-transitions
 record-requires-clause-transitions c =
-    moves_so c.requires.kept (concluded c.requires.kept c.requires.input.1 c.requires.welcome c.requires.own c.status-told.ensures c.notice.ensures) (Conclude c.args.notification.now.id c.in-Moves.new) c.requires.input.1 (c.in_ok-new.was ∙ ap Ok c.in-Moves.is) (refl, refl, c.requires.own)
+    moves_so c.requires.kept (concluded c.requires.kept c.requires.input.1 c.requires.welcome c.requires.own c.status-told.ensures c.notice.ensures) (Conclude c.args.notification.now.id c.in-Moves.new) c.requires.input.1 (c.in_ok-decision.was ∙ ap Ok c.in-Moves.is)
+    (conclusion_sent c.requires.kept c.args.notification.now c.requires.input.0 c.in-Moves.new c.status-told.ensures c.in_ok-messages-in-Moves.ensures) (refl, refl, c.requires.own)
 
-pub returns-in-Repeat : goal.returns-in-Repeat
-returns-in-Repeat c =
-    takes_again c.requires.kept (concluded c.requires.kept c.requires.input.1 c.requires.welcome c.requires.own c.status-told.ensures c.notice.ensures) (c.in_ok-new.was ∙ ap Ok c.in-Repeat.is)
-
-pub returns-in-Late : goal.returns-in-Late
-returns-in-Late c =
-    takes_too_late c.requires.kept (concluded c.requires.kept c.requires.input.1 c.requires.welcome c.requires.own c.status-told.ensures c.notice.ensures) (c.in_ok-new.was ∙ ap Ok c.in-Late.is)
+pub returns-in-Stays : goal.returns-in-Stays
+returns-in-Stays c = takes_stale c.requires.kept (concluded c.requires.kept c.requires.input.1 c.requires.welcome c.requires.own c.status-told.ensures c.notice.ensures) (c.in_ok-decision.was ∙ ap Ok c.in-Stays.is) c.from.ensures

@@ -1,4 +1,4 @@
--- What comes of what a core did. No public contract cites it.
+-- The outcome of an input that a core took.
 use Rattle.protocol.specs.declared.event.Outcome.{Outcome}
 use Rattle.protocol.specs.declared.event.Outcome.TheVariants as outcome
 use Rattle.protocol.specs.declared.node_core.Stepped.{Stepped}

@@ -34,12 +34,27 @@ use units::refusal_code::{
 use units::{Block, NoMemory, Refusal, Span, Unit, UnitMap};
 
 /// A registry's accounts and the units that they hold.
-#[derive(Debug, Drop)]
+#[derive(Debug)]
 pub struct Holdings {
     alloc: Global,
     accounts: BTreeMap<u64, Account>,
     unit_holdings: UnitMap<UnitHolding>,
     reservations: BTreeMap<TransactionId, Reservation>,
+}
+
+// Written out, since a derived destructor is proved anew in each crate that lets a value go.
+impl Drop for Holdings {
+    fn drop(self) {
+        let Holdings {
+            alloc: _,
+            accounts,
+            unit_holdings,
+            reservations,
+        } = self;
+        drop(accounts);
+        drop(unit_holdings);
+        drop(reservations);
+    }
 }
 
 impl Model for Holdings {

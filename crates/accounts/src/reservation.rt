@@ -21,10 +21,19 @@ pub(crate) struct Share {
 }
 
 /// What a transaction reserves: blocks that share no unit, and how many of their units are of which account.
-#[derive(Debug, Drop)]
+#[derive(Debug)]
 pub(crate) struct Reservation {
     pub blocks: Vec<Block>,
     pub shares: Vec<Share>,
+}
+
+// Written out, since a derived destructor is proved anew in each crate that lets a value go.
+impl Drop for Reservation {
+    fn drop(self) {
+        let Reservation { blocks, shares } = self;
+        drop(blocks);
+        drop(shares);
+    }
 }
 
 impl Reservation {

@@ -47,11 +47,24 @@ use wire::{AcquirerCodes, Message};
 
 /// The transfers to a registry, by their identifiers. It decides what the acquirer's table says to an input, without
 /// any change, and does then what a decision that moves a transfer asks for.
-#[derive(Debug, Drop)]
+#[derive(Debug)]
 pub struct Acquirer {
     code: Code,
     transfers: BTreeMap<TransactionId, IncomingTransfer>,
     awaited: BTreeSet<Awaited>,
+}
+
+// Written out, since a derived destructor is proved anew in each crate that lets a value go.
+impl Drop for Acquirer {
+    fn drop(self) {
+        let Acquirer {
+            code: _,
+            transfers,
+            awaited,
+        } = self;
+        drop(transfers);
+        drop(awaited);
+    }
 }
 
 impl Model for Acquirer {

@@ -6,10 +6,19 @@ use status::{Content, RecordedStatus, RowInput, Status};
 
 /// What an acquirer knows of a transfer to it: where it stands, and its content, which is `None` where it was
 /// cancelled before its proposal came.
-#[derive(Debug, Drop)]
+#[derive(Debug)]
 pub struct IncomingTransfer {
     pub status: Status,
     pub content: Option<Content>,
+}
+
+// Written out, since a derived destructor is proved anew in each crate that lets a value go.
+impl Drop for IncomingTransfer {
+    fn drop(self) {
+        let IncomingTransfer { status, content } = self;
+        drop(status);
+        drop(content);
+    }
 }
 
 impl IncomingTransfer {

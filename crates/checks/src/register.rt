@@ -19,7 +19,7 @@ pub struct UnderWay {
 }
 
 /// What the log knows of units and registries.
-#[derive(Debug, Drop)]
+#[derive(Debug)]
 pub struct Register {
     /// Who holds each allotted unit at the start.
     pub allotments: UnitMap<Holder>,
@@ -29,6 +29,22 @@ pub struct Register {
     pub under_way: UnitMap<UnderWay>,
     /// Whether a registry may take part in transfers, as the last order for it says.
     pub orders: BTreeMap<Code, bool>,
+}
+
+// Written out, since a derived destructor is proved anew in each crate that lets a value go.
+impl Drop for Register {
+    fn drop(self) {
+        let Register {
+            allotments,
+            book,
+            under_way,
+            orders,
+        } = self;
+        drop(allotments);
+        drop(book);
+        drop(under_way);
+        drop(orders);
+    }
 }
 
 impl Label for BookEntry {

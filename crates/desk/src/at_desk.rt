@@ -32,11 +32,22 @@ fn fault_after(
 }
 
 /// A state with its store, of a run of which that is known, and the fault that stopped the store, if one did.
-#[derive(Drop)]
 pub(crate) struct AtDesk<O: Opening, C: NodeCore, S: NodeStore> {
     stored: Stored<C, S>,
     fault: Option<StoreFault>,
     run: PhantomData<O>,
+}
+
+// Written out, since a derived destructor is proved anew in each crate that lets a value go.
+impl<O: Opening, C: NodeCore, S: NodeStore + Drop> Drop for AtDesk<O, C, S> {
+    fn drop(self) {
+        let AtDesk {
+            stored,
+            fault: _,
+            run: _,
+        } = self;
+        drop(stored);
+    }
 }
 
 impl<O: Opening, C: NodeCore, S: NodeStore> Model for AtDesk<O, C, S> {

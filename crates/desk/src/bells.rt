@@ -16,11 +16,24 @@ struct PeerBell<B: Bell> {
 
 /// The bells of a desk: one for the thread that commits, one for those that wait for a commit, and one for each peer, at
 /// which the thread waits that sends to it. A node has at most 32 peers.
-#[derive(Drop)]
 pub struct Bells<B: Bell> {
     work: B,
     commits: B,
     peers: Vec<PeerBell<B>>,
+}
+
+// Written out, since a derived destructor is proved anew in each crate that lets a value go.
+impl<B: Bell> Drop for Bells<B> {
+    fn drop(self) {
+        let Bells {
+            work,
+            commits,
+            peers,
+        } = self;
+        drop(work);
+        drop(commits);
+        drop(peers);
+    }
 }
 
 impl<B: Bell> Bells<B> {

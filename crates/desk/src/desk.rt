@@ -33,10 +33,18 @@ pub struct Ended<C: NodeCore, S: NodeStore> {
 
 /// A node's state and its store under a lock, and bells that ring where a thread waits for a commit, where the state has
 /// committed records, and where it has stopped. A thread brings a seat of its own to each call that tells it something.
-#[derive(Drop)]
 pub struct Desk<O: Opening, C: NodeCore, S: NodeStore, B: Bell> {
     locked: Mutex<AtDesk<O, C, S>>,
     bells: Bells<B>,
+}
+
+// Written out, since a derived destructor is proved anew in each crate that lets a value go.
+impl<O: Opening, C: NodeCore, S: NodeStore + Drop, B: Bell> Drop for Desk<O, C, S, B> {
+    fn drop(self) {
+        let Desk { locked, bells } = self;
+        drop(locked);
+        drop(bells);
+    }
 }
 
 impl<O: Opening, C: NodeCore, S: NodeStore, B: Bell> Desk<O, C, S, B> {

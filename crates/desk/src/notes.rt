@@ -36,18 +36,38 @@ pub fn is_unjudged(refusal: Refusal) -> bool
 }
 
 /// What was asked, what was returned, and how many records the journal then had.
-#[derive(Debug, Drop)]
+#[derive(Debug)]
 pub struct Note {
     pub asked: Asked,
     pub told: Told,
     pub length: usize,
 }
 
+// Written out, since a derived destructor is proved anew in each crate that lets a value go.
+impl Drop for Note {
+    fn drop(self) {
+        let Note {
+            asked,
+            told: _,
+            length: _,
+        } = self;
+        drop(asked);
+    }
+}
+
 /// An input that was recorded, and its place in the journal, counted from 0.
-#[derive(Debug, Drop)]
+#[derive(Debug)]
 pub struct Ticket {
     pub place: usize,
     pub input: Input,
+}
+
+// Written out, since a derived destructor is proved anew in each crate that lets a value go.
+impl Drop for Ticket {
+    fn drop(self) {
+        let Ticket { place: _, input } = self;
+        drop(input);
+    }
 }
 
 /// How the lengths of the journal that a seat was told follow one another.

@@ -15,7 +15,7 @@ use units::NoMemory;
 use wire::Input;
 
 /// What one thread was told: the records that it made, and whatever else it learned about the journal.
-#[derive(Debug, Drop)]
+#[derive(Debug)]
 pub struct Seat {
     tickets: Vec<Ticket>,
     notes: Vec<Note>,
@@ -23,6 +23,23 @@ pub struct Seat {
     lengths: Lengths,
     confirmed: usize,
     prepared: Option<Asked>,
+}
+
+// Written out, since a derived destructor is proved anew in each crate that lets a value go.
+impl Drop for Seat {
+    fn drop(self) {
+        let Seat {
+            tickets,
+            notes,
+            seen: _,
+            lengths: _,
+            confirmed: _,
+            prepared,
+        } = self;
+        drop(tickets);
+        drop(notes);
+        drop(prepared);
+    }
 }
 
 impl Model for Seat {

@@ -22,11 +22,23 @@ use wire::{Input, Message};
 
 /// What a state was asked, what it returned, and how many records its journal then had. It isn't known yet whether
 /// these are committed. Only a state makes one.
-#[derive(Debug, Drop)]
+#[derive(Debug)]
 pub struct Taken {
     asked: Asked,
     told: Told,
     length: usize,
+}
+
+// Written out, since a derived destructor is proved anew in each crate that lets a value go.
+impl Drop for Taken {
+    fn drop(self) {
+        let Taken {
+            asked,
+            told: _,
+            length: _,
+        } = self;
+        drop(asked);
+    }
 }
 
 impl Model for Taken {
@@ -62,9 +74,17 @@ impl Taken {
 
 /// What was taken, and all records of the journal then were committed when a state made this. Only `State::receipt`
 /// does.
-#[derive(Debug, Drop)]
+#[derive(Debug)]
 pub struct Receipt {
     taken: Taken,
+}
+
+// Written out, since a derived destructor is proved anew in each crate that lets a value go.
+impl Drop for Receipt {
+    fn drop(self) {
+        let Receipt { taken } = self;
+        drop(taken);
+    }
 }
 
 impl Model for Receipt {
@@ -86,13 +106,26 @@ impl Receipt {
 
 /// A node's core with its journal, of which the first records are committed to its store. It runs until it is
 /// stopped.
-#[derive(Drop)]
 pub struct State<C: NodeCore> {
     alloc: Global,
     core: C,
     committed: usize,
     opening: usize,
     runs: bool,
+}
+
+// Written out, since a derived destructor is proved anew in each crate that lets a value go.
+impl<C: NodeCore> Drop for State<C> {
+    fn drop(self) {
+        let State {
+            alloc: _,
+            core,
+            committed: _,
+            opening: _,
+            runs: _,
+        } = self;
+        drop(core);
+    }
 }
 
 impl<C: NodeCore> Model for State<C> {
@@ -331,7 +364,14 @@ impl<C: NodeCore> State<C> {
         ensures node { C.node_of result ≡ self.node }
         ensures journal { C.journal_of result ≡ self.journal }
     {
-        self.core
+        let State {
+            alloc: _,
+            core,
+            committed: _,
+            opening: _,
+            runs: _,
+        } = self;
+        core
     }
 
     /// The node whose state it is.

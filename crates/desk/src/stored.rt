@@ -15,10 +15,18 @@ use stores::{NodeStore, StoreFault};
 use wire::Input;
 
 /// A node's state, and the store that has the committed records of it. Nothing but a commit changes the two together.
-#[derive(Drop)]
 pub struct Stored<C: NodeCore, S: NodeStore> {
     state: State<C>,
     store: S,
+}
+
+// Written out, since a derived destructor is proved anew in each crate that lets a value go.
+impl<C: NodeCore, S: NodeStore + Drop> Drop for Stored<C, S> {
+    fn drop(self) {
+        let Stored { state, store } = self;
+        drop(state);
+        drop(store);
+    }
 }
 
 impl<C: NodeCore, S: NodeStore> Model for Stored<C, S> {

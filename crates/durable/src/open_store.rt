@@ -21,12 +21,24 @@ use stores::{Readiness, StoreFault, decode_records, encode_records};
 use wire::Input;
 
 /// A store over an open connection. After a fault every call returns `Reopen`.
-#[derive(Drop)]
 pub(crate) struct OpenStore<S: Alter> {
     conn: Connection<S>,
     count: u64,
     readiness: Readiness,
     alloc: Global,
+}
+
+// Written out, since a derived destructor is proved anew in each crate that lets a value go.
+impl<S: Alter + Drop> Drop for OpenStore<S> {
+    fn drop(self) {
+        let OpenStore {
+            conn,
+            count: _,
+            readiness: _,
+            alloc: _,
+        } = self;
+        drop(conn);
+    }
 }
 
 impl<S: Alter> Model for OpenStore<S> {

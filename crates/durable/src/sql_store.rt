@@ -22,7 +22,6 @@ use units::Node;
 use wire::Input;
 
 /// A store in a file of SQLite and its log.
-#[derive(Drop)]
 pub struct SqlStore<D: Disk + Drop> {
     store_state: StoreState<D>,
     node: Node,
@@ -30,6 +29,20 @@ pub struct SqlStore<D: Disk + Drop> {
     options: Options,
     alloc: Global,
     ghost there: { IsTrue (is_there D.Disk store_state) },
+}
+
+// Written out, since a derived destructor is proved anew in each crate that lets a value go.
+impl<D: Disk + Drop> Drop for SqlStore<D> {
+    fn drop(self) {
+        let SqlStore {
+            store_state,
+            node: _,
+            faults: _,
+            options: _,
+            alloc: _,
+        } = self;
+        drop(store_state);
+    }
 }
 
 impl<D: Disk + Drop> SqlStore<D> {

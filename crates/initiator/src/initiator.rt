@@ -40,11 +40,23 @@ use units::{Code, Items, NoMemory, Refusal};
 
 /// The transfers that a registry proposed, by their identifiers. It decides what the initiator's table says to an
 /// input, without any change, says what is sent where a transfer moves, and does then what that asks for.
-#[derive(Debug, Drop)]
+#[derive(Debug)]
 pub struct Initiator {
     code: Code,
     last: u32,
     transfers: BTreeMap<TransactionId, OutgoingTransfer>,
+}
+
+// Written out, since a derived destructor is proved anew in each crate that lets a value go.
+impl Drop for Initiator {
+    fn drop(self) {
+        let Initiator {
+            code: _,
+            last: _,
+            transfers,
+        } = self;
+        drop(transfers);
+    }
 }
 
 impl Model for Initiator {

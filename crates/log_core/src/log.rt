@@ -25,9 +25,17 @@ use wire::Input;
 
 /// The log of a scheme: the journal of the inputs that it recorded, and beside it what the journal says of units and
 /// registries, of transactions, and of its messages. In contracts it is its scheme and its journal.
-#[derive(Debug, Drop)]
+#[derive(Debug)]
 pub struct LogCore {
     tables: Tables,
+}
+
+// Written out, since a derived destructor is proved anew in each crate that lets a value go.
+impl Drop for LogCore {
+    fn drop(self) {
+        let LogCore { tables } = self;
+        drop(tables);
+    }
 }
 
 impl Model for LogCore {

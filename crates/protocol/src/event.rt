@@ -52,10 +52,22 @@ impl From<Stepped> for Outcome {
 }
 
 /// A message in the bag, with the node that posted it and its key there.
-#[derive(Debug, Drop)]
+#[derive(Debug)]
 pub struct Posted {
     pub node: Node,
     /// Which of the messages that the node sent it is, counted from 0.
     pub key: u64,
     pub message: Message,
+}
+
+// Written out, since a derived destructor is proved anew in each crate that lets a value go.
+impl Drop for Posted {
+    fn drop(self) {
+        let Posted {
+            node: _,
+            key: _,
+            message,
+        } = self;
+        drop(message);
+    }
 }

@@ -16,12 +16,26 @@ use wire::Message;
 
 /// The messages that the records of a node's journal send, numbered in order from 0, and which of them were
 /// acknowledged. In contracts it is the list of what each record did, the oldest first.
-#[derive(Debug, Drop)]
+#[derive(Debug)]
 pub struct Outbox {
     messages: Vec<Message>,
     records: Vec<Record>,
     // Those that aren't acknowledged.
     unacknowledged: BTreeSet<Unacknowledged>,
+}
+
+// Written out, since a derived destructor is proved anew in each crate that lets a value go.
+impl Drop for Outbox {
+    fn drop(self) {
+        let Outbox {
+            messages,
+            records,
+            unacknowledged,
+        } = self;
+        drop(messages);
+        drop(records);
+        drop(unacknowledged);
+    }
 }
 
 impl Model for Outbox {

@@ -28,9 +28,17 @@ use wire::Input;
 /// A registry of a scheme: the journal of the inputs that it recorded, and beside it what the journal says of its
 /// units, its accounts, its transfers in each role, and its messages. In contracts it is its scheme, its code, and
 /// its journal.
-#[derive(Debug, Drop)]
+#[derive(Debug)]
 pub struct RegistryCore {
     tables: Tables,
+}
+
+// Written out, since a derived destructor is proved anew in each crate that lets a value go.
+impl Drop for RegistryCore {
+    fn drop(self) {
+        let RegistryCore { tables } = self;
+        drop(tables);
+    }
 }
 
 impl Model for RegistryCore {

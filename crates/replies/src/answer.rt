@@ -14,11 +14,24 @@ use wire::{Reply, ReplyCode};
 /// A line and its reply. Every reply has a receipt, but for three: `NOT_A_MESSAGE` where the line writes no message,
 /// `NODE_STOPPED` and `OUT_OF_MEMORY`. The receipt is of the line's message, and what was told of that gives the
 /// reply.
-#[derive(Debug, Drop)]
+#[derive(Debug)]
 pub struct Answer {
     line: Vec<u8>,
     reply: Reply,
     receipt: Option<Receipt>,
+}
+
+// Written out, since a derived destructor is proved anew in each crate that lets a value go.
+impl Drop for Answer {
+    fn drop(self) {
+        let Answer {
+            line,
+            reply: _,
+            receipt,
+        } = self;
+        drop(line);
+        drop(receipt);
+    }
 }
 
 impl Model for Answer {

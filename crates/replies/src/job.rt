@@ -9,10 +9,19 @@ use units::Refusal;
 use wire::{Message, decode};
 
 /// A line without its newline, and the message that it writes.
-#[derive(Debug, Drop)]
+#[derive(Debug)]
 pub struct Job {
     line: Vec<u8>,
     message: Message,
+}
+
+// Written out, since a derived destructor is proved anew in each crate that lets a value go.
+impl Drop for Job {
+    fn drop(self) {
+        let Job { line, message } = self;
+        drop(line);
+        drop(message);
+    }
 }
 
 impl Model for Job {

@@ -7,15 +7,23 @@ use thiserror::Error;
 use units::{Block, Code, Items, Kind, Label};
 
 /// The blocks that an account has at the start.
-#[derive(Debug, Drop)]
+#[derive(Debug)]
 pub struct Allotment {
     /// One of the registry's accounts, in any scheme: 1 to `LAST_ACCOUNT`.
     pub account: u64,
     pub units: Items<Block>,
 }
 
+// Written out, since a derived destructor is proved anew in each crate that lets a value go.
+impl Drop for Allotment {
+    fn drop(self) {
+        let Allotment { account: _, units } = self;
+        drop(units);
+    }
+}
+
 /// A registry of the scheme.
-#[derive(Debug, Drop)]
+#[derive(Debug)]
 pub struct SchemeRegistry {
     pub code: Code,
     /// Numbers of 1 to `LAST_ACCOUNT`, in any scheme. In one that was read: at most `MOST_ACCOUNTS`, none twice.
@@ -26,6 +34,22 @@ pub struct SchemeRegistry {
     pub eligible: bool,
     /// The kinds of units that it takes.
     pub kinds: Items<Kind>,
+}
+
+// Written out, since a derived destructor is proved anew in each crate that lets a value go.
+impl Drop for SchemeRegistry {
+    fn drop(self) {
+        let SchemeRegistry {
+            code: _,
+            accounts,
+            allotted,
+            eligible: _,
+            kinds,
+        } = self;
+        drop(accounts);
+        drop(allotted);
+        drop(kinds);
+    }
 }
 
 /// Who holds a unit at the start.

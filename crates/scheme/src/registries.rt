@@ -15,7 +15,7 @@ use std::alloc::Global;
 use units::{Block, Code, Items, NoMemory, Unit};
 
 /// The registries, in byte order of their codes, and how many records each node's journal may have.
-#[derive(Debug, Drop)]
+#[derive(Debug)]
 pub struct Scheme {
     /// How many records each node's journal may have: 1 to `MOST_RECORDS`.
     pub records: u64,
@@ -23,6 +23,17 @@ pub struct Scheme {
     pub members: Items<SchemeRegistry>,
     pub ghost in_range: { (1 ≤ records) × (records ≤ most_records) },
     pub ghost sound: { AreMembers members } by { AreMembers-prop members },
+}
+
+// Written out, since a derived destructor is proved anew in each crate that lets a value go.
+impl Drop for Scheme {
+    fn drop(self) {
+        let Scheme {
+            records: _,
+            members,
+        } = self;
+        drop(members);
+    }
 }
 
 /// The block of the allotment that has the unit.

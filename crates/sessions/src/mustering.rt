@@ -18,10 +18,18 @@ pub enum Mustered {
 }
 
 /// How many threads have reported that they have begun, under a lock of its own.
-#[derive(Drop)]
 pub struct Muster {
     reports: Mutex<usize>,
     reported: Condvar,
+}
+
+// Written out, since a derived destructor is proved anew in each crate that lets a value go.
+impl Drop for Muster {
+    fn drop(self) {
+        let Muster { reports, reported } = self;
+        drop(reports);
+        drop(reported);
+    }
 }
 
 impl Muster {

@@ -12,10 +12,17 @@ use std::time::Duration;
 /// No clause of the standard library says where a stream leads. So which address this is rests on the body of
 /// `dial_at`, which alone makes one: it asks the network for a connection to the address that it is given, and to no
 /// other.
-#[derive(Drop)]
 pub struct Dialled {
     stream: TcpStream,
     address: SocketAddr,
+}
+
+// Written out, since a derived destructor is proved anew in each crate that lets a value go.
+impl Drop for Dialled {
+    fn drop(self) {
+        let Dialled { stream, address: _ } = self;
+        drop(stream);
+    }
 }
 
 impl Model for Dialled {

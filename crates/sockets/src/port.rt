@@ -24,10 +24,20 @@ fn with_limit(listener: TcpListener) -> io::Result<TcpListener> {
 }
 
 /// A TCP listener at a port of 127.0.0.1, each accept of which waits for `LONGEST_ACCEPT` milliseconds at most.
-#[derive(Drop)]
 pub struct Port {
     listener: TcpListener,
     address: SocketAddr,
+}
+
+// Written out, since a derived destructor is proved anew in each crate that lets a value go.
+impl Drop for Port {
+    fn drop(self) {
+        let Port {
+            listener,
+            address: _,
+        } = self;
+        drop(listener);
+    }
 }
 
 impl Model for Port {

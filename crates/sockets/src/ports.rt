@@ -16,11 +16,23 @@ use units::{NoMemory, Node};
 const READ_AT_ONCE: usize = 256;
 
 /// Where each of some nodes accepts connections.
-#[derive(Drop)]
 pub struct Ports<R> {
     net: R,
     alloc: Global,
     addresses: Vec<(Node, SocketAddr)>,
+}
+
+// Written out, since a derived destructor is proved anew in each crate that lets a value go.
+impl<R: Drop> Drop for Ports<R> {
+    fn drop(self) {
+        let Ports {
+            net,
+            alloc: _,
+            addresses,
+        } = self;
+        drop(net);
+        drop(addresses);
+    }
 }
 
 impl<R> Model for Ports<R> {

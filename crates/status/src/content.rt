@@ -10,12 +10,25 @@ use units::{Block, Code, Items, NoMemory};
 /// What a transfer is about, beside its identifier, whose code is the initiator: the account that
 /// the units leave, the acquirer and its account that they go to, and 1 to `MOST_BLOCKS` blocks.
 /// Accounts are 1 to `LAST_ACCOUNT`.
-#[derive(Debug, Drop)]
+#[derive(Debug)]
 pub struct Content {
     account: u64,
     acquirer: Code,
     to_account: u64,
     units: Items<Block>,
+}
+
+// Written out, since a derived destructor is proved anew in each crate that lets a value go.
+impl Drop for Content {
+    fn drop(self) {
+        let Content {
+            account: _,
+            acquirer: _,
+            to_account: _,
+            units,
+        } = self;
+        drop(units);
+    }
 }
 
 impl Model for Content {

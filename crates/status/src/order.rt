@@ -11,12 +11,25 @@ use units::{Code, Items, NoMemory, RawBlock};
 
 /// An order to transfer units, as it was given: none of its parts is checked, except that its
 /// numbers have at most `MOST_DIGITS` digits.
-#[derive(Debug, Drop)]
+#[derive(Debug)]
 pub struct Order {
     account: u64,
     acquirer: Code,
     to_account: u64,
     units: Items<RawBlock>,
+}
+
+// Written out, since a derived destructor is proved anew in each crate that lets a value go.
+impl Drop for Order {
+    fn drop(self) {
+        let Order {
+            account: _,
+            acquirer: _,
+            to_account: _,
+            units,
+        } = self;
+        drop(units);
+    }
 }
 
 impl Model for Order {

@@ -30,7 +30,7 @@ struct Fuse {
 }
 
 /// A store in memory, for tests and for runs that needn't outlive the process. It keeps the records of one node.
-#[derive(Debug, Drop)]
+#[derive(Debug)]
 pub struct MemoryStore {
     node: Node,
     records: Vec<Input>,
@@ -38,6 +38,22 @@ pub struct MemoryStore {
     fuse: Option<Fuse>,
     faults: u64,
     alloc: Global,
+}
+
+// Written out, since a derived destructor is proved anew in each crate that lets a value go.
+impl Drop for MemoryStore {
+    fn drop(self) {
+        let MemoryStore {
+            node: _,
+            records,
+            readiness: _,
+            fuse,
+            faults: _,
+            alloc: _,
+        } = self;
+        drop(records);
+        drop(fuse);
+    }
 }
 
 impl Model for MemoryStore {

@@ -6,9 +6,17 @@ use std::alloc::Global;
 use std::marker::Model;
 
 /// The elements of a `Vec`, seen in contracts as the list of them.
-#[derive(Debug, Drop)]
+#[derive(Debug)]
 pub struct Items<T> {
     held: Vec<T>,
+}
+
+// Written out, since a derived destructor is proved anew in each crate that lets a value go.
+impl<T: Drop> Drop for Items<T> {
+    fn drop(self) {
+        let Items { held } = self;
+        drop(held);
+    }
 }
 
 impl<T> Model for Items<T> {
@@ -38,7 +46,8 @@ impl<T> Items<T> {
     pub fn into_vec(self) -> Vec<T>
         ensures { result.items ≡ self }
     {
-        self.held
+        let Items { held } = self;
+        held
     }
 
     /// The elements in their order.

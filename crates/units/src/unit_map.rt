@@ -44,10 +44,18 @@ pub struct Span<M> {
 
 /// Which units there are, and the label of each, kept as intervals in order that share no unit, with no two that could
 /// be one.
-#[derive(Debug, Drop)]
+#[derive(Debug)]
 pub struct UnitMap<M> {
     alloc: Global,
     spans: BTreeMap<Unit, Span<M>>,
+}
+
+// Written out, since a derived destructor is proved anew in each crate that lets a value go.
+impl<M: Drop> Drop for UnitMap<M> {
+    fn drop(self) {
+        let UnitMap { alloc: _, spans } = self;
+        drop(spans);
+    }
 }
 
 impl<M> Model for UnitMap<M> {

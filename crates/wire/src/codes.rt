@@ -10,9 +10,17 @@ use units::{Items, NoMemory};
 
 /// What the log found: one or more codes from `WRONG_ACQUIRER` to `ACQUIRER_NOT_ELIGIBLE`, strictly
 /// ascending.
-#[derive(Debug, Drop)]
+#[derive(Debug)]
 pub struct LogCodes {
     held: Items<u16>,
+}
+
+// Written out, since a derived destructor is proved anew in each crate that lets a value go.
+impl Drop for LogCodes {
+    fn drop(self) {
+        let LogCodes { held } = self;
+        drop(held);
+    }
 }
 
 impl Model for LogCodes {
@@ -28,9 +36,17 @@ impl Model for LogCodes {
 
 /// What the acquirer found: one or more codes from `RECEIVER_UNKNOWN` to `KIND_NOT_TAKEN`, strictly
 /// ascending.
-#[derive(Debug, Drop)]
+#[derive(Debug)]
 pub struct AcquirerCodes {
     held: Items<u16>,
+}
+
+// Written out, since a derived destructor is proved anew in each crate that lets a value go.
+impl Drop for AcquirerCodes {
+    fn drop(self) {
+        let AcquirerCodes { held } = self;
+        drop(held);
+    }
 }
 
 impl Model for AcquirerCodes {

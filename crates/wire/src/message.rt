@@ -15,7 +15,7 @@ pub enum ProposalStatus {
 }
 
 /// A transfer that a registry proposes, and that the log passes on.
-#[derive(Debug, Drop)]
+#[derive(Debug)]
 pub struct Proposal {
     pub from: Node,
     pub to: Node,
@@ -25,13 +25,40 @@ pub struct Proposal {
     pub content: Content,
 }
 
+// Written out, since a derived destructor is proved anew in each crate that lets a value go.
+impl Drop for Proposal {
+    fn drop(self) {
+        let Proposal {
+            from: _,
+            to: _,
+            id: _,
+            status: _,
+            content,
+        } = self;
+        drop(content);
+    }
+}
+
 /// How a transfer stands at the node that it is from.
-#[derive(Debug, Drop)]
+#[derive(Debug)]
 pub struct Notification {
     pub from: Node,
     pub to: Node,
     pub id: TransactionId,
     pub notified: NotifiedStatus,
+}
+
+// Written out, since a derived destructor is proved anew in each crate that lets a value go.
+impl Drop for Notification {
+    fn drop(self) {
+        let Notification {
+            from: _,
+            to: _,
+            id: _,
+            notified,
+        } = self;
+        drop(notified);
+    }
 }
 
 /// A registry asks the log to cancel a transfer that it proposed.

@@ -28,10 +28,18 @@ use units::{Block, Code, Items, NoMemory, Node, Unit};
 use wire::{Input, Message, Proposal};
 
 /// What a registry holds: lines by account and then in the order of units.
-#[derive(Debug, Drop)]
+#[derive(Debug)]
 pub struct Stock {
     pub code: Code,
     pub lines: Items<HeldBlock>,
+}
+
+// Written out, since a derived destructor is proved anew in each crate that lets a value go.
+impl Drop for Stock {
+    fn drop(self) {
+        let Stock { code: _, lines } = self;
+        drop(lines);
+    }
 }
 
 fn is_completed(status: Option<Status>) -> bool

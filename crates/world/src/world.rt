@@ -24,12 +24,27 @@ use wire::{Input, Message};
 
 /// All nodes of a scheme, the log first and then the registries in byte order, and the bag of all messages that were
 /// ever posted. In contracts it is the protocol's world.
-#[derive(Debug, Drop)]
+#[derive(Debug)]
 pub struct World {
     alloc: Global,
     pub(crate) scheme: Scheme,
     pub(crate) stations: Vec<Station>,
     pub(crate) bag: Vec<Posted>,
+}
+
+// Written out, since a derived destructor is proved anew in each crate that lets a value go.
+impl Drop for World {
+    fn drop(self) {
+        let World {
+            alloc: _,
+            scheme,
+            stations,
+            bag,
+        } = self;
+        drop(scheme);
+        drop(stations);
+        drop(bag);
+    }
 }
 
 impl Model for World {

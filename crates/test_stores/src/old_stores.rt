@@ -2,7 +2,8 @@
 
 use crate::fused_files::{FOREVER, RoomyFiles, execute_all, new_files, open_database, store_of};
 use sqlite::types::ValueRef;
-use sqlite::{Alter, Connection, Error as SqlError, ErrorCode, Transaction};
+use sqlite::{Alter, Connection, Error as SqlError, ErrorCode, Files, Transaction};
+use sqlite_disk::Disk;
 use std::alloc::Global;
 use std::process::Abort;
 use test_support::{again, texts};
@@ -65,15 +66,26 @@ fn made_by<S: Alter + Drop>(
     store_of(conn)
 }
 
-/// The files of a store that these statements make, with these records.
+/// The files with a store that these statements make in them, with these records.
+fn with_store<D: Disk + Drop>(
+    rt: &impl Abort,
+    alloc: Global,
+    files: Files<D>,
+    statements: &[&str],
+    texts: &[&str],
+) -> Files<D> {
+    made_by(rt, open_database(rt, alloc, files), statements, texts).close()
+}
+
+/// New files with a store that these statements make in them, with these records.
 fn files_made_by(
     rt: &impl Abort,
     alloc: Global,
     statements: &[&str],
     texts: &[&str],
 ) -> RoomyFiles {
-    let conn = open_database(rt, alloc, new_files(rt, alloc, FOREVER, FOREVER));
-    made_by(rt, conn, statements, texts).close()
+    let files = new_files(rt, alloc, FOREVER, FOREVER);
+    with_store(rt, alloc, files, statements, texts)
 }
 
 /// Makes NZ's store of format 1 with these records at the path in these files.
@@ -115,6 +127,11 @@ fn with_format<S: Alter + Drop>(rt: &impl Abort, mut conn: Connection<S>, wanted
 }
 
 /// Asserts that the store in the files has that format. Gives them back.
-pub fn assert_format(rt: &impl Abort, alloc: Global, files: RoomyFiles, wanted: i64) -> RoomyFiles {
+pub fn assert_format<D: Disk + Drop>(
+    rt: &impl Abort,
+    alloc: Global,
+    files: Files<D>,
+    wanted: i64,
+) -> Files<D> {
     with_format(rt, open_database(rt, alloc, files), wanted).close()
 }

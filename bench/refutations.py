@@ -36,7 +36,7 @@ use Rattle.std.proofs.Common.{◌≡◌, ℕ, true, List, [], ◌∷◌, ◌++�
 use Rattle.std.specs.Prelude.{take}
 use Rattle.units.specs.declared.code.Node.TheVariants.{Itl}
 use Rattle.status.specs.declared.status.Status.TheVariants.{Completed, Cancelled}
-use Rattle.wire.specs.declared.message.Notification.{Notification}
+use Rattle.wire.specs.declared.message.Message.{Message}
 use Rattle.wire.specs.declared.notified.NotifiedStatus.TheVariants as notified
 use Rattle.protocol.specs.declared.event.WorldEvent.{WorldEvent}
 use Rattle.protocol.specs.Claims.{Agrees, OnePlace, DeliversWelcome, TerminatesForEligibility, live_of}
@@ -119,8 +119,8 @@ broken law = neither (law told found 204 (0, omega arith, refl) refl (0, omega a
   where
     found : List ℕ
     found = 204 ∷ []
-    told : Notification
-    told = record { from = Itl; to = nz_node; id = nz1; notified = notified.Terminated found }
+    told : Message
+    told = notification Itl nz_node nz1 (notified.Terminated found)
 """,
     ),
 ]

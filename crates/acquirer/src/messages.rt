@@ -9,7 +9,7 @@ use protocol::one_message;
 use status::TransactionId;
 use std::alloc::Global;
 use units::{Code, Items, NoMemory, Node};
-use wire::{AcquirerCodes, Message, Notification, NotifiedStatus};
+use wire::{AcquirerCodes, Body, Message, NotifiedStatus};
 
 /// What follows a proposal, by what was found in it: Accepted to the log, or Rejected with the codes.
 pub(crate) fn on_proposal(
@@ -25,11 +25,11 @@ pub(crate) fn on_proposal(
         None => NotifiedStatus::Accepted,
         Some(codes) => NotifiedStatus::Rejected(codes),
     };
-    let answer = Notification {
+    let message = Message {
         from: Node::Registry(code),
         to: Node::Itl,
         id,
-        notified,
+        body: Body::Notification(notified),
     };
-    one_message(alloc, Message::Notification(answer))
+    one_message(alloc, message)
 }

@@ -1,3 +1,6 @@
 pub mod Stores
 pub mod Audits
 pub mod Opened
+pub mod Ended
+pub mod Settled
+pub mod Reported

@@ -55,7 +55,7 @@ fn table_of_woven(alloc: Global, woven: Result<Woven, WeaveFault>) -> Result<Str
 /// # Errors
 ///
 /// Fails with `Stuck` where no run leads to these records, as `audit` does, and with `NoMemory` where memory ran out.
-pub fn table_of_cores<P: Watch>(
+pub(crate) fn table_of_cores<P: Watch>(
     alloc: Global,
     scheme: &Scheme,
     cores: Vec<Core>,

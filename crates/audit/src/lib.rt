@@ -1,7 +1,10 @@
-//! The command `audit`: one run that leads to the records of all nodes' stores, and the table of its world.
+//! The command `audit`: one run that leads to the records of all nodes' stores, and the table of its world; and the same
+//! of nodes that ran in threads, which are settled first.
 #![tactic(auto)]
 
 mod auditing;
+mod ended;
 mod loading;
 
-pub use auditing::{audit, audit_watched, load_run, read_first, table_of_cores};
+pub use auditing::{audit, audit_watched, load_run, read_first};
+pub use ended::{EndedNode, report_run, table_of_ended};

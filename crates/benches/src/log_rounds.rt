@@ -4,7 +4,7 @@ use crate::fault::Fault;
 use crate::rounds::{MOMENT, ack_of, block_of, received};
 use protocol::status::{Content, Moment, TransactionId};
 use protocol::units::{Code, Items, Node};
-use protocol::wire::{Input, Message, Notification, NotifiedStatus, Proposal, ProposalStatus};
+use protocol::wire::{Body, Input, Message, NotifiedStatus, Proposal, ProposalStatus};
 use std::alloc::Global;
 
 /// How many registries the scheme has.
@@ -107,23 +107,26 @@ impl Round {
         let block = block_of(self.initiator, self.turn())?;
         let units = Items::from_vec(Vec::from_slice(alloc, &[block])?);
         let content = Content::new(ACCOUNT, self.acquirer, ACCOUNT, units);
-        received(Message::Proposal(Proposal {
+        let proposal = Proposal {
+            status: ProposalStatus::Proposed,
+            content: content.ok_or(Fault::Input)?,
+        };
+        received(Message {
             from: Node::Registry(self.initiator),
             to: Node::Itl,
             id: self.id()?,
-            status: ProposalStatus::Proposed,
-            content: content.ok_or(Fault::Input)?,
-        }))
+            body: Body::Proposal(proposal),
+        })
     }
 
     /// What that registry tells the log.
     fn notification(&self, from: Code, notified: NotifiedStatus) -> Result<Input, Fault> {
-        received(Message::Notification(Notification {
+        received(Message {
             from: Node::Registry(from),
             to: Node::Itl,
             id: self.id()?,
-            notified,
-        }))
+            body: Body::Notification(notified),
+        })
     }
 
     /// The acknowledgement of one of the round's messages.

@@ -5,7 +5,7 @@ use crate::work::Taken;
 use protocol::records::Outbox;
 use protocol::status::TransactionId;
 use protocol::units::{Code, Node};
-use protocol::wire::{Message, Request};
+use protocol::wire::{Body, Message};
 use std::alloc::Global;
 use std::rt::Clock;
 use std::time::Instant;
@@ -27,7 +27,8 @@ fn outbox_of(alloc: Global, origin: Code, messages: u32) -> Result<Outbox, Fault
     let to = Node::Itl;
     for _ in 0..messages {
         let mut sent = Vec::new(alloc);
-        sent.push(Message::Request(Request { from, to, id }))?;
+        let body = Body::Request;
+        sent.push(Message { from, to, id, body })?;
         outbox.record(sent)?;
     }
     for key in 0..outbox.sends() {

@@ -3,9 +3,7 @@
 use crate::fault::Fault;
 use protocol::status::{Content, Moment, Order, TransactionId};
 use protocol::units::{Block, Code, Items, Kind, Node, Period, RawBlock};
-use protocol::wire::{
-    Input, Message, Notification, NotifiedStatus, Number, Proposal, ProposalStatus,
-};
+use protocol::wire::{Body, Input, Message, NotifiedStatus, Number, Proposal, ProposalStatus};
 use std::alloc::Global;
 
 /// The account that is closed and opened.
@@ -107,23 +105,26 @@ impl Round {
         let block = block_of(self.nodes.other, self.number)?;
         let units = Items::from_vec(Vec::from_slice(alloc, &[block])?);
         let content = Content::new(OTHER_ACCOUNT, self.nodes.own, FULL_ACCOUNT, units);
-        received(Message::Proposal(Proposal {
+        let proposal = Proposal {
+            status: ProposalStatus::Checked,
+            content: content.ok_or(Fault::Input)?,
+        };
+        received(Message {
             from: Node::Itl,
             to: Node::Registry(self.nodes.own),
             id: self.id(self.nodes.other)?,
-            status: ProposalStatus::Checked,
-            content: content.ok_or(Fault::Input)?,
-        }))
+            body: Body::Proposal(proposal),
+        })
     }
 
     /// What the log tells of the round's transaction of that registry.
     fn notification(&self, code: Code, notified: NotifiedStatus) -> Result<Input, Fault> {
-        received(Message::Notification(Notification {
+        received(Message {
             from: Node::Itl,
             to: Node::Registry(self.nodes.own),
             id: self.id(code)?,
-            notified,
-        }))
+            body: Body::Notification(notified),
+        })
     }
 
     /// The acknowledgement of one of the round's messages.

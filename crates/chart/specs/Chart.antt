@@ -4,7 +4,6 @@ use Rattle.std.specs.List.{enumerate_from, list_any}
 use Rattle.units.specs.Code.{same_node}
 use Rattle.units.specs.declared.code.Node.{Node}
 use Rattle.units.specs.declared.code.Node.TheVariants.{Itl}
-use Rattle.wire.specs.Parties.{receiver, sender}
 use Rattle.wire.specs.declared.message.Message.{Message}
 use Rattle.protocol.specs.Scheme.{Scheme}
 use Rattle.protocol.specs.World.{World, opening, run, step}
@@ -62,7 +61,7 @@ lost hs bag = map (λ p. p.1.message) (filter (λ p. not (is_delivered hs p.0)) 
 -- ---- nodes that take part
 
 abbrev pub parties : Message → List Node
-parties m = sender m ∷ receiver m ∷ []
+parties m = m.from ∷ m.to ∷ []
 
 -- the nodes of an event; where it delivers nothing, the log has its note
 abbrev pub delivery_nodes : Option Message → List Node

@@ -10,11 +10,11 @@ use Rattle.units.specs.declared.code.Node.TheVariants.{Itl}
 use Rattle.status.specs.Id.{id_text}
 use Rattle.status.specs.Status.{status_text}
 use Rattle.wire.specs.NotifiedStatuses.{notified_status}
-use Rattle.wire.specs.Parties.{receiver, sender}
 use Rattle.wire.specs.declared.input.Input.{Input}
 use Rattle.wire.specs.declared.input.Input.TheVariants.{Propose, Request, OpenAccount, CloseAccount, Ack, CleanUp, Eligible, Received}
+use Rattle.wire.specs.declared.message.Body.{Body}
+use Rattle.wire.specs.declared.message.Body.TheVariants as body
 use Rattle.wire.specs.declared.message.Message.{Message}
-use Rattle.wire.specs.declared.message.Message.TheVariants as message
 use Rattle.protocol.specs.declared.event.Outcome.{Outcome}
 use Rattle.protocol.specs.declared.event.Outcome.TheVariants.{NotPossible}
 use Rattle.protocol.specs.declared.event.WorldEvent.{WorldEvent}
@@ -40,11 +40,14 @@ order_text (CleanUp m) = codes "clean-up " ++ decimal m.seconds
 order_text (Eligible c may) = codes "eligible " ++ code_text c ++ codes " " ++ yes_or_no may
 order_text (Received m moment) = codes "message"
 
+abbrev pub word_of : Body → List ℕ
+word_of (body.Proposal p) = codes "proposal"
+word_of (body.Notification n) = status_text (notified_status n)
+word_of body.Request = codes "request"
+
 -- a message's kind and transaction
 abbrev pub message_text : Message → List ℕ
-message_text (message.Proposal p) = codes "proposal " ++ id_text p.id
-message_text (message.Notification n) = status_text (notified_status n.notified) ++ codes " " ++ id_text n.id
-message_text (message.Request r) = codes "request " ++ id_text r.id
+message_text m = word_of m.body ++ codes " " ++ id_text m.id
 
 -- ---- lines
 
@@ -54,7 +57,7 @@ note_line n text outcome = codes "    Note over " ++ node_text n ++ codes ": " +
 
 -- a message on its way, which ends in an arrow's head or in a cross
 abbrev pub arrow : List ℕ → Message → List ℕ
-arrow shape m = codes "    " ++ node_text (sender m) ++ shape ++ node_text (receiver m) ++ codes ": " ++ message_text m
+arrow shape m = codes "    " ++ node_text m.from ++ shape ++ node_text m.to ++ codes ": " ++ message_text m
 
 -- a message whose addressee doesn't run ends in a cross
 abbrev pub shape_of : Outcome → List ℕ

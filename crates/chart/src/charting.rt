@@ -70,8 +70,8 @@ fn add_parties(nodes: &mut Vec<Node>, message: &Message) -> Result<(), NoMemory>
     ensures { OnOk result ((ns : List Node) → nodes.old.items ≡ first_ones ns
         → nodes.new.items ≡ first_ones (ns ++ parties message.now)) }
 {
-    add_node(nodes, message.sender())?;
-    add_node(nodes, message.receiver())?;
+    add_node(nodes, message.from)?;
+    add_node(nodes, message.to)?;
     Ok(())
 }
 

@@ -24,7 +24,8 @@ use Rattle.operator.specs.declared.command_line.Action.TheVariants.{Rehearse, Ch
 use Rattle.audit.specs.Audits.{Audits, FailsToAudit, FailsToFindRun, HasRun}
 use Rattle.audit.specs.Stores.{AreLoaded, AreUnwritten}
 use Rattle.input_lines.specs.declared.script_line.ScriptLine.{ScriptLine}
-use Rattle.run.specs.Runs.{FailsToRun, HaveEnded, IsLoadedAmong, IsRunReport, states_of}
+use Rattle.audit.specs.Ended.{states_of}
+use Rattle.run.specs.Runs.{FailsToRun, HaveEnded, IsLoadedAmong, IsRunReport}
 use Rattle.commands.specs.Opened.{AreStoresIn, FailsToOpen, HasScheme, HasScript, IsShut, IsStoreIn, LacksFolder, LacksScheme, LacksScript}
 use Rattle.commands.specs.declared.archive.Archive.{Ghosts}
 

@@ -1,20 +1,20 @@
 //! The command `run`.
 ghost use Rattle.std.specs.Prelude.{◌≡◌, ◌⊎◌, ◌++◌, ◌∷◌, [], IfErr, IfOk, OnOk, map};
 ghost use Rattle.std.specs.Io.KnownBytes.{Keeps};
-ghost use Rattle.run.specs.Ended.{stored_in};
+ghost use Rattle.audit.specs.Ended.{stored_in};
 ghost use Rattle.run.specs.Runs.{FailsToRun, IsLoadedAmong};
 ghost use Rattle.commands.specs.Commands.{AreClosed, AreOpened, FailsToLoadFolder, FailsToRunFolder, FailsToRunLoaded, HasClosingFault, HasReported, IsPortFault, LoadsFolder, RunsFolder, RunsLoaded};
 
 use crate::archive::Archive;
 use crate::opening::{find_folder, open_stores, scheme_at, script_at};
 use crate::progress::Progress;
-use audit::load_run;
+use audit::{EndedNode, load_run};
 use command_faults::{OpFault, store_fault};
 use desk::{OpenGate, Stored, WallClock};
 use input_lines::ScriptLine;
 use protocol::scheme::Scheme;
 use run::world::Core;
-use run::{EndedNode, LoadedNode, run_script};
+use run::{LoadedNode, run_script};
 use sessions::Network;
 use sockets::{Port, Ports, SocketNodes};
 use std::alloc::Global;

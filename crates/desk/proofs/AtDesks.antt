@@ -1,5 +1,5 @@
 -- What stays known of a state and its store at a desk.
-use Rattle.std.proofs.Common.{◌≡◌, ◌<◌, ◌≤◌, ◌++◌, ◌+◌, ℕ, zero, suc, Bool, true, false, List, [], ◌∷◌, length, take, if◌then◌else◌, Option, Some, None, is_some, Result, Ok, Err, IfOk, OnOk, OnErr, IsTrue, refl, sym, ap, subst, ◌∙◌, arith}
+use Rattle.std.proofs.Common.{◌≡◌, ◌<◌, ◌≤◌, ◌++◌, ◌+◌, ℕ, Bool, true, false, List, [], ◌∷◌, length, take, if◌then◌else◌, Option, is_some, Result, Ok, Err, refl, sym, ap, subst, ◌∙◌, arith}
 use Rattle.std.proofs.lemmas.List.{take-append-le}
 use Rattle.units.specs.declared.code.Node.{Node}
 use Rattle.units.specs.declared.refusal.Refusal.{Refusal}
@@ -11,7 +11,7 @@ use Rattle.stores.specs.Calls.{Appends}
 use Rattle.stores.specs.Faults.{count_after, faults_after}
 use Rattle.stores.specs.declared.fault.StoreFault.{StoreFault}
 use Rattle.stores.specs.declared.node_store.NodeStore.{Ghosts}
-use Rattle.desk.specs.Calls.{Takes, Tells, batch_of, committed_by, done}
+use Rattle.desk.specs.Calls.{Takes, Tells, committed_by, done}
 use Rattle.desk.specs.Keeping.{Commits, IsAtDesk, IsKept, StoredView, count_with, fault_after}
 use Rattle.desk.specs.Views.{StateView, tail}
 use Rattle.desk.specs.declared.notes.Told.{Told}

@@ -1,5 +1,5 @@
 -- A state beside its store: what each call leaves.
-use Rattle.std.proofs.Common.{◌≡◌, ◌⊎◌, ◌+◌, ◌<◌, ◌≤◌, ◌++◌, ℕ, zero, suc, Bool, true, false, List, [], ◌∷◌, length, take, drop, Result, Ok, Err, IfOk, OnOk, IsTrue, Some, None, if◌then◌else◌, refl, sym, ap, subst, ◌∙◌, arith, inl, inr, append-nil}
+use Rattle.std.proofs.Common.{◌≡◌, ◌+◌, ◌<◌, ◌≤◌, ◌++◌, ℕ, zero, suc, Bool, true, false, List, [], ◌∷◌, length, take, drop, Result, Ok, Err, IfOk, Some, None, if◌then◌else◌, refl, sym, ap, subst, ◌∙◌, arith, inl, inr, append-nil}
 use Rattle.std.proofs.lemmas.List.{take_all, drop_all, drop_at, take-append-le, drop-append-le, length-take-le, length-drop, length-append, length-map, map-append}
 use Rattle.units.specs.declared.code.Node.{Node}
 use Rattle.units.specs.declared.refusal.Refusal.{Refusal}
@@ -9,14 +9,12 @@ use Rattle.scheme.specs.declared.registries.Scheme.{Scheme}
 use Rattle.protocol.specs.Cores.{after}
 use Rattle.protocol.specs.declared.node_core.Stepped.{Stepped}
 use Rattle.protocol.specs.declared.node_core.Stepped.TheVariants.{Recorded, Repeat, Late}
-use Rattle.std.proofs.Math.Logic.{∥∥₁_map}
-use Rattle.stores.specs.Calls.{Appends, Reopens}
+use Rattle.stores.specs.Calls.{Appends}
 use Rattle.stores.specs.Records.{Places, AreRecords, written}
 use Rattle.stores.specs.declared.fault.StoreFault.{StoreFault}
 use Rattle.stores.specs.declared.node_store.NodeStore.{Ghosts}
-use Rattle.stores.specs.declared.fault.StoreFault.TheVariants.{Reopen}
 use Rattle.desk.specs.Calls.{Takes, Tells, batch_of, committed_by, done}
-use Rattle.desk.specs.Keeping.{Commits, HaveFirst, HaveCommitted, HaveSome, IsKept, StoredView}
+use Rattle.desk.specs.Keeping.{HaveFirst, IsKept}
 use Rattle.desk.specs.Loading.{IsLoaded}
 use Rattle.desk.specs.Views.{StateView, opened_with, tail}
 use Rattle.desk.specs.declared.notes.Told.{Told}

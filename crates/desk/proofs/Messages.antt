@@ -6,7 +6,6 @@ use Rattle.std.proofs.lemmas.Bool.{cases_lt}
 use Rattle.std.proofs.lemmas.Option.{slice_get_past, slice_get_within}
 use Rattle.units.specs.Code.{same_node}
 use Rattle.units.specs.declared.code.Node.{Node}
-use Rattle.wire.specs.Parties.{receiver}
 use Rattle.wire.specs.declared.input.Input.{Input}
 use Rattle.wire.specs.declared.message.Message.{Message}
 use Rattle.scheme.specs.declared.registries.Scheme.{Scheme}
@@ -27,7 +26,7 @@ no_place (x ∷ xs) (suc k) h e = no_place xs k (omega arith) e
 
 -- whether a node is still to acknowledge a message, by the message
 abbrev is_awaited : Node → Bool → Option Message → Bool
-is_awaited peer acknowledged message = option_map_or (λ m. same_node (receiver m) peer) message false && not acknowledged
+is_awaited peer acknowledged message = option_map_or (λ m. same_node m.to peer) message false && not acknowledged
 
 -- the least key among the first messages, where the least of all is known
 least_in_front : (front more : List Message) (acknowledged : ℕ → Bool) (peer : Node) (from key : ℕ) → IsLeastFrom (awaits (front ++ more) acknowledged peer) from (Some key) → key < length front

@@ -1,6 +1,6 @@
 -- What the calls of a desk return. No clause can name the state under a desk's lock, so each says of some state that
 -- this is what it returned.
-use Rattle.std.specs.Prelude.{◌≡◌, ◌⊎◌, ℕ, ◌<◌, ◌≤◌, Bool, true, false, length, slice_get, option_map, Option, None, Some, IfSome}
+use Rattle.std.specs.Prelude.{◌≡◌, ◌⊎◌, ℕ, ◌<◌, ◌≤◌, true, false, length, slice_get, option_map, Option, None, Some, IfSome}
 use Rattle.units.specs.RefusalCodes.{out_of_memory}
 use Rattle.units.specs.declared.code.Node.{Node}
 use Rattle.status.specs.declared.id.TransactionId.{TransactionId}

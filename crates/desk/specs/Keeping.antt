@@ -1,5 +1,5 @@
 -- A state beside the store that has its committed records, and what is known of the two at a desk.
-use Rattle.std.specs.Prelude.{◌≡◌, ◌<◌, ◌≤◌, ℕ, Bool, true, false, List, length, take, drop, Option, Some, None, is_some, Result, Ok, Err, IfOk}
+use Rattle.std.specs.Prelude.{◌≡◌, ◌<◌, ◌≤◌, ℕ, true, false, List, length, take, drop, Option, Some, None, is_some, Result, Ok, Err, IfOk}
 use Rattle.units.specs.declared.code.Node.{Node}
 use Rattle.wire.specs.declared.input.Input.{Input}
 use Rattle.stores.specs.Records.{Places, AreRecords, written}

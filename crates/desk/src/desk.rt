@@ -276,7 +276,7 @@ impl<O: Opening, C: NodeCore, S: NodeStore, B: Bell> Desk<O, C, S, B> {
     fn mark_receivers(&self, state: &State<C>, first: usize) {
         for key in first..state.committed_sends() {
             if let Some(message) = state.committed_message(key) {
-                self.bells.mark(message.receiver());
+                self.bells.mark(message.to);
             }
         }
     }

@@ -3,12 +3,25 @@ ghost use Rattle.std.specs.Prelude.{◌≡◌, ◌⊎◌, Option, IfOk, Some};
 ghost use Rattle.protocol.specs.Effects.{initiator_sends};
 ghost use Rattle.status.specs.Content.{Content as Terms};
 ghost use Rattle.status.specs.declared.rows.RowInput.TheVariants as words;
+ghost use Rattle.units.specs.declared.code.Node.TheVariants.{Itl, Registry};
 
 use protocol::one_message;
-use protocol::wire::{Message, Notification, NotifiedStatus, Proposal, ProposalStatus, Request};
+use protocol::wire::{Body, Message, NotifiedStatus, Proposal, ProposalStatus};
 use status::{Content, RowInput, Status, TransactionId};
 use std::alloc::Global;
 use units::{Code, Items, NoMemory, Node};
+
+/// The message to the log with that body.
+fn to_log(code: Code, id: TransactionId, body: Body) -> Message
+    ensures { result ≡ record { from = Registry code; to = Itl; id = id; body = body } }
+{
+    Message {
+        from: Node::Registry(code),
+        to: Node::Itl,
+        id,
+        body,
+    }
+}
 
 /// The proposal to the log.
 pub(crate) fn on_proposing(
@@ -20,13 +33,10 @@ pub(crate) fn on_proposing(
     ensures { IfOk result (λ messages. messages ≡ initiator_sends code id (Some content.now) words.Propose) }
 {
     let proposal = Proposal {
-        from: Node::Registry(code),
-        to: Node::Itl,
-        id,
         status: ProposalStatus::Proposed,
         content: content.copy()?,
     };
-    one_message(alloc, Message::Proposal(proposal))
+    one_message(alloc, to_log(code, id, Body::Proposal(proposal)))
 }
 
 /// What follows an order to ask for cancellation: a request to the log after the first one.
@@ -42,12 +52,7 @@ pub(crate) fn on_request(
     if column != RowInput::RequestOrder {
         return Ok(Items::new(alloc));
     }
-    let request = Request {
-        from: Node::Registry(code),
-        to: Node::Itl,
-        id,
-    };
-    one_message(alloc, Message::Request(request))
+    one_message(alloc, to_log(code, id, Body::Request))
 }
 
 /// What follows a notification of that status: Completed to the log after Accepted, and nothing after any other.
@@ -63,11 +68,6 @@ pub(crate) fn on_notified(
     if told != Status::Accepted {
         return Ok(Items::new(alloc));
     }
-    let completed = Notification {
-        from: Node::Registry(code),
-        to: Node::Itl,
-        id,
-        notified: NotifiedStatus::Completed,
-    };
-    one_message(alloc, Message::Notification(completed))
+    let completed = Body::Notification(NotifiedStatus::Completed);
+    one_message(alloc, to_log(code, id, completed))
 }

@@ -42,7 +42,7 @@ use Rattle.log_core.specs.Readings.{is_checked_since}
 use Rattle.log_core.specs.contracts.waiting.WaitingOrd.TheImpl.Laws.{total-law as waiting-total}
 use Rattle.log_core.specs.declared.tables.Tables.{Tables}
 use Rattle.log_core.specs.declared.waiting.Waiting.{Waiting}
-use Rattle.log_core.proofs.CleanedInOrder.{ids_turned}
+use Rattle.safety.proofs.OneLog.CleanedInOrder.{ids_turned}
 use Rattle.log_core.proofs.CleanedUp.{HasExpired, checked_newest, expired_so}
 use Rattle.log_core.proofs.KnownEffects.{all_in}
 

@@ -20,7 +20,7 @@ use Rattle.log_core.specs.Taking.{verdict_by_rules}
 use Rattle.log_core.specs.Transfers.{IsOfKnown}
 use Rattle.log_core.specs.declared.effect.TransferEffect.TheVariants.{Cancel}
 use Rattle.log_core.specs.declared.tables.Tables.{Tables}
-use Rattle.log_core.proofs.CleanedInOrder.{all_from_in}
+use Rattle.safety.proofs.OneLog.CleanedInOrder.{all_from_in}
 use Rattle.log_core.proofs.CleanedUp.{checked_newest, expired_cancelled, has_expired}
 
 abbrev ids_in : List Transition → List TransactionId

@@ -1,22 +1,20 @@
 -- What the log's tables say, seen from outside: the transfer that a unit is in, and what has ended.
 use Rattle.std.specs.FinMap as map
-use Rattle.std.proofs.Common.{Bool, Err, List, Ok, Option, Some, ap, inl, inr, length, refl, subst, sym, take, ℕ, ◌∙◌, ◌∷◌, [], ◌≡◌}
-use Rattle.std.specs.Prelude.{Result, slice_get}
+use Rattle.std.proofs.Common.{Err, List, Ok, Some, ap, inl, inr, refl, subst, sym, ◌∙◌, ◌∷◌, [], ◌≡◌}
+use Rattle.std.specs.Prelude.{Result}
 use Rattle.units.specs.declared.block.Unit.{Unit as Serial}
-use Rattle.units.specs.declared.code.Node.{Node}
 use Rattle.units.specs.declared.code.Node.TheVariants.{Itl}
 use Rattle.units.specs.declared.refusal.Refusal.{Refusal}
 use Rattle.status.specs.declared.id.TransactionId.{TransactionId}
 use Rattle.status.specs.declared.status.Status.{Status}
 use Rattle.status.specs.declared.status.Status.TheVariants.{Accepted, Cancelled, Checked, Completed, Proposed, Rejected, Terminated}
 use Rattle.wire.specs.declared.input.Input.{Input}
-use Rattle.wire.specs.declared.message.Message.{Message}
 use Rattle.scheme.specs.declared.registries.Scheme.{Scheme}
 use Rattle.checks.specs.declared.register.UnderWay.{UnderWay}
 use Rattle.protocol.specs.Claims.{IsEnd, IsUnderWay}
 use Rattle.protocol.specs.Cores.{after}
 use Rattle.protocol.specs.Verdict as verdicts
-use Rattle.protocol.specs.History.{Transition, sends, stands, transitions_of}
+use Rattle.protocol.specs.History.{stands, transitions_of}
 use Rattle.protocol.specs.declared.node_core.Stepped.{Stepped}
 use Rattle.protocol.specs.declared.node_core.Stepped.TheVariants as stepped
 use Rattle.safety.proofs.MovesAndHistories.LongerHistories.{made_history}

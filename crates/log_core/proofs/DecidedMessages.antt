@@ -17,10 +17,8 @@ use Rattle.wire.specs.NotifiedStatuses.{notified_codes, notified_status}
 use Rattle.wire.specs.declared.input.Input.{Input}
 use Rattle.wire.specs.declared.input.Input.TheVariants.{Received}
 use Rattle.wire.specs.declared.message.Message.{Message}
-use Rattle.wire.specs.declared.message.Message.TheVariants as message
-use Rattle.wire.specs.declared.message.Notification.{Notification}
-use Rattle.wire.specs.declared.message.Proposal.{Proposal}
-use Rattle.wire.specs.declared.message.Request.{Request}
+use Rattle.protocol.proofs.MessageForms as message
+use Rattle.protocol.proofs.MessageForms.{ProposalMessage, NotificationMessage, RequestMessage}
 use Rattle.scheme.specs.declared.registries.Scheme.{Scheme}
 use Rattle.protocol.specs.AtLog.{ledger, log_answer, log_refusals}
 use Rattle.protocol.specs.Checks.{Ledger, log_findings}
@@ -109,11 +107,11 @@ module _ {scheme : Scheme} {tables : Tables} (kept : IsKept scheme tables) where
   abbrev pub IsWelcome : Message → Type 0
   IsWelcome m = first_of (log_refusals scheme (past scheme tables) m) ≡ None
 
-  answered : (m : Message) (moment : Moment) → IsWelcome m → verdict_by_rules scheme tables (Received m moment) ≡ log_answer scheme (past scheme tables) moment.seconds m
-  answered m moment welcome = verdict_so scheme tables (Received m moment) ∙ refuse_none (log_refusals scheme (past scheme tables) m) (log_answer scheme (past scheme tables) moment.seconds m) welcome
+  answered : (m : Message) (moment : Moment) → IsWelcome m → verdict_by_rules scheme tables (Received m moment) ≡ log_answer scheme (past scheme tables) moment.seconds m.id m.body
+  answered m moment welcome = verdict_so scheme tables (Received m moment) ∙ refuse_none (log_refusals scheme (past scheme tables) m) (log_answer scheme (past scheme tables) moment.seconds m.id m.body) welcome
 
   pub refused : (m : Message) (moment : Moment) (code : ℕ) → first_of (log_refusals scheme (past scheme tables) m) ≡ Some code → verdict_by_rules scheme tables (Received m moment) ≡ IsRefused code
-  refused m moment code first = verdict_so scheme tables (Received m moment) ∙ refuse_first (log_refusals scheme (past scheme tables) m) (log_answer scheme (past scheme tables) moment.seconds m) code first
+  refused m moment code first = verdict_so scheme tables (Received m moment) ∙ refuse_first (log_refusals scheme (past scheme tables) m) (log_answer scheme (past scheme tables) moment.seconds m.id m.body) code first
 
   -- its transition to a status
   abbrev comes_to : TransactionId → Option Content → List ℕ → Moment → RowInput → Status → Transition
@@ -121,35 +119,35 @@ module _ {scheme : Scheme} {tables : Tables} (kept : IsKept scheme tables) where
 
   -- ---- a proposal
 
-  abbrev pub findings : Proposal → List ℕ
+  abbrev pub findings : ProposalMessage → List ℕ
   findings p = log_findings scheme (ledger scheme (past scheme tables)) p.id.code p.content
 
-  abbrev pub proposal_column : Proposal → RowInput
+  abbrev pub proposal_column : ProposalMessage → RowInput
   proposal_column p = column_of_proposal (content_in (last p.id)) (findings p)
 
-  abbrev pub to_check : Proposal → Moment → Status → Transition
+  abbrev pub to_check : ProposalMessage → Moment → Status → Transition
   to_check p moment = comes_to p.id (Some p.content) (findings p) moment (proposal_column p)
 
   -- what was found in it, where it is new, and its column by that
-  abbrev pub AreFound : Proposal → List ℕ → Type 0
+  abbrev pub AreFound : ProposalMessage → List ℕ → Type 0
   AreFound p codes = (q : Ledger) → Registers scheme tables.register q → codes ≡ cond (is_some (transfer_state_content (transfer_state_in tables p.id))) [] (log_findings scheme q p.id.code p.content)
 
-  found_so : (p : Proposal) (codes : List ℕ) → AreFound p codes → codes ≡ cond (is_some (content_in (last p.id))) [] (findings p)
+  found_so : (p : ProposalMessage) (codes : List ℕ) → AreFound p codes → codes ≡ cond (is_some (content_in (last p.id))) [] (findings p)
   found_so p codes found = found (ledger scheme (past scheme tables)) (registers_so scheme tables kept) ∙ ap (λ k. cond (is_some k) [] (findings p)) (content_so p.id)
 
-  pub checked_column : {col : RowInput} {codes : List ℕ} (p : Proposal) → AreFound p codes → col ≡ column_of_proposal (transfer_state_content (transfer_state_in tables p.id)) codes → col ≡ proposal_column p
+  pub checked_column : {col : RowInput} {codes : List ℕ} (p : ProposalMessage) → AreFound p codes → col ≡ column_of_proposal (transfer_state_content (transfer_state_in tables p.id)) codes → col ≡ proposal_column p
   checked_column {col} {codes} p found is = is ∙ ap (λ k. column_of_proposal k codes) (content_so p.id) ∙ same_column (content_in (last p.id)) codes (findings p) (found_so p codes found)
 
-  pub checked : {input : Input} {d : Result Decision Refusal} {p : Proposal} {moment : Moment} {col : RowInput} → input ≡ Received (message.Proposal p) moment → IsWelcome (message.Proposal p) → col ≡ proposal_column p → IsDecided p.id col d
+  pub checked : {input : Input} {d : Result Decision Refusal} {p : ProposalMessage} {moment : Moment} {col : RowInput} → input ≡ Received (message.proposal p) moment → IsWelcome (message.proposal p) → col ≡ proposal_column p → IsDecided p.id col d
       → Decided scheme tables input (to_check p moment) d
   checked {input} {d} {p} {moment} {col} given welcome is d_is =
       record {
         verdict_is =
-            ap (verdict_by_rules scheme tables) given ∙ answered (message.Proposal p) moment welcome
+            ap (verdict_by_rules scheme tables) given ∙ answered (message.proposal p) moment welcome
             ∙ decided_so scheme (past scheme tables) (to_check p moment) [] (row_at p.id (proposal_column p)) d (decides p.id (proposal_column p) (subst (λ c. IsDecided p.id c d) is d_is));
       }
 
-  pub check_sent : (p : Proposal) {codes : List ℕ} {ms : List Message} (moment : Moment) (new : Status) → AreFound p codes → last p.id ≡ None → ms ≡ log_sends p.id (Some p.content) codes (column_of_proposal None codes) → ms ≡ (to_check p moment new).messages
+  pub check_sent : (p : ProposalMessage) {codes : List ℕ} {ms : List Message} (moment : Moment) (new : Status) → AreFound p codes → last p.id ≡ None → ms ≡ log_sends p.id (Some p.content) codes (column_of_proposal None codes) → ms ≡ (to_check p moment new).messages
   check_sent p {codes} {ms} moment new found unknown sent =
       let unread : content_in (last p.id) ≡ None = ap content_in unknown in
       let same : codes ≡ findings p = found_so p codes found ∙ ap (λ k. cond (is_some k) [] (findings p)) unread in
@@ -157,29 +155,29 @@ module _ {scheme : Scheme} {tables : Tables} (kept : IsKept scheme tables) where
 
   -- ---- a notification
 
-  abbrev pub notified_column : Notification → RowInput
+  abbrev pub notified_column : NotificationMessage → RowInput
   notified_column n = column.Notified (notified_status n.notified)
 
-  abbrev pub to_advance : Notification → Moment → Status → Transition
+  abbrev pub to_advance : NotificationMessage → Moment → Status → Transition
   to_advance n moment = comes_to n.id (content_in (last n.id)) (notified_codes n.notified) moment (notified_column n)
 
-  pub notified : {input : Input} {d : Result Decision Refusal} {n : Notification} {moment : Moment} → input ≡ Received (message.Notification n) moment → IsWelcome (message.Notification n) → IsDecided n.id (notified_column n) d → Decided scheme tables input (to_advance n moment) d
+  pub notified : {input : Input} {d : Result Decision Refusal} {n : NotificationMessage} {moment : Moment} → input ≡ Received (message.notification n) moment → IsWelcome (message.notification n) → IsDecided n.id (notified_column n) d → Decided scheme tables input (to_advance n moment) d
   notified {input} {d} {n} {moment} given welcome is =
       record {
         verdict_is =
-            ap (verdict_by_rules scheme tables) given ∙ answered (message.Notification n) moment welcome ∙ decided_so scheme (past scheme tables) (to_advance n moment) [] (row_at n.id (notified_column n)) d (decides n.id (notified_column n) is);
+            ap (verdict_by_rules scheme tables) given ∙ answered (message.notification n) moment welcome ∙ decided_so scheme (past scheme tables) (to_advance n moment) [] (row_at n.id (notified_column n)) d (decides n.id (notified_column n) is);
       }
 
   -- ---- a request
 
-  abbrev pub to_withdraw : Request → Moment → Status → Transition
+  abbrev pub to_withdraw : RequestMessage → Moment → Status → Transition
   to_withdraw r moment = comes_to r.id (content_in (last r.id)) [] moment column.Request
 
-  pub requested : {input : Input} {d : Result Decision Refusal} {r : Request} {moment : Moment} → input ≡ Received (message.Request r) moment → IsWelcome (message.Request r) → IsDecided r.id column.Request d → Decided scheme tables input (to_withdraw r moment) d
+  pub requested : {input : Input} {d : Result Decision Refusal} {r : RequestMessage} {moment : Moment} → input ≡ Received (message.request r) moment → IsWelcome (message.request r) → IsDecided r.id column.Request d → Decided scheme tables input (to_withdraw r moment) d
   requested {input} {d} {r} {moment} given welcome is =
       record {
         verdict_is =
-            ap (verdict_by_rules scheme tables) given ∙ answered (message.Request r) moment welcome ∙ decided_so scheme (past scheme tables) (to_withdraw r moment) [] (row_at r.id column.Request) d (decides r.id column.Request is);
+            ap (verdict_by_rules scheme tables) given ∙ answered (message.request r) moment welcome ∙ decided_so scheme (past scheme tables) (to_withdraw r moment) [] (row_at r.id column.Request) d (decides r.id column.Request is);
       }
 
   -- what is sent after either, by the content that the tables have

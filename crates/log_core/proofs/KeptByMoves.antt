@@ -5,7 +5,7 @@
 use Rattle.std.specs.FinMap as finite
 use Rattle.std.specs.BTreeMap as tree
 use Rattle.std.specs.BTreeSet.{contains}
-use Rattle.std.proofs.Common.{Bool, List, None, Option, Some, [], ap, false, inl, inr, length, map, not, refl, subst, sym, true, ℕ, ◌&&◌, ◌++◌, ◌==◌, ◌||◌, ◌∙◌, ◌∷◌, ◌≡◌}
+use Rattle.std.proofs.Common.{Bool, List, None, Option, Some, [], ap, false, inl, inr, map, not, refl, subst, sym, true, ℕ, ◌&&◌, ◌++◌, ◌==◌, ◌||◌, ◌∙◌, ◌∷◌, ◌≡◌}
 use Rattle.std.specs.Prelude.{if◌then◌else◌, is_some, option_map}
 use Rattle.std.specs.Option.{option_or}
 use Rattle.std.proofs.lemmas.Bool.{cases_Bool, cond-false, cond-true}
@@ -21,7 +21,6 @@ use Rattle.status.specs.declared.status.Status.{Status}
 use Rattle.status.specs.declared.status.Status.TheVariants.{Accepted, Cancelled, Checked, Completed}
 use Rattle.wire.specs.declared.input.Input.{Input}
 use Rattle.wire.specs.declared.input.Input.TheVariants.{CleanUp, Received}
-use Rattle.wire.specs.declared.message.Message.{Message}
 use Rattle.scheme.specs.declared.registries.Scheme.{Scheme}
 use Rattle.checks.specs.declared.register.UnderWay.{UnderWay}
 use Rattle.protocol.proofs.Histories.{history_recorded}
@@ -44,7 +43,7 @@ use Rattle.log_core.specs.declared.tables.Tables.{Tables}
 use Rattle.log_core.specs.declared.waiting.Waiting.{Waiting}
 use Rattle.log_core.proofs.KeptTransfers.{transfer_state_begun, transfer_state_came, waits_begun, waits_ended}
 use Rattle.log_core.proofs.KeptUnits.{entry, owner_handed, owner_kept, under_way_begun, under_way_ended, under_way_same}
-use Rattle.log_core.proofs.KnownContents.{move_keeps}
+use Rattle.safety.proofs.OneLog.KnownContents.{move_keeps}
 use Rattle.log_core.proofs.KnownEffects.{all_in, here_first, here_second, ids_of, of_one, advanced_ended, advanced_known, advanced_unchecked, not_advanced}
 use Rattle.log_core.proofs.KnownUnderWay.{some_is, mapped}
 

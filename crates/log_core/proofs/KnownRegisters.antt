@@ -28,7 +28,7 @@ use Rattle.log_core.specs.Effects.{IsAdvanced}
 use Rattle.log_core.specs.Kept.{IsKept}
 use Rattle.log_core.specs.Readings.{is_under_way_with, last_order}
 use Rattle.log_core.specs.declared.tables.Tables.{Tables}
-use Rattle.log_core.proofs.KnownContents.{move_keeps}
+use Rattle.safety.proofs.OneLog.KnownContents.{move_keeps}
 use Rattle.log_core.proofs.KnownEffects.{advanced_known}
 use Rattle.log_core.proofs.KnownUnderWay.{any_found}
 

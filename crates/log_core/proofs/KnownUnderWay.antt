@@ -19,7 +19,7 @@ use Rattle.safety.proofs.MovesAndHistories.NewestTransitions.{Made, newest_id}
 use Rattle.safety.proofs.MovesAndHistories.TableMoves.{newest_some}
 use Rattle.safety.proofs.OneLog.OwnersInLog.{Busy, IsBusy, in_book}
 use Rattle.log_core.specs.Readings.{is_under_way_with, under_way}
-use Rattle.log_core.proofs.KnownContents.{ContentsKept, contents_kept}
+use Rattle.safety.proofs.OneLog.KnownContents.{ContentsKept, contents_kept}
 
 -- ---- the first element that passes a test
 

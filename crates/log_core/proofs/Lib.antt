@@ -1,5 +1,3 @@
-pub mod LabelledBlocks
-pub mod KnownContents
 pub mod KnownUnderWay
 pub mod KnownEffects
 pub mod KeptTransfers
@@ -8,7 +6,6 @@ pub mod KeptByMoves
 pub mod KnownRegisters
 pub mod KeptByOrders
 pub mod TakenAcknowledgements
-pub mod CleanedInOrder
 pub mod CleanedUp
 pub mod KnownApart
 pub mod KnownLabels

@@ -17,7 +17,6 @@ use Rattle.units.specs.declared.block.Unit.{Unit as Serial}
 use Rattle.units.specs.declared.code.Node.TheVariants.{Itl}
 use Rattle.units.specs.declared.unit_map.Span.{Span}
 use Rattle.status.specs.Id.{id_cmp}
-use Rattle.wire.specs.declared.input.Input.{Input}
 use Rattle.scheme.specs.declared.members.Holder.{Holder}
 use Rattle.scheme.specs.declared.registries.Scheme.{Scheme}
 use Rattle.checks.specs.declared.register.BookEntry.{BookEntry}

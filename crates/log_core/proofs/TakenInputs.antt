@@ -1,5 +1,5 @@
 -- What tables have done with an input: nothing, where it is refused or was acted on before, or one record more.
-use Rattle.std.proofs.Common.{◌≡◌, ◌++◌, ◌∷◌, [], ℕ, List, length, Ok, Err, inr, refl, sym, ap, subst, ◌∙◌}
+use Rattle.std.proofs.Common.{◌≡◌, ℕ, Ok, Err, inr, refl, sym, ap, subst, ◌∙◌}
 use Rattle.std.specs.BTreeMap as tree
 use Rattle.std.specs.FinMap as map
 use Rattle.std.specs.BTreeSet.{contains}
@@ -16,7 +16,6 @@ use Rattle.records.specs.Records.{RecordsView}
 use Rattle.protocol.specs.AtLog.{log_verdict}
 use Rattle.protocol.specs.Deciding.{IsRefused}
 use Rattle.protocol.specs.Decisions.{step_of}
-use Rattle.protocol.specs.History.{Entry}
 use Rattle.protocol.specs.Taking.{TakesInto}
 use Rattle.protocol.specs.Verdict.{history, verdict}
 use Rattle.protocol.specs.declared.decision.Stale.{Stale}

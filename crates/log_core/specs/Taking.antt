@@ -1,10 +1,13 @@
 -- What the log's tables do with an input. No public contract cites it.
-use Rattle.std.specs.Prelude.{◌≡◌, Result}
+use Rattle.std.specs.Prelude.{◌≡◌, None, Result}
 use Rattle.units.specs.declared.code.Node.TheVariants.{Itl}
 use Rattle.units.specs.declared.refusal.Refusal.{Refusal}
 use Rattle.wire.specs.declared.input.Input.{Input}
 use Rattle.wire.specs.declared.input.Input.TheVariants.{CleanUp, Received}
+use Rattle.wire.specs.declared.message.Message.{Message}
 use Rattle.scheme.specs.declared.registries.Scheme.{Scheme}
+use Rattle.checks.specs.Refusing.{first_of}
+use Rattle.protocol.specs.AtLog.{log_refusals}
 use Rattle.protocol.specs.Deciding.{Verdict}
 use Rattle.protocol.specs.Taking.{TakesInto}
 use Rattle.protocol.specs.Verdict.{verdict, history}
@@ -22,6 +25,10 @@ abbrev pub IsMessageOrCleanUp : Input → Type 0
 IsMessageOrCleanUp (Received m moment) = Unit {0}
 IsMessageOrCleanUp (CleanUp moment) = Unit {0}
 IsMessageOrCleanUp _ = ⊥
+
+-- the message isn't refused for what it is
+abbrev pub IsWelcome : Tables → Message → Type 0
+IsWelcome tables m = first_of (log_refusals tables.scheme (history tables.scheme Itl tables.records.inputs) m) ≡ None
 
 -- the records take the input, and the tables follow them
 pub record Takes (scheme : Scheme) (tables tables' : Tables) (input : Input) (result : Result Stepped Refusal) : Type 0 where

@@ -11,18 +11,18 @@ use protocol::one_message;
 use status::{Content, TransactionId};
 use std::alloc::Global;
 use units::{Code, Items, NoMemory, Node};
-use wire::{LogCodes, Message, Notification, NotifiedStatus, Proposal, ProposalStatus};
+use wire::{Body, LogCodes, Message, NotifiedStatus, Proposal, ProposalStatus};
 
 /// The notification to that registry.
 fn notification(registry: Code, id: TransactionId, notified: NotifiedStatus) -> Message
     ensures { result ≡ notifies nodes.Itl (nodes.Registry registry) id notified }
 {
-    Message::Notification(Notification {
+    Message {
         from: Node::Itl,
         to: Node::Registry(registry),
         id,
-        notified,
-    })
+        body: Body::Notification(notified),
+    }
 }
 
 /// What follows a proposal, by what was found in it: the proposal as Checked to the acquirer, or Terminated with the
@@ -43,13 +43,16 @@ pub(crate) fn on_proposal(
         );
     }
     let proposal = Proposal {
-        from: Node::Itl,
-        to: Node::Registry(content.acquirer()),
-        id,
         status: ProposalStatus::Checked,
         content: content.copy()?,
     };
-    one_message(alloc, Message::Proposal(proposal))
+    let message = Message {
+        from: Node::Itl,
+        to: Node::Registry(content.acquirer()),
+        id,
+        body: Body::Proposal(proposal),
+    };
+    one_message(alloc, message)
 }
 
 /// What follows a notification: Accepted and Rejected go to the initiator, and Completed to the acquirer.

@@ -1,9 +1,9 @@
 //! Why the log refuses a message, before its table is asked.
 ghost use Rattle.std.specs.Prelude.{◌≡◌, List, option_copied, option_map};
 ghost use Rattle.status.specs.declared.id.TransactionId.{TransactionId as Id};
-ghost use Rattle.wire.specs.declared.message.Message.TheVariants as messages;
+ghost use Rattle.wire.specs.declared.message.Body.TheVariants as body;
 ghost use Rattle.protocol.specs.AtLog as log;
-ghost use Rattle.protocol.specs.AtLog.{log_refusals};
+ghost use Rattle.protocol.specs.AtLog.{log_body_refusals, log_refusals};
 ghost use Rattle.protocol.specs.Deciding as deciding;
 ghost use Rattle.protocol.specs.History as history;
 ghost use Rattle.protocol.specs.History.{Entry, newest, transitions_of};
@@ -22,7 +22,7 @@ use units::Node;
 use units::refusal_code::{
     NO_ROW, OTHER_ADDRESSEE, OTHER_CONTENT, SENDER_NOT_ALLOWED, UNKNOWN_TRANSACTION, WRONG_PARTY,
 };
-use wire::{Message, Notification, Proposal, ProposalStatus, Request};
+use wire::{Body, Message, NotifiedStatus, Proposal, ProposalStatus};
 
 /// Whether the node is no registry of the scheme.
 fn is_no_registry(scheme: &Scheme, node: Node) -> bool
@@ -90,26 +90,21 @@ fn is_from_another(from: Node, id: TransactionId, content: Option<&Content>, tol
     }
 }
 
-/// Why the log refuses a proposal, before its table is asked; or `None`.
-pub(crate) fn proposal_refusal(
-    scheme: &Scheme,
+/// Why the log refuses a proposal of that transaction from a registry, before its table is asked; or `None`.
+fn proposal_refusal(
     transfers: &BTreeMap<TransactionId, LoggedTransfer>,
+    from: Node,
+    id: TransactionId,
     proposal: &Proposal,
 ) -> Option<u16>
     ensures { (es : List Entry) → ((t : Id)
         → transfer_state_of transfers.now t ≡ option_map of_transition (newest (transitions_of es) t))
-        → result ≡ first_of (log_refusals scheme.now es (messages.Proposal proposal.now)) }
+        → result ≡ first_of (log_body_refusals es from id (body.Proposal proposal.now)) }
 {
-    if !is_log(proposal.to) {
-        return Some(OTHER_ADDRESSEE);
-    }
-    if is_no_registry(scheme, proposal.from) {
-        return Some(SENDER_NOT_ALLOWED);
-    }
-    if !is_registry(proposal.from, proposal.id.code) {
+    if !is_registry(from, id.code) {
         return Some(WRONG_PARTY);
     }
-    if has_other(transfers, proposal.id, &proposal.content) {
+    if has_other(transfers, id, &proposal.content) {
         return Some(OTHER_CONTENT);
     }
     if !is_proposed(proposal.status) {
@@ -118,47 +113,35 @@ pub(crate) fn proposal_refusal(
     None
 }
 
-/// Why the log refuses a notification, before its table is asked; or `None`.
-pub(crate) fn notification_refusal(
-    scheme: &Scheme,
+/// Why the log refuses a notification about that transaction from a registry, before its table is asked; or `None`.
+fn notification_refusal(
     transfers: &BTreeMap<TransactionId, LoggedTransfer>,
-    notification: &Notification,
+    from: Node,
+    id: TransactionId,
+    notified: &NotifiedStatus,
 ) -> Option<u16>
     ensures { (es : List Entry) → ((t : Id)
         → transfer_state_of transfers.now t ≡ option_map of_transition (newest (transitions_of es) t))
-        → result ≡ first_of (log_refusals scheme.now es (messages.Notification notification.now)) }
+        → result ≡ first_of (log_body_refusals es from id (body.Notification notified.now)) }
 {
-    let (from, id) = (notification.from, notification.id);
-    if !is_log(notification.to) {
-        return Some(OTHER_ADDRESSEE);
-    }
-    if is_no_registry(scheme, from) {
-        return Some(SENDER_NOT_ALLOWED);
-    }
     if !is_known(transfers, id) {
         return Some(UNKNOWN_TRANSACTION);
     }
-    let told = notification.notified.status();
-    if is_from_another(from, id, content(transfers, id), told) {
+    if is_from_another(from, id, content(transfers, id), notified.status()) {
         return Some(WRONG_PARTY);
     }
     None
 }
 
-/// Why the log refuses a request, before its table is asked; or `None`.
-pub(crate) fn request_refusal(scheme: &Scheme, request: &Request) -> Option<u16>
-    ensures { (es : List Entry) → result ≡ first_of (log_refusals scheme.now es (messages.Request request.now)) }
+/// Why the log refuses a request about that transaction from a registry, before its table is asked; or `None`.
+fn request_refusal(from: Node, id: TransactionId) -> Option<u16>
+    ensures { (es : List Entry) → result ≡ first_of (log_body_refusals es from id body.Request) }
 {
-    if !is_log(request.to) {
-        return Some(OTHER_ADDRESSEE);
+    if is_registry(from, id.code) {
+        None
+    } else {
+        Some(WRONG_PARTY)
     }
-    if is_no_registry(scheme, request.from) {
-        return Some(SENDER_NOT_ALLOWED);
-    }
-    if !is_registry(request.from, request.id.code) {
-        return Some(WRONG_PARTY);
-    }
-    None
 }
 
 /// Why the log refuses a message, before its table is asked; or `None`.
@@ -171,11 +154,16 @@ pub(crate) fn message_refusal(
         → transfer_state_of transfers.now t ≡ option_map of_transition (newest (transitions_of es) t))
         → result ≡ first_of (log_refusals scheme.now es message.now) }
 {
-    match message {
-        Message::Proposal(proposal) => proposal_refusal(scheme, transfers, proposal),
-        Message::Notification(notification) => {
-            notification_refusal(scheme, transfers, notification)
-        }
-        Message::Request(request) => request_refusal(scheme, request),
+    let (from, id) = (message.from, message.id);
+    if !is_log(message.to) {
+        return Some(OTHER_ADDRESSEE);
+    }
+    if is_no_registry(scheme, from) {
+        return Some(SENDER_NOT_ALLOWED);
+    }
+    match &message.body {
+        Body::Proposal(proposal) => proposal_refusal(transfers, from, id, proposal),
+        Body::Notification(notified) => notification_refusal(transfers, from, id, notified),
+        Body::Request => request_refusal(from, id),
     }
 }

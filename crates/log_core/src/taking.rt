@@ -1,14 +1,10 @@
 //! What the log's tables do with inputs, and with each kind of message.
-ghost use Rattle.std.specs.Prelude.{◌≡◌, None, IfOk};
-ghost use Rattle.checks.specs.Refusing.{first_of};
-ghost use Rattle.protocol.specs.AtLog.{log_refusals};
-ghost use Rattle.protocol.specs.Verdict.{history};
-ghost use Rattle.units.specs.declared.code.Node.TheVariants.{Itl};
+ghost use Rattle.std.specs.Prelude.{◌≡◌, IfOk};
 ghost use Rattle.wire.specs.declared.input.Input.TheVariants as inputs;
-ghost use Rattle.wire.specs.declared.message.Message.TheVariants as messages;
+ghost use Rattle.wire.specs.declared.message.Body.TheVariants as bodies;
 ghost use Rattle.log_core.specs.Effects.{transfer_state_in};
 ghost use Rattle.log_core.specs.Kept.{IsKept};
-ghost use Rattle.log_core.specs.Taking.{Takes};
+ghost use Rattle.log_core.specs.Taking.{IsWelcome, Takes};
 ghost use Rattle.log_core.specs.Transfers.{IsWithdrawal};
 
 use crate::effect::{LogEffect, TransferEffect};
@@ -20,7 +16,7 @@ use protocol::{Decision, Stepped};
 use status::{Moment, RowInput, Status, TransactionId};
 use units::refusal_code::NO_ROW;
 use units::{NoMemory, Refusal};
-use wire::{Input, Message, Notification, Proposal, Request};
+use wire::{Body, Input, Message, NotifiedStatus, Proposal};
 
 impl Tables {
     /// Takes an input. Orders of registries are refused with `NO_ROW`.
@@ -54,12 +50,12 @@ impl Tables {
         if let Some(refused) = message_refusal(&self.scheme, &self.transfers, message) {
             return Err(Refusal { code: refused });
         }
-        match message {
-            Message::Proposal(proposal) => self.check(input, proposal, moment),
-            Message::Notification(notification) => {
-                self.take_notification(input, notification, moment)
+        match &message.body {
+            Body::Proposal(proposal) => self.check(input, message, proposal, moment),
+            Body::Notification(notified) => {
+                self.take_notification(input, message, notified, moment)
             }
-            Message::Request(request) => self.withdraw(input, request, moment),
+            Body::Request => self.withdraw(input, message, moment),
         }
     }
 
@@ -67,16 +63,17 @@ impl Tables {
     fn check(
         &mut self,
         input: &Input,
+        message: &Message,
         proposal: &Proposal,
         moment: Moment,
     ) -> Result<Stepped, Refusal>
         requires kept { IsKept self.old.scheme self.old }
-        requires input { input.now ≡ inputs.Received (messages.Proposal proposal.now) moment }
-        requires welcome { first_of (log_refusals self.old.scheme (history self.old.scheme Itl self.old.records.inputs)
-            (messages.Proposal proposal.now)) ≡ None }
+        requires input { input.now ≡ inputs.Received message.now moment }
+        requires body { message.now.body ≡ bodies.Proposal proposal.now }
+        requires welcome { IsWelcome self.old message.now }
         ensures { Takes self.old.scheme self.old self.new input.now result }
     {
-        let (id, proposed) = (proposal.id, &proposal.content);
+        let (id, proposed) = (message.id, &proposal.content);
         let found = self.findings(id, proposed)?;
         let decision = self.decide(id, self.column_of_proposal(id, &found))?;
         match decision {
@@ -94,16 +91,17 @@ impl Tables {
     fn take_notification(
         &mut self,
         input: &Input,
-        notification: &Notification,
+        message: &Message,
+        notified: &NotifiedStatus,
         moment: Moment,
     ) -> Result<Stepped, Refusal>
         requires kept { IsKept self.old.scheme self.old }
-        requires input { input.now ≡ inputs.Received (messages.Notification notification.now) moment }
-        requires welcome { first_of (log_refusals self.old.scheme (history self.old.scheme Itl self.old.records.inputs)
-            (messages.Notification notification.now)) ≡ None }
+        requires input { input.now ≡ inputs.Received message.now moment }
+        requires body { message.now.body ≡ bodies.Notification notified.now }
+        requires welcome { IsWelcome self.old message.now }
         ensures { Takes self.old.scheme self.old self.new input.now result }
     {
-        let (id, notified) = (notification.id, &notification.notified);
+        let id = message.id;
         let decision = self.decide(id, RowInput::Notified(notified.status()))?;
         match decision {
             Decision::Moves(new) => {
@@ -120,16 +118,16 @@ impl Tables {
     fn withdraw(
         &mut self,
         input: &Input,
-        request: &Request,
+        message: &Message,
         moment: Moment,
     ) -> Result<Stepped, Refusal>
         requires kept { IsKept self.old.scheme self.old }
-        requires input { input.now ≡ inputs.Received (messages.Request request.now) moment }
-        requires welcome { first_of (log_refusals self.old.scheme (history self.old.scheme Itl self.old.records.inputs)
-            (messages.Request request.now)) ≡ None }
+        requires input { input.now ≡ inputs.Received message.now moment }
+        requires body { message.now.body ≡ bodies.Request }
+        requires welcome { IsWelcome self.old message.now }
         ensures { Takes self.old.scheme self.old self.new input.now result }
     {
-        let id = request.id;
+        let id = message.id;
         let decision = self.decide(id, RowInput::Request)?;
         match decision {
             Decision::Moves(_) => {

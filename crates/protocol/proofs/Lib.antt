@@ -1,3 +1,4 @@
+pub mod MessageForms
 pub mod Histories
 pub mod Replaying
 pub mod RefusedBy

@@ -1,5 +1,5 @@
 -- The nodes of a scheme by their indices, and that none stands there twice.
-use Rattle.std.proofs.Common.{◌≡◌, ◌≢◌, ℕ, zero, suc, ◌+◌, ◌-◌, ◌<◌, List, [], ◌∷◌, ◌++◌, Bool, true, false, Option, Some, None, inl, inr, refl, sym, ap, subst, ◌∙◌, length, map, take, option_map, arith}
+use Rattle.std.proofs.Common.{◌≡◌, ◌≢◌, ℕ, zero, suc, ◌+◌, ◌-◌, ◌<◌, List, [], ◌∷◌, ◌++◌, Bool, true, false, Some, inl, inr, refl, sym, ap, subst, ◌∙◌, length, map, take, option_map, arith}
 use Rattle.std.specs.Prelude.{get_or, is_some, slice_get}
 use Rattle.std.specs.List.{AllByRecursion, position_from}
 use Rattle.std.specs.declared.cmp.Ordering.TheVariants.{Less}
@@ -17,7 +17,7 @@ use Rattle.units.proofs.UnitOrder.{code_below}
 use Rattle.scheme.specs.Order.{member}
 use Rattle.scheme.specs.declared.members.SchemeRegistry.{SchemeRegistry}
 use Rattle.scheme.specs.declared.registries.Scheme.{Scheme}
-use Rattle.units.proofs.Lists.FirstIndices.{index_below, index_find, index_later, index_map, index_passes, index_there}
+use Rattle.units.proofs.Lists.FirstIndices.{index_below, index_later, index_map, index_passes, index_there}
 use Rattle.scheme.proofs.Searching.{AreOrdered, has_code}
 use Rattle.protocol.specs.Registries.{is_node, nodes, index_of}
 

@@ -18,8 +18,9 @@ use Rattle.status.specs.declared.rows.RowInput.{RowInput}
 use Rattle.status.specs.declared.status.Status.{Status}
 use Rattle.wire.specs.declared.input.Input.{Input}
 use Rattle.wire.specs.declared.input.Input.TheVariants.{Propose, Request, OpenAccount, CloseAccount, Ack, CleanUp, Eligible, Received}
+use Rattle.wire.specs.declared.message.Body.{Body}
+use Rattle.wire.specs.declared.message.Body.TheVariants as body
 use Rattle.wire.specs.declared.message.Message.{Message}
-use Rattle.wire.specs.declared.message.Message.TheVariants as message
 use Rattle.scheme.specs.declared.registries.Scheme.{Scheme}
 use Rattle.protocol.specs.AtLog as log
 use Rattle.protocol.specs.AtRegistry as registry
@@ -87,18 +88,23 @@ only_role passes h scheme c es t last moment input = only_cond passes (same_code
 
 -- ---- messages
 
+registry_answered : (passes : ℕ → Bool) → Rows passes → (scheme : Scheme) (c : Code) (es : List Entry) (moment : ℕ) (t : TransactionId) (b : Body) → Only passes (registry.registry_answer scheme c es moment t b)
+registry_answered passes h scheme c es moment t (body.Proposal p) = only_row passes h scheme es _ _
+registry_answered passes h scheme c es moment t (body.Notification n) = only_role passes h scheme c es t _ moment _
+registry_answered passes h scheme c es moment t body.Request = only_role passes h scheme c es t _ moment _
+
 pub registry_message : (passes : ℕ → Bool) → Rows passes → (scheme : Scheme) (c : Code) (es : List Entry) (moment : ℕ) (m : Message)
     → list_all (λ d. passes d.1) (registry.registry_refusals c es m) ≡ true → Only passes (registry.registry_message scheme c es moment m)
-registry_message passes h scheme c es moment (message.Proposal p) causes = only_refuse passes (registry.registry_refusals c es (message.Proposal p)) _ causes (only_row passes h scheme es _ _)
-registry_message passes h scheme c es moment (message.Notification n) causes =
-    only_refuse passes (registry.registry_refusals c es (message.Notification n)) _ causes (only_role passes h scheme c es n.id _ moment _)
-registry_message passes h scheme c es moment (message.Request r) causes = only_refuse passes (registry.registry_refusals c es (message.Request r)) _ causes (only_role passes h scheme c es r.id _ moment _)
+registry_message passes h scheme c es moment m causes = only_refuse passes (registry.registry_refusals c es m) _ causes (registry_answered passes h scheme c es moment m.id m.body)
+
+log_answered : (passes : ℕ → Bool) → Rows passes → (scheme : Scheme) (es : List Entry) (moment : ℕ) (t : TransactionId) (b : Body) → Only passes (log.log_answer scheme es moment t b)
+log_answered passes h scheme es moment t (body.Proposal p) = only_row passes h scheme es _ _
+log_answered passes h scheme es moment t (body.Notification n) = only_row passes h scheme es _ _
+log_answered passes h scheme es moment t body.Request = only_row passes h scheme es _ _
 
 pub log_message : (passes : ℕ → Bool) → Rows passes → (scheme : Scheme) (es : List Entry) (moment : ℕ) (m : Message) → list_all (λ d. passes d.1) (log.log_refusals scheme es m) ≡ true
     → Only passes (log.log_message scheme es moment m)
-log_message passes h scheme es moment (message.Proposal p) causes = only_refuse passes (log.log_refusals scheme es (message.Proposal p)) _ causes (only_row passes h scheme es _ _)
-log_message passes h scheme es moment (message.Notification n) causes = only_refuse passes (log.log_refusals scheme es (message.Notification n)) _ causes (only_row passes h scheme es _ _)
-log_message passes h scheme es moment (message.Request r) causes = only_refuse passes (log.log_refusals scheme es (message.Request r)) _ causes (only_row passes h scheme es _ _)
+log_message passes h scheme es moment m causes = only_refuse passes (log.log_refusals scheme es m) _ causes (log_answered passes h scheme es moment m.id m.body)
 
 -- one of the codes by which messages are refused
 abbrev of_message : ℕ → Bool
@@ -107,20 +113,20 @@ of_message code = list_any (λ d. code == d) message_codes
 rows_of_message : Rows of_message
 rows_of_message = record { row = refl; full = refl }
 
-registry_codes : (c : Code) (es : List Entry) (m : Message) → list_all (λ d. of_message d.1) (registry.registry_refusals c es m) ≡ true
-registry_codes c es (message.Proposal p) = refl
-registry_codes c es (message.Notification n) = refl
-registry_codes c es (message.Request r) = refl
+registry_codes : (c : Code) (es : List Entry) (t : TransactionId) (b : Body) → list_all (λ d. of_message d.1) (registry.registry_body_refusals c es t b) ≡ true
+registry_codes c es t (body.Proposal p) = refl
+registry_codes c es t (body.Notification n) = refl
+registry_codes c es t body.Request = refl
 
-log_codes : (scheme : Scheme) (es : List Entry) (m : Message) → list_all (λ d. of_message d.1) (log.log_refusals scheme es m) ≡ true
-log_codes scheme es (message.Proposal p) = refl
-log_codes scheme es (message.Notification n) = refl
-log_codes scheme es (message.Request r) = refl
+log_codes : (es : List Entry) (from : Node) (t : TransactionId) (b : Body) → list_all (λ d. of_message d.1) (log.log_body_refusals es from t b) ≡ true
+log_codes es from t (body.Proposal p) = refl
+log_codes es from t (body.Notification n) = refl
+log_codes es from t body.Request = refl
 
 pub message_only : (scheme : Scheme) (n : Node) (es : List Entry) (m : Message) (moment : Moment) → Only of_message (verdict scheme n es (Received m moment))
 unfolding verdict
-message_only scheme Itl es m moment = log_message of_message rows_of_message scheme es moment.seconds m (log_codes scheme es m)
-message_only scheme (Registry c) es m moment = registry_message of_message rows_of_message scheme c es moment.seconds m (registry_codes c es m)
+message_only scheme Itl es m moment = log_message of_message rows_of_message scheme es moment.seconds m (log_codes es m.from m.id m.body)
+message_only scheme (Registry c) es m moment = registry_message of_message rows_of_message scheme c es moment.seconds m (registry_codes c es m.id m.body)
 
 pub message_code : (scheme : Scheme) (n : Node) (es : List Entry) (m : Message) (moment : Moment) (code : ℕ) → verdict scheme n es (Received m moment) ≡ IsRefused code → Contains message_codes code
 message_code scheme n es m moment code e = Contains-from_any {eq = ◌==◌} eqb-true code message_codes (message_only scheme n es m moment code e)
@@ -134,15 +140,15 @@ of_verdict code = not (code == node_stopped) && not (code == out_of_memory)
 rows_of_verdict : Rows of_verdict
 rows_of_verdict = record { row = refl; full = refl }
 
-registry_codes_2 : (c : Code) (es : List Entry) (m : Message) → list_all (λ d. of_verdict d.1) (registry.registry_refusals c es m) ≡ true
-registry_codes_2 c es (message.Proposal p) = refl
-registry_codes_2 c es (message.Notification n) = refl
-registry_codes_2 c es (message.Request r) = refl
+registry_codes_2 : (c : Code) (es : List Entry) (t : TransactionId) (b : Body) → list_all (λ d. of_verdict d.1) (registry.registry_body_refusals c es t b) ≡ true
+registry_codes_2 c es t (body.Proposal p) = refl
+registry_codes_2 c es t (body.Notification n) = refl
+registry_codes_2 c es t body.Request = refl
 
-log_codes_2 : (scheme : Scheme) (es : List Entry) (m : Message) → list_all (λ d. of_verdict d.1) (log.log_refusals scheme es m) ≡ true
-log_codes_2 scheme es (message.Proposal p) = refl
-log_codes_2 scheme es (message.Notification n) = refl
-log_codes_2 scheme es (message.Request r) = refl
+log_codes_2 : (es : List Entry) (from : Node) (t : TransactionId) (b : Body) → list_all (λ d. of_verdict d.1) (log.log_body_refusals es from t b) ≡ true
+log_codes_2 es from t (body.Proposal p) = refl
+log_codes_2 es from t (body.Notification n) = refl
+log_codes_2 es from t body.Request = refl
 
 only_ack : (scheme : Scheme) (es : List Entry) (key : ℕ) → Only of_verdict (acknowledge scheme es key)
 only_ack scheme es key =
@@ -165,7 +171,7 @@ unfolding verdict
 verdict_only scheme Itl es (CleanUp t) = only_clean_up scheme es _
 verdict_only scheme Itl es (Eligible c may) = only_refuse of_verdict (log.eligible_refusals scheme c) _ refl (only_cond of_verdict _ IsRepeat (recorded_if_room scheme es []) (only_repeat of_verdict) (only_enters of_verdict refl scheme es []))
 verdict_only scheme Itl es (Ack n) = only_ack scheme es n.value
-verdict_only scheme Itl es (Received m t) = log_message of_verdict rows_of_verdict scheme es t.seconds m (log_codes_2 scheme es m)
+verdict_only scheme Itl es (Received m t) = log_message of_verdict rows_of_verdict scheme es t.seconds m (log_codes_2 es m.from m.id m.body)
 verdict_only scheme Itl es (Propose o) = refused_row
 verdict_only scheme Itl es (Request t) = refused_row
 verdict_only scheme Itl es (OpenAccount n) = refused_row
@@ -175,7 +181,7 @@ verdict_only scheme (Registry c) es (Request t) = only_refuse of_verdict (regist
 verdict_only scheme (Registry c) es (OpenAccount n) = only_refuse of_verdict (registry.open_refusals scheme c es n.value) _ refl (only_enters of_verdict refl scheme es [])
 verdict_only scheme (Registry c) es (CloseAccount n) = only_refuse of_verdict (registry.close_refusals scheme c es n.value) _ refl (only_enters of_verdict refl scheme es [])
 verdict_only scheme (Registry c) es (Ack n) = only_ack scheme es n.value
-verdict_only scheme (Registry c) es (Received m t) = registry_message of_verdict rows_of_verdict scheme c es t.seconds m (registry_codes_2 c es m)
+verdict_only scheme (Registry c) es (Received m t) = registry_message of_verdict rows_of_verdict scheme c es t.seconds m (registry_codes_2 c es m.id m.body)
 verdict_only scheme (Registry c) es (CleanUp t) = refused_row
 verdict_only scheme (Registry c) es (Eligible d may) = refused_row
 

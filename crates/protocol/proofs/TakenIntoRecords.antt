@@ -12,7 +12,7 @@ use Rattle.wire.specs.declared.input.Input.{Input}
 use Rattle.wire.specs.declared.input.Input.TheVariants.{Ack}
 use Rattle.wire.specs.declared.input.Number.{Number}
 use Rattle.scheme.specs.declared.registries.Scheme.{Scheme}
-use Rattle.records.specs.Records.{Admits, RecordsView, with_record}
+use Rattle.records.specs.Records.{RecordsView, with_record}
 use Rattle.records.specs.Sending as sending
 use Rattle.records.specs.Sending.{Acknowledges, Sent}
 use Rattle.protocol.specs.Cores.{AreRecordsOf, IsExpectedOrNoMemory, answer, answer_of}

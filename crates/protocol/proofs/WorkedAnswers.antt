@@ -12,8 +12,8 @@ use Rattle.status.specs.declared.id.TransactionId.{TransactionId}
 use Rattle.status.specs.declared.status.Status.TheVariants.{Checked, Terminated, Cancelled}
 use Rattle.wire.specs.declared.input.Input.{Input}
 use Rattle.wire.specs.declared.input.Input.TheVariants.{Propose, Received}
+use Rattle.wire.specs.declared.message.Body.TheVariants.{Proposal}
 use Rattle.wire.specs.declared.message.Message.{Message}
-use Rattle.wire.specs.declared.message.Message.TheVariants.{Proposal}
 use Rattle.wire.specs.declared.message.ProposalStatus.{ProposalStatus}
 use Rattle.wire.specs.declared.message.ProposalStatus.TheVariants as proposal
 use Rattle.wire.specs.declared.notified.NotifiedStatus.TheVariants as notified
@@ -47,7 +47,7 @@ abbrev comes : Message → Input
 comes m = Received m first_of_may
 
 abbrev proposal_of : Node → Node → TransactionId → ProposalStatus → Content → Message
-proposal_of from to t status k = Proposal (record { from = from; to = to; id = t; status = status; content = k })
+proposal_of from to t status k = record { from = from; to = to; id = t; body = Proposal (record { status = status; content = k }) }
 
 abbrev from_nz : Content → Message
 from_nz k = proposal_of nz_node Itl nz1 proposal.Proposed k

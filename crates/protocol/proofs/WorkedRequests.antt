@@ -7,8 +7,8 @@ use Rattle.status.specs.declared.id.TransactionId.{TransactionId}
 use Rattle.status.specs.declared.status.Status.TheVariants.{Accepted, Cancelled, Completed}
 use Rattle.wire.specs.declared.input.Input.{Input}
 use Rattle.wire.specs.declared.input.Input.TheVariants as input
+use Rattle.wire.specs.declared.message.Body.TheVariants as body
 use Rattle.wire.specs.declared.message.Message.{Message}
-use Rattle.wire.specs.declared.message.Message.TheVariants.{Request}
 use Rattle.wire.specs.declared.notified.NotifiedStatus.TheVariants as notified
 use Rattle.protocol.specs.Deciding.{Verdict, IsLate, IsRefused}
 use Rattle.protocol.specs.declared.event.Outcome.TheVariants.{Recorded, Repeat, Late, Refused, Done, NotPossible}
@@ -22,7 +22,7 @@ abbrev request : Node → TransactionId → WorldEvent
 request n t = Take n (input.Request t)
 
 abbrev request_of : Node → Node → TransactionId → Message
-request_of from to t = Request (record { from = from; to = to; id = t })
+request_of from to t = record { from = from; to = to; id = t; body = body.Request }
 
 -- ---- before the answer
 

@@ -21,8 +21,8 @@ use Rattle.status.specs.declared.moment.Moment.{Moment}
 use Rattle.status.specs.declared.status.Status.{Status}
 use Rattle.wire.specs.declared.input.Input.TheVariants.{Propose, OpenAccount, CloseAccount, Ack, CleanUp, Eligible}
 use Rattle.wire.specs.declared.input.Number.{Number}
+use Rattle.wire.specs.declared.message.Body.TheVariants.{Notification}
 use Rattle.wire.specs.declared.message.Message.{Message}
-use Rattle.wire.specs.declared.message.Message.TheVariants.{Notification}
 use Rattle.wire.specs.declared.notified.NotifiedStatus.{NotifiedStatus}
 use Rattle.scheme.specs.declared.members.SchemeRegistry.{SchemeRegistry}
 use Rattle.scheme.specs.declared.registries.Scheme.{Scheme}
@@ -252,7 +252,7 @@ abbrev pub message_at : World → Node → ℕ → Option Message
 message_at w n key = option_and_then (sent w.scheme key) (station w n)
 
 abbrev pub notification : Node → Node → TransactionId → NotifiedStatus → Message
-notification from to t notified = Notification (record { from = from; to = to; id = t; notified = notified })
+notification from to t notified = record { from = from; to = to; id = t; body = Notification notified }
 
 -- the message with that number in the bag
 abbrev pub posted : World → ℕ → Option Message

@@ -11,8 +11,8 @@ use Rattle.status.specs.Id.{number_from}
 use Rattle.status.specs.declared.id.TransactionId.{TransactionId}
 use Rattle.wire.specs.declared.input.Input.{Input}
 use Rattle.wire.specs.declared.input.Input.TheVariants.{Received, CloseAccount, CleanUp, Eligible, Ack}
+use Rattle.wire.specs.declared.message.Body.TheVariants.{Proposal}
 use Rattle.wire.specs.declared.message.Message.{Message}
-use Rattle.wire.specs.declared.message.Message.TheVariants.{Proposal}
 use Rattle.wire.specs.declared.message.ProposalStatus.{ProposalStatus}
 use Rattle.wire.specs.declared.message.ProposalStatus.TheVariants as proposal
 use Rattle.wire.specs.declared.notified.NotifiedStatus.TheVariants as notified
@@ -94,7 +94,7 @@ single_orders = refl
 -- ---- the tables, one message at a time
 
 abbrev proposal_of : Node → Node → TransactionId → ProposalStatus → List RawBlock → Message
-proposal_of from to t status units = Proposal (record { from = from; to = to; id = t; status = status; content = record { account = 1; acquirer = jp; to_account = 7; units = units } })
+proposal_of from to t status units = record { from = from; to = to; id = t; body = Proposal (record { status = status; content = record { account = 1; acquirer = jp; to_account = 7; units = units } }) }
 
 abbrev comes : Message → Input
 comes m = Received m first_of_may

@@ -20,8 +20,9 @@ use Rattle.status.specs.declared.status.Status.TheVariants.{Accepted, Rejected, 
 use Rattle.wire.specs.NotifiedStatuses.{notified_status, notified_codes}
 use Rattle.wire.specs.declared.input.Input.{Input}
 use Rattle.wire.specs.declared.input.Input.TheVariants.{Propose, Request, OpenAccount, CloseAccount, Ack, CleanUp, Eligible, Received}
+use Rattle.wire.specs.declared.message.Body.{Body}
+use Rattle.wire.specs.declared.message.Body.TheVariants as body
 use Rattle.wire.specs.declared.message.Message.{Message}
-use Rattle.wire.specs.declared.message.Message.TheVariants as message
 use Rattle.wire.specs.declared.message.ProposalStatus.{ProposalStatus}
 use Rattle.wire.specs.declared.message.ProposalStatus.TheVariants as proposal
 use Rattle.scheme.specs.declared.registries.Scheme.{Scheme}
@@ -60,25 +61,24 @@ is_from_another from t k Rejected = is_not_acquirer from k
 is_from_another from t k Completed = not (same_node from (Registry t.code))
 is_from_another from t k _ = false
 
-abbrev pub log_refusals : Scheme → List Entry → Message → Causes
-log_refusals scheme es (message.Proposal p) =
-    (not (same_node p.to Itl), other_addressee)
-    ∷ (is_no_registry scheme p.from, sender_not_allowed)
-    ∷ (not (same_node p.from (Registry p.id.code)), wrong_party)
-    ∷ (has_other (newest (transitions_of es) p.id) p.content, other_content)
+-- of what it says about that transaction, from that sender
+abbrev pub log_body_refusals : List Entry → Node → TransactionId → Body → Causes
+log_body_refusals es from t (body.Proposal p) =
+    (not (same_node from (Registry t.code)), wrong_party)
+    ∷ (has_other (newest (transitions_of es) t) p.content, other_content)
     ∷ (not (is_proposed p.status), no_row)
     ∷ []
-log_refusals scheme es (message.Notification n) =
-    (not (same_node n.to Itl), other_addressee)
-    ∷ (is_no_registry scheme n.from, sender_not_allowed)
-    ∷ (not (is_known (transitions_of es) n.id), unknown_transaction)
-    ∷ (is_from_another n.from n.id (content_in (newest (transitions_of es) n.id)) (notified_status n.notified), wrong_party)
+log_body_refusals es from t (body.Notification n) =
+    (not (is_known (transitions_of es) t), unknown_transaction)
+    ∷ (is_from_another from t (content_in (newest (transitions_of es) t)) (notified_status n), wrong_party)
     ∷ []
-log_refusals scheme es (message.Request r) =
-    (not (same_node r.to Itl), other_addressee)
-    ∷ (is_no_registry scheme r.from, sender_not_allowed)
-    ∷ (not (same_node r.from (Registry r.id.code)), wrong_party)
-    ∷ []
+log_body_refusals es from t body.Request = (not (same_node from (Registry t.code)), wrong_party) ∷ []
+
+abbrev pub log_refusals : Scheme → List Entry → Message → Causes
+log_refusals scheme es m =
+    (not (same_node m.to Itl), other_addressee)
+    ∷ (is_no_registry scheme m.from, sender_not_allowed)
+    ∷ log_body_refusals es m.from m.id m.body
 
 -- by the log's table: the content is the one that is recorded from then on, and the codes are passed on or were found
 abbrev pub at_log : Scheme → List Entry → TransactionId → Option Content → List ℕ → ℕ → RecordedStatus → RowInput → Verdict
@@ -90,13 +90,13 @@ checked scheme es t last k moment found = at_log scheme es t (Some k) found mome
 abbrev pub told : Scheme → List Entry → TransactionId → Option Transition → List ℕ → ℕ → RowInput → Verdict
 told scheme es t last codes moment input = at_log scheme es t (content_in last) codes moment (known last) input
 
-abbrev pub log_answer : Scheme → List Entry → ℕ → Message → Verdict
-log_answer scheme es moment (message.Proposal p) = checked scheme es p.id (newest (transitions_of es) p.id) p.content moment (log_findings scheme (ledger scheme es) p.id.code p.content)
-log_answer scheme es moment (message.Notification n) = told scheme es n.id (newest (transitions_of es) n.id) (notified_codes n.notified) moment (column.Notified (notified_status n.notified))
-log_answer scheme es moment (message.Request r) = told scheme es r.id (newest (transitions_of es) r.id) [] moment column.Request
+abbrev pub log_answer : Scheme → List Entry → ℕ → TransactionId → Body → Verdict
+log_answer scheme es moment t (body.Proposal p) = checked scheme es t (newest (transitions_of es) t) p.content moment (log_findings scheme (ledger scheme es) t.code p.content)
+log_answer scheme es moment t (body.Notification n) = told scheme es t (newest (transitions_of es) t) (notified_codes n) moment (column.Notified (notified_status n))
+log_answer scheme es moment t body.Request = told scheme es t (newest (transitions_of es) t) [] moment column.Request
 
 abbrev pub log_message : Scheme → List Entry → ℕ → Message → Verdict
-log_message scheme es moment m = refuse (log_refusals scheme es m) (log_answer scheme es moment m)
+log_message scheme es moment m = refuse (log_refusals scheme es m) (log_answer scheme es moment m.id m.body)
 
 -- ---- clean-up: each transaction that has stood so for a day goes by its row, in ascending order of code and number
 

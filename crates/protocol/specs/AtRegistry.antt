@@ -22,8 +22,9 @@ use Rattle.status.specs.declared.status.Status.TheVariants.{Proposed, Accepted, 
 use Rattle.wire.specs.NotifiedStatuses.{notified_status}
 use Rattle.wire.specs.declared.input.Input.{Input}
 use Rattle.wire.specs.declared.input.Input.TheVariants.{Propose, Request, OpenAccount, CloseAccount, Ack, CleanUp, Eligible, Received}
+use Rattle.wire.specs.declared.message.Body.{Body}
+use Rattle.wire.specs.declared.message.Body.TheVariants as body
 use Rattle.wire.specs.declared.message.Message.{Message}
-use Rattle.wire.specs.declared.message.Message.TheVariants as message
 use Rattle.wire.specs.declared.message.ProposalStatus.{ProposalStatus}
 use Rattle.wire.specs.declared.message.ProposalStatus.TheVariants as proposal
 use Rattle.scheme.specs.Order.{all_blocks}
@@ -105,28 +106,28 @@ abbrev pub is_checked : ProposalStatus → Bool
 is_checked proposal.Proposed = false
 is_checked proposal.Checked = true
 
-abbrev pub registry_refusals : Code → List Entry → Message → Causes
-registry_refusals c es (message.Proposal p) =
-    (not (same_node p.to (Registry c)), other_addressee)
-    ∷ (not (same_node p.from Itl), sender_not_allowed)
-    ∷ (not (same_code p.content.acquirer c) || (same_code p.id.code c || repeats (pieces p.content.units)), wrong_party)
-    ∷ (has_other (newest (transitions_of es) p.id) p.content, other_content)
+-- of what it says about that transaction
+abbrev pub registry_body_refusals : Code → List Entry → TransactionId → Body → Causes
+registry_body_refusals c es t (body.Proposal p) =
+    (not (same_code p.content.acquirer c) || (same_code t.code c || repeats (pieces p.content.units)), wrong_party)
+    ∷ (has_other (newest (transitions_of es) t) p.content, other_content)
     ∷ (not (is_checked p.status), no_row)
     ∷ []
-registry_refusals c es (message.Notification n) =
-    (not (same_node n.to (Registry c)), other_addressee)
-    ∷ (not (same_node n.from Itl), sender_not_allowed)
-    ∷ (not (is_known (transitions_of es) n.id) && not (same_status (notified_status n.notified) Cancelled && not (same_code n.id.code c)), unknown_transaction)
-    ∷ []
-registry_refusals c es (message.Request r) = (not (same_node r.to (Registry c)), other_addressee) ∷ (not (same_node r.from Itl), sender_not_allowed) ∷ []
+registry_body_refusals c es t (body.Notification n) =
+    (not (is_known (transitions_of es) t) && not (same_status (notified_status n) Cancelled && not (same_code t.code c)), unknown_transaction) ∷ []
+registry_body_refusals c es t body.Request = []
 
-abbrev pub registry_answer : Scheme → Code → List Entry → ℕ → Message → Verdict
-registry_answer scheme c es moment (message.Proposal p) = arrival scheme c es p.id (newest (transitions_of es) p.id) p.content moment (acquirer_findings scheme c (holding scheme c es) p.content)
-registry_answer scheme c es moment (message.Notification n) = in_role scheme c es n.id (newest (transitions_of es) n.id) moment (column.Notified (notified_status n.notified))
-registry_answer scheme c es moment (message.Request r) = in_role scheme c es r.id (newest (transitions_of es) r.id) moment column.Request
+abbrev pub registry_refusals : Code → List Entry → Message → Causes
+registry_refusals c es m =
+    (not (same_node m.to (Registry c)), other_addressee) ∷ (not (same_node m.from Itl), sender_not_allowed) ∷ registry_body_refusals c es m.id m.body
+
+abbrev pub registry_answer : Scheme → Code → List Entry → ℕ → TransactionId → Body → Verdict
+registry_answer scheme c es moment t (body.Proposal p) = arrival scheme c es t (newest (transitions_of es) t) p.content moment (acquirer_findings scheme c (holding scheme c es) p.content)
+registry_answer scheme c es moment t (body.Notification n) = in_role scheme c es t (newest (transitions_of es) t) moment (column.Notified (notified_status n))
+registry_answer scheme c es moment t body.Request = in_role scheme c es t (newest (transitions_of es) t) moment column.Request
 
 abbrev pub registry_message : Scheme → Code → List Entry → ℕ → Message → Verdict
-registry_message scheme c es moment m = refuse (registry_refusals c es m) (registry_answer scheme c es moment m)
+registry_message scheme c es moment m = refuse (registry_refusals c es m) (registry_answer scheme c es moment m.id m.body)
 
 -- ---- account orders
 

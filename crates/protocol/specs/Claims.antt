@@ -15,8 +15,8 @@ use Rattle.status.specs.declared.moment.Moment.{Moment}
 use Rattle.status.specs.declared.status.Status.{Status}
 use Rattle.status.specs.declared.status.Status.TheVariants.{Checked, Accepted, Rejected, Terminated, Cancelled, Completed}
 use Rattle.wire.specs.declared.input.Input.{Input}
-use Rattle.wire.specs.declared.message.Message.TheVariants as message
-use Rattle.wire.specs.declared.message.Notification.{Notification}
+use Rattle.wire.specs.declared.message.Body.TheVariants as body
+use Rattle.wire.specs.declared.message.Message.{Message}
 use Rattle.wire.specs.declared.notified.NotifiedStatus.TheVariants as notified
 use Rattle.scheme.specs.declared.registries.Scheme.{Scheme}
 use Rattle.protocol.specs.declared.event.Outcome.TheVariants.{Refused}
@@ -138,4 +138,4 @@ DeliversWelcome w = (index : ℕ) (moment : Moment) (code : ℕ) → (step w (De
 -- where the log tells a registry Terminated, the codes are those of eligibility
 abbrev pub TerminatesForEligibility : (Node → List Entry) → Type 0
 TerminatesForEligibility f =
-    (n : Notification) (found : List ℕ) (code : ℕ) → Contains (sends (f Itl)) (message.Notification n) → n.notified ≡ notified.Terminated found → Contains found code → (code ≡ initiator_not_eligible) ⊎ (code ≡ acquirer_not_eligible)
+    (m : Message) (found : List ℕ) (code : ℕ) → Contains (sends (f Itl)) m → m.body ≡ body.Notification (notified.Terminated found) → Contains found code → (code ≡ initiator_not_eligible) ⊎ (code ≡ acquirer_not_eligible)

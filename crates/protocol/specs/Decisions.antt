@@ -25,6 +25,7 @@ abbrev pub unless : {X : Type 0} → Causes → Result X Refusal → Result X Re
 unless [] answer = answer
 unless (c ∷ cs) answer = cond c.0 (Err (record { code = c.1 })) (unless cs answer)
 
+-- a step that records nothing
 abbrev pub step_of : Stale → Stepped
 step_of stale.Repeat = stepped.Repeat
 step_of stale.Late = stepped.Late

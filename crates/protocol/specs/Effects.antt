@@ -10,21 +10,21 @@ use Rattle.status.specs.declared.id.TransactionId.{TransactionId}
 use Rattle.status.specs.declared.rows.RowInput.{RowInput}
 use Rattle.status.specs.declared.rows.RowInput.TheVariants.{Propose, RequestOrder, ProposalWithoutFinding, ProposalWithFindings, Notified, CleanUp, Request}
 use Rattle.status.specs.declared.status.Status.TheVariants.{Accepted, Rejected, Completed}
+use Rattle.wire.specs.declared.message.Body.TheVariants as body
 use Rattle.wire.specs.declared.message.Message.{Message}
-use Rattle.wire.specs.declared.message.Message.TheVariants as message
 use Rattle.wire.specs.declared.message.ProposalStatus.{ProposalStatus}
 use Rattle.wire.specs.declared.message.ProposalStatus.TheVariants as proposal
 use Rattle.wire.specs.declared.notified.NotifiedStatus.{NotifiedStatus}
 use Rattle.wire.specs.declared.notified.NotifiedStatus.TheVariants as notified
 
 abbrev pub proposes : Node → Node → TransactionId → ProposalStatus → Content → Message
-proposes from to t status k = message.Proposal (record { from = from; to = to; id = t; status = status; content = k })
+proposes from to t status k = record { from = from; to = to; id = t; body = body.Proposal (record { status = status; content = k }) }
 
 abbrev pub notifies : Node → Node → TransactionId → NotifiedStatus → Message
-notifies from to t said = message.Notification (record { from = from; to = to; id = t; notified = said })
+notifies from to t said = record { from = from; to = to; id = t; body = body.Notification said }
 
 abbrev pub requests : Node → Node → TransactionId → Message
-requests from to t = message.Request (record { from = from; to = to; id = t })
+requests from to t = record { from = from; to = to; id = t; body = body.Request }
 
 -- to the acquirer, which a record without content doesn't name
 abbrev pub to_acquirer : Option Content → (Node → Content → Message) → List Message

@@ -27,8 +27,9 @@ pub use Rattle.status.specs.declared.moment.Moment
 pub use Rattle.status.specs.declared.status.Status
 pub use Rattle.wire.specs.declared.input.Input
 pub use Rattle.wire.specs.declared.message.Message
-pub use Rattle.wire.specs.declared.message.Proposal
 pub use Rattle.wire.specs.declared.notified.NotifiedStatus
 pub use Rattle.scheme.specs.declared.registries.Scheme
 pub use Rattle.units.specs.Keys
+pub use Rattle.records.specs.Records
+pub use Rattle.records.specs.Sending
 pub use Rattle.records.specs.Unacknowledged

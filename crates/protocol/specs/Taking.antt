@@ -1,5 +1,5 @@
 -- What becomes of an input at a node's records.
-use Rattle.std.specs.Prelude.{◌≡◌, List, Result}
+use Rattle.std.specs.Prelude.{◌≡◌, Result}
 use Rattle.units.specs.declared.code.Node.{Node}
 use Rattle.units.specs.declared.refusal.Refusal.{Refusal}
 use Rattle.wire.specs.declared.input.Input.{Input}

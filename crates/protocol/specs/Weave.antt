@@ -15,7 +15,6 @@ use Rattle.protocol.specs.Deciding.{IsRecorded}
 use Rattle.protocol.specs.History.{Transition, sends}
 use Rattle.protocol.specs.Registries.{is_node}
 use Rattle.protocol.specs.Verdict.{verdict, history}
-use Rattle.wire.specs.Parties.{receiver, sender}
 use Rattle.protocol.specs.World.{World, Station, station, opening, step, run}
 use Rattle.protocol.specs.Claims.{committed_part, committed_of}
 use Rattle.protocol.specs.WayOut.{IsIdle}
@@ -40,7 +39,7 @@ journals_of (r ∷ rs) n = cond (same_node n r.node) (journals_of rs n ++ r.inpu
 
 -- what is received was sent to this node by the records of its sender so far
 abbrev pub WasSent : Scheme → (Node → List Input) → Node → Input → Type 0
-WasSent scheme past n (Received m moment) = (receiver m ≡ n) × Contains (sends (history scheme (sender m) (past (sender m)))) m
+WasSent scheme past n (Received m moment) = (m.to ≡ n) × Contains (sends (history scheme m.from (past m.from))) m
 WasSent scheme past n _ = Unit {0}
 
 -- the node records the input after these journals
@@ -69,7 +68,7 @@ pub record IsQuiet (w : World) : Type 0 where
 -- the event gives the node the input
 abbrev pub Gives : World → WorldEvent → Node → Input → Type 0
 Gives w (Take m order) n input = (m ≡ n) × (order ≡ input)
-Gives w (Deliver index moment) n input = (p : Posted) × (slice_get w.bag index ≡ Some p) × (receiver p.message ≡ n) × (Received p.message moment ≡ input)
+Gives w (Deliver index moment) n input = (p : Posted) × (slice_get w.bag index ≡ Some p) × (p.message.to ≡ n) × (Received p.message moment ≡ input)
 Gives w _ n input = ⊥
 
 -- no node would record the next input of its journal

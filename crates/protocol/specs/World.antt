@@ -8,7 +8,6 @@ use Rattle.status.specs.declared.moment.Moment.{Moment}
 use Rattle.wire.specs.declared.input.Input.{Input}
 use Rattle.wire.specs.declared.input.Input.TheVariants.{Propose, Request, OpenAccount, CloseAccount, Ack, CleanUp, Eligible, Received}
 use Rattle.wire.specs.declared.message.Message.{Message}
-use Rattle.wire.specs.Parties.{receiver}
 use Rattle.scheme.specs.declared.registries.Scheme.{Scheme}
 use Rattle.protocol.specs.declared.event.Outcome.{Outcome}
 use Rattle.protocol.specs.declared.event.Outcome.TheVariants.{Recorded, Repeat, Late, Refused, Done, NotPossible}
@@ -157,7 +156,7 @@ posted w n key (Some m) = record {
 -- a message of the bag comes to its addressee
 abbrev pub deliver : World → Moment → Option Posted → Stepped
 deliver w moment None = stays w NotPossible
-deliver w moment (Some p) = at_node w (station w (receiver p.message)) (take_input w.scheme (Received p.message moment))
+deliver w moment (Some p) = at_node w (station w p.message.to) (take_input w.scheme (Received p.message moment))
 
 unfoldable pub step : World → WorldEvent → Stepped
 step w (Take n input) = cond (is_order w n input) (at_node w (station w n) (take_input w.scheme input)) (stays w NotPossible)

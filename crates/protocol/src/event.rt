@@ -24,7 +24,7 @@ pub enum WorldEvent {
     Restart { node: Node },
 }
 
-/// What an event comes to.
+/// The outcome of an event.
 #[derive(Clone, Copy, Debug, PartialEq, Eq)]
 pub enum Outcome {
     /// Recorded at that place of the node's journal, the tail included.

@@ -14,7 +14,6 @@ use Rattle.units.specs.Code.{same_node}
 use Rattle.units.specs.declared.code.Code.{Code}
 use Rattle.units.specs.declared.code.Node.{Node}
 use Rattle.units.specs.declared.code.Node.TheVariants.{Itl, Registry}
-use Rattle.wire.specs.Parties.{receiver}
 use Rattle.wire.specs.declared.message.Message.{Message}
 use Rattle.records.specs.Awaiting.{among, is_at, peer_of, unacknowledged_cmp, unacknowledged_of}
 use Rattle.records.specs.declared.unacknowledged.Unacknowledged.{Unacknowledged}
@@ -65,7 +64,7 @@ alike : (a b : ℕ) → a ≡ b → (a == b) ≡ true
 alike a b h = grind (arith, nat_tests)
 
 not_at : (key : ℕ) (m : Message) (q : Unacknowledged) → (key ≡ q.key → ⊥) → is_at key m q ≡ false
-not_at key m q h = ap (λ (b : Bool). same_node (receiver m) (peer_of q.registry) && b) (other key q.key h) ∙ and_false (same_node (receiver m) (peer_of q.registry))
+not_at key m q h = ap (λ (b : Bool). same_node m.to (peer_of q.registry) && b) (other key q.key h) ∙ and_false (same_node m.to (peer_of q.registry))
 
 pub among_below : (start : ℕ) (ms : List Message) (q : Unacknowledged) → q.key < start → among start ms q ≡ false
 among_below start [] q h = refl
@@ -76,18 +75,18 @@ and_true true = refl
 and_true false = refl
 
 -- the message at the key, by counting on
-pub among_at : (start : ℕ) (ms : List Message) (q : Unacknowledged) (j : ℕ) → q.key ≡ start + j → option_map_or (λ m. same_node (receiver m) (peer_of q.registry)) (slice_get ms j) false ≡ among start ms q
+pub among_at : (start : ℕ) (ms : List Message) (q : Unacknowledged) (j : ℕ) → q.key ≡ start + j → option_map_or (λ m. same_node m.to (peer_of q.registry)) (slice_get ms j) false ≡ among start ms q
 among_at start [] q j e = refl
 among_at start (m ∷ ms) q zero e =
-    let here : is_at start m q ≡ same_node (receiver m) (peer_of q.registry) =
-    ap (λ (b : Bool). same_node (receiver m) (peer_of q.registry) && b) (alike start q.key (omega arith)) ∙ and_true (same_node (receiver m) (peer_of q.registry)) in
+    let here : is_at start m q ≡ same_node m.to (peer_of q.registry) =
+    ap (λ (b : Bool). same_node m.to (peer_of q.registry) && b) (alike start q.key (omega arith)) ∙ and_true (same_node m.to (peer_of q.registry)) in
     let later : among (suc start) ms q ≡ false = among_below (suc start) ms q (omega arith) in
     sym (ap (λ (b : Bool). is_at start m q || b) later ∙ or_false (is_at start m q) ∙ here)
 among_at start (m ∷ ms) q (suc j) e =
     among_at (suc start) ms q j (omega arith) ∙ sym (ap (λ (b : Bool). b || among (suc start) ms q) (not_at start m q (λ h. absurd (omega arith))))
 
 -- all messages from key 0 on
-pub among_all : (ms : List Message) (q : Unacknowledged) → option_map_or (λ m. same_node (receiver m) (peer_of q.registry)) (slice_get ms q.key) false ≡ among 0 ms q
+pub among_all : (ms : List Message) (q : Unacknowledged) → option_map_or (λ m. same_node m.to (peer_of q.registry)) (slice_get ms q.key) false ≡ among 0 ms q
 among_all ms q = among_at 0 ms q q.key (omega arith)
 
 -- ---- their order
@@ -138,24 +137,24 @@ took false true a = refl
 took false false true = refl
 took false false false = refl
 
-one_more : (start i : ℕ) (ms : List Message) (m : Message) (q : Unacknowledged) → i < length ms → m ≡ get_or ms i m → among start (take (i + 1) ms) q ≡ (among start (take i ms) q || is_eq (unacknowledged_cmp (unacknowledged_of (receiver m) (start + i)) q))
+one_more : (start i : ℕ) (ms : List Message) (m : Message) (q : Unacknowledged) → i < length ms → m ≡ get_or ms i m → among start (take (i + 1) ms) q ≡ (among start (take i ms) q || is_eq (unacknowledged_cmp (unacknowledged_of m.to (start + i)) q))
 one_more start i ms m q below is =
     let more : take (i + 1) ms ≡ take i ms ++ m ∷ [] = ap (λ (n : ℕ). take n ms) (add-one i) ∙ take-suc ms i m below ∙ ap (λ (x : Message). take i ms ++ x ∷ []) (sym is) in
     let count : length (take i ms) ≡ i = length-take-le i ms (omega arith) in
     ap (λ (l : List Message). among start l q) more ∙ among_snoc start (take i ms) m q
     ∙ ap (λ (n : ℕ). among start (take i ms) q || is_at (start + n) m q) count
-    ∙ ap (λ (b : Bool). among start (take i ms) q || b) (sym (same_unacknowledged (receiver m) (start + i) q))
+    ∙ ap (λ (b : Bool). among start (take i ms) q || b) (sym (same_unacknowledged m.to (start + i) q))
 
 pub forget_more : (start i : ℕ) (ms : List Message) (m : Message) (q : Unacknowledged) (old now new : Bool) → i < length ms → m ≡ get_or ms i m → now ≡ (old && not (among start (take i ms) q))
-    → new ≡ cond (is_eq (unacknowledged_cmp (unacknowledged_of (receiver m) (start + i)) q)) false now → new ≡ (old && not (among start (take (i + 1) ms) q))
+    → new ≡ cond (is_eq (unacknowledged_cmp (unacknowledged_of m.to (start + i)) q)) false now → new ≡ (old && not (among start (take (i + 1) ms) q))
 forget_more start i ms m q old now new below is had has =
-    let t = is_eq (unacknowledged_cmp (unacknowledged_of (receiver m) (start + i)) q) in
+    let t = is_eq (unacknowledged_cmp (unacknowledged_of m.to (start + i)) q) in
     has ∙ ap (λ (b : Bool). cond t false b) had ∙ forgot t old (among start (take i ms) q) ∙ ap (λ (b : Bool). old && not b) (sym (one_more start i ms m q below is))
 
 pub await_more : (start i : ℕ) (ms : List Message) (m : Message) (q : Unacknowledged) (old now new : Bool) → i < length ms → m ≡ get_or ms i m → now ≡ (old || among start (take i ms) q)
-    → new ≡ cond (is_eq (unacknowledged_cmp (unacknowledged_of (receiver m) (start + i)) q)) true now → new ≡ (old || among start (take (i + 1) ms) q)
+    → new ≡ cond (is_eq (unacknowledged_cmp (unacknowledged_of m.to (start + i)) q)) true now → new ≡ (old || among start (take (i + 1) ms) q)
 await_more start i ms m q old now new below is had has =
-    let t = is_eq (unacknowledged_cmp (unacknowledged_of (receiver m) (start + i)) q) in
+    let t = is_eq (unacknowledged_cmp (unacknowledged_of m.to (start + i)) q) in
     has ∙ ap (λ (b : Bool). cond t true b) had ∙ took t old (among start (take i ms) q) ∙ ap (λ (b : Bool). old || b) (sym (one_more start i ms m q below is))
 
 undo : (o a : Bool) → (a ≡ true → o ≡ false) → ((o || a) && not a) ≡ o

@@ -12,7 +12,6 @@ use Rattle.units.proofs.Same.{same_node-refl}
 use Rattle.units.specs.Code.{same_node}
 use Rattle.units.specs.declared.code.Node.{Node}
 use Rattle.units.specs.declared.code.Node.TheVariants.{Itl, Registry}
-use Rattle.wire.specs.Parties.{receiver}
 use Rattle.wire.specs.declared.message.Message.{Message}
 use Rattle.records.specs.Unacknowledged.{awaits}
 use Rattle.records.specs.Kept.{AreCounts, IsKept, IsSentBefore, act, sent_in}
@@ -121,12 +120,12 @@ removed false false a true h = refl
 removed false false a false h = refl
 
 -- the message with that key is this one, so it is among all messages only where it goes to its node
-among_one : (ms : List Message) (m : Message) (q : Unacknowledged) → slice_get ms q.key ≡ Some m → among 0 ms q ≡ same_node (receiver m) (peer_of q.registry)
-among_one ms m q e = sym (among_all ms q) ∙ ap (λ (o : Option Message). option_map_or (λ x. same_node (receiver x) (peer_of q.registry)) o false) e
+among_one : (ms : List Message) (m : Message) (q : Unacknowledged) → slice_get ms q.key ≡ Some m → among 0 ms q ≡ same_node m.to (peer_of q.registry)
+among_one ms m q e = sym (among_all ms q) ∙ ap (λ (o : Option Message). option_map_or (λ x. same_node x.to (peer_of q.registry)) o false) e
 
 pub next_acknowledges : (rs rs' : List Record) (n key : ℕ) (ms : List Message) (m : Message) (ps qs : BTreeSet Unacknowledged) → IsKept (sent_in 0 rs ms) rs ms ps
     → rs' ≡ rs ++ record { sends = n; acknowledges = Some key } ∷ [] → n ≡ length ms → slice_get ms key ≡ Some m
-    → ((q : Unacknowledged) → contains unacknowledged_cmp qs q ≡ cond (is_eq (unacknowledged_cmp (unacknowledged_of (receiver m) key) q)) false (contains unacknowledged_cmp ps q)) → Next rs' ms qs (sent_in 0 rs ms ++ Acknowledges key ∷ [])
+    → ((q : Unacknowledged) → contains unacknowledged_cmp qs q ≡ cond (is_eq (unacknowledged_cmp (unacknowledged_of m.to key) q)) false (contains unacknowledged_cmp ps q)) → Next rs' ms qs (sent_in 0 rs ms ++ Acknowledges key ∷ [])
 next_acknowledges rs rs' n key ms m ps qs kept records count here taken =
     let r : Record = record { sends = n; acknowledges = Some key } in
     let S = sent_in 0 rs ms in
@@ -139,9 +138,9 @@ next_acknowledges rs rs' n key ms m ps qs kept records count here taken =
         counted = subst (AreCounts 0 (rs ++ r ∷ [])) count (counts_snoc 0 rs r (length ms) kept.counted (omega arith) (count, below));
         awaited = λ q.
             taken q
-            ∙ ap (λ (b : Bool). cond b false (contains unacknowledged_cmp ps q)) (same_unacknowledged (receiver m) key q)
-            ∙ ap (λ (b : Bool). cond (same_node (receiver m) (peer_of q.registry) && (key == q.key)) false b) (kept.awaited q ∙ awaits_all ms (is_key_acknowledged S) q)
-            ∙ removed (same_node (receiver m) (peer_of q.registry)) (key == q.key) (among 0 ms q) (is_key_acknowledged S q.key)
+            ∙ ap (λ (b : Bool). cond b false (contains unacknowledged_cmp ps q)) (same_unacknowledged m.to key q)
+            ∙ ap (λ (b : Bool). cond (same_node m.to (peer_of q.registry) && (key == q.key)) false b) (kept.awaited q ∙ awaits_all ms (is_key_acknowledged S) q)
+            ∙ removed (same_node m.to (peer_of q.registry)) (key == q.key) (among 0 ms q) (is_key_acknowledged S q.key)
             (λ at other. among_one ms m q (subst (λ (k : ℕ). slice_get ms k ≡ Some m) (eqb-true key q.key at) here) ∙ other)
             ∙ ap (λ (b : Bool). among 0 ms q && not b) (sym (acknowledged_more S (Acknowledges key) q.key))
             ∙ sym (awaits_all ms (is_key_acknowledged (S ++ Acknowledges key ∷ [])) q);
@@ -176,7 +175,7 @@ last_equal (a ∷ xs) (b ∷ ys) x y e =
 among_until : (ms : List Message) (q : Unacknowledged) → among 0 ms q ≡ true → q.key < length ms
 among_until ms q h = elim (cases_lt q.key (length ms)) [
   | inl below ↦ below
-  | inr up ↦ absurd (true≢false (sym h ∙ sym (among_all ms q) ∙ ap (λ (o : Option Message). option_map_or (λ x. same_node (receiver x) (peer_of q.registry)) o false) (slice_get_past ms q.key up)))
+  | inr up ↦ absurd (true≢false (sym h ∙ sym (among_all ms q) ∙ ap (λ (o : Option Message). option_map_or (λ x. same_node x.to (peer_of q.registry)) o false) (slice_get_past ms q.key up)))
 ]
 
 pub taken_back : (rs' rs : List Record) (popped : Option Record) (ms : List Message) (ps qs : BTreeSet Unacknowledged) (earlier : List Sent) (last : List Message) → IsKept (sent_in 0 rs ms) rs ms ps
@@ -253,12 +252,12 @@ none_past_records (x ∷ rs) (suc k) e = let rest = none_past_records rs k e in 
 
 -- the message at a key is acknowledged where it isn't kept
 pub acknowledged_at : (rs : List Record) (ms : List Message) (ps : BTreeSet Unacknowledged) (key : ℕ) (m : Message) → IsKept (sent_in 0 rs ms) rs ms ps → slice_get ms key ≡ Some m
-    → not (contains unacknowledged_cmp ps (unacknowledged_of (receiver m) key)) ≡ is_key_acknowledged (sent_in 0 rs ms) key
+    → not (contains unacknowledged_cmp ps (unacknowledged_of m.to key)) ≡ is_key_acknowledged (sent_in 0 rs ms) key
 acknowledged_at rs ms ps key m kept at =
     let acked = is_key_acknowledged (sent_in 0 rs ms) key in
-    ap not (at_unacknowledged ps ms (is_key_acknowledged (sent_in 0 rs ms)) (receiver m) key kept.awaited
-    ∙ ap (λ (o : Option Message). option_map_or (λ x. same_node (receiver x) (receiver m)) o false && not acked) at
-    ∙ ap (λ (b : Bool). b && not acked) (same_node-refl (receiver m)))
+    ap not (at_unacknowledged ps ms (is_key_acknowledged (sent_in 0 rs ms)) m.to key kept.awaited
+    ∙ ap (λ (o : Option Message). option_map_or (λ x. same_node x.to m.to) o false && not acked) at
+    ∙ ap (λ (b : Bool). b && not acked) (same_node-refl m.to))
     ∙ not_not acked
   where
     not_not : (b : Bool) → not (not b) ≡ b

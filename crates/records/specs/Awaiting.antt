@@ -5,7 +5,6 @@ use Rattle.units.specs.Code.{same_node}
 use Rattle.units.specs.declared.code.Code.{Code}
 use Rattle.units.specs.declared.code.Node.{Node}
 use Rattle.units.specs.declared.code.Node.TheVariants.{Itl, Registry}
-use Rattle.wire.specs.Parties.{receiver}
 use Rattle.wire.specs.declared.message.Message.{Message}
 use Rattle.records.specs.declared.unacknowledged.Unacknowledged.{Unacknowledged}
 use Rattle.records.specs.contracts.unacknowledged.UnacknowledgedOrd.TheImpl.{cmp-value as unacknowledged-order}
@@ -25,7 +24,7 @@ peer_of (Some c) = Registry c
 
 -- the message with that key is that one
 abbrev pub is_at : ℕ → Message → Unacknowledged → Bool
-is_at key m q = same_node (receiver m) (peer_of q.registry) && (key == q.key)
+is_at key m q = same_node m.to (peer_of q.registry) && (key == q.key)
 
 -- one of the messages is that one, where their keys go up from that one
 abbrev pub among : ℕ → List Message → Unacknowledged → Bool

@@ -3,12 +3,11 @@ use Rattle.std.specs.Prelude.{◌≡◌, ℕ, ◌<◌, ◌≤◌, ◌&&◌, not,
 use Rattle.std.specs.Option.{option_map_or}
 use Rattle.units.specs.Code.{same_node}
 use Rattle.units.specs.declared.code.Node.{Node}
-use Rattle.wire.specs.Parties.{receiver}
 use Rattle.wire.specs.declared.message.Message.{Message}
 
 -- the message with that key goes to that node, and isn't acknowledged
 abbrev pub awaits : List Message → (ℕ → Bool) → Node → ℕ → Bool
-awaits messages is_acknowledged peer key = option_map_or (λ m. same_node (receiver m) peer) (slice_get messages key) false && not (is_acknowledged key)
+awaits messages is_acknowledged peer key = option_map_or (λ m. same_node m.to peer) (slice_get messages key) false && not (is_acknowledged key)
 
 -- the least number, from that one on, that passes; or none where none does
 abbrev pub IsLeastFrom : (ℕ → Bool) → ℕ → Option ℕ → Type 0

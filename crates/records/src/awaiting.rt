@@ -36,7 +36,7 @@ pub(crate) fn forget_all(
         ≡ (contains unacknowledged_cmp unacknowledged.old q && not (among start messages.now q)) }
 {
     for (i, message) in messages.iter().enumerate() {
-        unacknowledged.remove(&unacknowledged_of(message.receiver(), start + i));
+        unacknowledged.remove(&unacknowledged_of(message.to, start + i));
     }
 }
 
@@ -69,7 +69,7 @@ pub(crate) fn await_all(
 {
     for (i, message) in messages.iter().enumerate() {
         if unacknowledged
-            .insert(unacknowledged_of(message.receiver(), start + i))
+            .insert(unacknowledged_of(message.to, start + i))
             .is_err()
         {
             forget_all(unacknowledged, start, &messages[..i]);

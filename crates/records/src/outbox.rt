@@ -98,7 +98,7 @@ impl Outbox {
         ensures err { OnErr result (self.new ≡ self.old) }
     {
         self.records.reserve(1)?;
-        let peer = self.messages[key].receiver();
+        let peer = self.messages[key].to;
         self.unacknowledged.remove(&unacknowledged_of(peer, key));
         self.records.push_reserved(Record {
             sends: self.messages.len(),
@@ -133,7 +133,7 @@ impl Outbox {
         match message_at(self.messages.as_slice(), key) {
             Some(message) => !self
                 .unacknowledged
-                .contains(&unacknowledged_of(message.receiver(), key)),
+                .contains(&unacknowledged_of(message.to, key)),
             None => false,
         }
     }

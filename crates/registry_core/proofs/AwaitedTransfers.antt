@@ -8,7 +8,7 @@ use Rattle.protocol.specs.History.{Entry, Transition, is_status, newest, stands_
 use Rattle.safety.proofs.MovesAndHistories.NewestTransitions.{Made, newest_id}
 use Rattle.units.specs.declared.code.Node.TheVariants.{Registry}
 use Rattle.scheme.specs.declared.registries.Scheme.{Scheme}
-use Rattle.registry_core.proofs.SoundHistories.{Sound, sound_history}
+use Rattle.safety.proofs.OneRegistry.SoundHistories.{Sound, sound_history}
 use Rattle.status.specs.declared.id.TransactionId.{TransactionId}
 use Rattle.std.proofs.lemmas.Bool.{and_from, and_parts, eq-eqb, eqb-true, not-true}
 use Rattle.protocol.specs.AtRegistry.{is_awaited}

@@ -1,23 +1,21 @@
 -- What a registry's tables say, seen from outside: its unit holdings and accounts, and inputs that it never records.
 use Rattle.std.specs.FinMap as map
-use Rattle.std.proofs.Common.{◌≡◌, ℕ, ◌+◌, ◌≤◌, Bool, true, false, cond, Option, Some, None, List, take, length, Err, inl, inr, refl, sym, ap, subst, ◌∙◌, arith}
+use Rattle.std.proofs.Common.{◌≡◌, ℕ, ◌+◌, ◌≤◌, Bool, true, false, cond, Option, Some, None, List, Err, inl, inr, refl, sym, ap, subst, ◌∙◌, arith}
 use Rattle.std.specs.List.{count_by}
-use Rattle.std.specs.Prelude.{IfSome, ◌&&◌, not, is_some, option_and_then, slice_get}
+use Rattle.std.specs.Prelude.{IfSome, ◌&&◌, not, is_some, option_and_then}
 use Rattle.std.proofs.lemmas.Bool.{cases_Bool, eqb-true, eqb-false}
 use Rattle.units.specs.RefusalCodes.{no_row}
 use Rattle.units.specs.declared.block.Unit.{Unit as Serial}
 use Rattle.units.specs.declared.code.Code.{Code}
-use Rattle.units.specs.declared.code.Node.{Node}
 use Rattle.units.specs.declared.code.Node.TheVariants.{Registry}
 use Rattle.status.specs.declared.id.TransactionId.{TransactionId}
 use Rattle.status.specs.declared.moment.Moment.{Moment}
 use Rattle.accounts.specs.declared.unit_holding.UnitHolding.{UnitHolding}
 use Rattle.wire.specs.declared.input.Input.{Input}
 use Rattle.wire.specs.declared.input.Input.TheVariants.{CleanUp, Eligible}
-use Rattle.wire.specs.declared.message.Message.{Message}
 use Rattle.scheme.specs.declared.registries.Scheme.{Scheme}
 use Rattle.protocol.specs.Cores.{IsExpectedOrNoMemory, answer}
-use Rattle.protocol.specs.History.{Transition, at_start, credits, gives, holds, reserved, sends, spendable, stands}
+use Rattle.protocol.specs.History.{Transition, at_start, credits, gives, holds, reserved, spendable}
 use Rattle.protocol.specs.Verdict.{verdict}
 use Rattle.safety.proofs.OneRegistry.UnitsCountedOnce.{Waits, counted_once}
 use Rattle.registry_core.specs.Kept.{IsKept}
@@ -25,9 +23,9 @@ use Rattle.registry_core.specs.Readings.{unit_holding_at, reserver, account_stat
 use Rattle.registry_core.specs.Registry.{IsReserving, RegistryCoreView as Core, moves, past}
 use Rattle.registry_core.specs.declared.tables.Tables.{Tables}
 use Rattle.registry_core.proofs.UnitHoldingsOfUnits.{waits_reserver, held_position, unit_holding_is_held, unit_holding_of_held, unit_holding_of_unheld, reserved_some, reserver_waits, unheld_reserver, waits_held}
-use Rattle.registry_core.proofs.SoundHistories.{Sound, sound_history}
+use Rattle.safety.proofs.OneRegistry.SoundHistories.{Sound, sound_history}
 use Rattle.safety.proofs.MovesAndHistories.NewestTransitions.{Made}
-use Rattle.registry_core.proofs.RecordedEntries.{entered_made, replays_entered}
+use Rattle.safety.proofs.OneRegistry.RecordedEntries.{entered_made, replays_entered}
 
 abbrev pub seen : Scheme → Code → Tables → Core
 seen scheme c tables = record { scheme = scheme; code = c; journal = tables.records.inputs }

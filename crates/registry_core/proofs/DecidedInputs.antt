@@ -1,7 +1,7 @@
 -- The verdict on a message that a registry refuses, and the effect of one that ends a transfer to it.
-use Rattle.std.proofs.Common.{◌≡◌, ℕ, Bool, true, false, not, List, [], ◌∷◌, Some, None, Ok, Err, inl, inr, refl, sym, ap, subst, ◌∙◌}
+use Rattle.std.proofs.Common.{◌≡◌, ℕ, Bool, true, false, not, List, [], Some, None, inl, inr, refl, sym, ap, subst, ◌∙◌}
 use Rattle.std.specs.FinMap as map
-use Rattle.std.specs.Prelude.{Result, is_some}
+use Rattle.std.specs.Prelude.{is_some}
 use Rattle.std.proofs.lemmas.Bool.{cases_Bool, cond-true, cond-false, or_parts}
 use Rattle.units.specs.Code.{same_code}
 use Rattle.units.specs.RefusalCodes.{no_row}
@@ -16,13 +16,10 @@ use Rattle.status.specs.declared.rows.RowInput.TheVariants as column
 use Rattle.status.specs.declared.rows.RowInput.TheVariants.{Notified}
 use Rattle.status.specs.declared.status.Status.{Status}
 use Rattle.status.specs.declared.status.Status.TheVariants.{Proposed, Checked, Accepted, Rejected, Terminated, Cancelled, Completed}
-use Rattle.wire.specs.declared.input.Input.{Input}
 use Rattle.wire.specs.declared.input.Input.TheVariants.{Received}
 use Rattle.wire.specs.declared.message.Message.{Message}
-use Rattle.wire.specs.declared.message.Message.TheVariants as message
-use Rattle.wire.specs.declared.message.Notification.{Notification}
-use Rattle.wire.specs.declared.message.Proposal.{Proposal}
-use Rattle.wire.specs.declared.message.Request.{Request}
+use Rattle.protocol.proofs.MessageForms as message
+use Rattle.protocol.proofs.MessageForms.{ProposalMessage, NotificationMessage, RequestMessage}
 use Rattle.scheme.specs.declared.registries.Scheme.{Scheme}
 use Rattle.status.specs.declared.moment.Moment.{Moment}
 use Rattle.protocol.specs.AtRegistry.{holding, holds_some, registry_answer, registry_refusals, unless_held}
@@ -44,7 +41,7 @@ use Rattle.registry_core.specs.declared.tables.Tables.{Tables}
 use Rattle.checks.proofs.FirstCauses.{refuse_first}
 use Rattle.registry_core.proofs.FirstRefusals.{first_none, refuse_none}
 use Rattle.registry_core.proofs.KnownHoldings.{knows}
-use Rattle.registry_core.proofs.RecordedEntries.{entered_made, replays_entered}
+use Rattle.safety.proofs.OneRegistry.RecordedEntries.{entered_made, replays_entered}
 use Rattle.registry_core.proofs.TablesSayHistory.{foreign_there_so}
 use Rattle.registry_core.proofs.TakenInputs.{verdict_so}
 
@@ -57,19 +54,19 @@ knows_so scheme c tables kept =
 -- ---- messages
 
 -- a proposal that is welcome isn't of this registry
-pub welcome_foreign : (c : Code) (es : List Entry) (p : Proposal) → first_of (registry_refusals c es (message.Proposal p)) ≡ None → same_code p.id.code c ≡ false
+pub welcome_foreign : (c : Code) (es : List Entry) (p : ProposalMessage) → first_of (registry_refusals c es (message.proposal p)) ≡ None → same_code p.id.code c ≡ false
 welcome_foreign c es p none =
-    let h = (first_none (registry_refusals c es (message.Proposal p)) none).1.1.0 in
+    let h = (first_none (registry_refusals c es (message.proposal p)) none).1.1.0 in
     (or_parts (same_code p.id.code c) _ (or_parts (not (same_code p.content.acquirer c)) _ h).1).0
 
 module _ (scheme : Scheme) (c : Code) (tables : Tables) (kept : IsKept scheme c tables) where
   -- what ends a transfer to the registry is its effect
-  pub ending_effect : (n : Notification) (moment : Moment) (told new : Status) (held : Bool) (x : Transition) → same_code n.id.code c ≡ false → x.new ≡ new
+  pub ending_effect : (n : NotificationMessage) (moment : Moment) (told new : Status) (held : Bool) (x : Transition) → same_code n.id.code c ≡ false → x.new ≡ new
       → unless_held held (acquirer_row (known (newest (transitions_of (history scheme (Registry c) tables.records.inputs)) n.id)) (Notified told)) ≡ Move new
-      → IsEffect c (history scheme (Registry c) tables.records.inputs) (Received (message.Notification n) moment) x (ending (is_some (map.get tables.acquirer.transfers n.id)) n.id new)
+      → IsEffect c (history scheme (Registry c) tables.records.inputs) (Received (message.notification n) moment) x (ending (is_some (map.get tables.acquirer.transfers n.id)) n.id new)
   ending_effect n moment told new held x foreign stood move =
       let es = history scheme (Registry c) tables.records.inputs in
-      let i = Received (message.Notification n) moment in
+      let i = Received (message.notification n) moment in
       let there = foreign_there_so scheme c tables kept n.id foreign in
       let other : is_foreign c n.id ≡ true = ap not foreign in
       elim (cases_Bool (is_some (map.get tables.acquirer.transfers n.id))) [
@@ -124,13 +121,13 @@ module _ (scheme : Scheme) (c : Code) (tables : Tables) (kept : IsKept scheme c 
   unasked_acquirer (Stands Accepted) = refl
 
   -- no registry takes a request
-  pub request_refused : (r : Request) (moment : Moment) → first_of (registry_refusals c (history scheme (Registry c) tables.records.inputs) (message.Request r)) ≡ None → verdict_by_rules scheme c tables (Received (message.Request r) moment) ≡ IsRefused no_row
+  pub request_refused : (r : RequestMessage) (moment : Moment) → first_of (registry_refusals c (history scheme (Registry c) tables.records.inputs) (message.request r)) ≡ None → verdict_by_rules scheme c tables (Received (message.request r) moment) ≡ IsRefused no_row
   request_refused r moment none =
       let es = history scheme (Registry c) tables.records.inputs in
       let last = newest (transitions_of es) r.id in
       let to = decide.moved r.id (content_in last) moment.seconds in
-      verdict_so scheme c tables (Received (message.Request r) moment)
-      ∙ refuse_none (registry_refusals c es (message.Request r)) (registry_answer scheme c es moment.seconds (message.Request r)) (first_none (registry_refusals c es (message.Request r)) none)
+      verdict_so scheme c tables (Received (message.request r) moment)
+      ∙ refuse_none (registry_refusals c es (message.request r)) _ (first_none (registry_refusals c es (message.request r)) none)
       ∙ (elim (cases_Bool (same_code r.id.code c)) [
         | inl own ↦ cond-true (same_code r.id.code c) _ _ own ∙ ap (by_row scheme es (to (initiator_sends c r.id (content_in last) column.Request))) (unasked_initiator (known last))
         | inr other ↦
@@ -141,4 +138,4 @@ module _ (scheme : Scheme) (c : Code) (tables : Tables) (kept : IsKept scheme c 
   pub message_refused : (m : Message) (moment : Moment) (code : ℕ) → first_of (registry_refusals c (history scheme (Registry c) tables.records.inputs) m) ≡ Some code → verdict_by_rules scheme c tables (Received m moment) ≡ IsRefused code
   message_refused m moment code first =
       let es = history scheme (Registry c) tables.records.inputs in
-      verdict_so scheme c tables (Received m moment) ∙ refuse_first (registry_refusals c es m) (registry_answer scheme c es moment.seconds m) code first
+      verdict_so scheme c tables (Received m moment) ∙ refuse_first (registry_refusals c es m) (registry_answer scheme c es moment.seconds m.id m.body) code first

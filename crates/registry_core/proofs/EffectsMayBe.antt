@@ -36,11 +36,11 @@ use Rattle.protocol.specs.Outgoing.{did}
 use Rattle.registry_core.specs.declared.effect.RegistryEffect.TheVariants as effects
 use Rattle.registry_core.specs.declared.effect.RegistryEffect.TheVariants.{Arrive, Ask, Cancel, Complete, Forestall, Open, Conclude}
 use Rattle.registry_core.specs.declared.tables.Tables.{Tables}
-use Rattle.registry_core.proofs.ApartContents.{awaited_apart}
+use Rattle.safety.proofs.OneRegistry.ApartContents.{awaited_apart}
 use Rattle.registry_core.proofs.UnitHoldingsAfterMoves.{units_absent}
 use Rattle.registry_core.proofs.UnitHoldingsOfUnits.{none_is}
 use Rattle.registry_core.proofs.OpenReceivers.{receivers_open}
-use Rattle.registry_core.proofs.RecordedEntries.{Entered, entered_made, replays_entered}
+use Rattle.safety.proofs.OneRegistry.RecordedEntries.{Entered, entered_made, replays_entered}
 
 -- what is recorded is a case of the tables
 pub entered_move : (scheme : Scheme) (c : Code) (es : List Entry) (input : Input) (x : Transition) → verdict scheme (Registry c) es input ≡ IsRecorded (x ∷ []) → RegistryMove scheme c es input x

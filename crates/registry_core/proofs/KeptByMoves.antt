@@ -1,7 +1,7 @@
 -- The tables say of the longer history what they said of the shorter one: after one record more that makes a
 -- transition, once its effect is carried out.
 use Rattle.std.specs.FinMap as map
-use Rattle.std.proofs.Common.{append-nil, Bool, List, None, Option, Some, [], ap, cond, false, inl, inr, length, not, refl, subst, sym, true, ℕ, ◌&&◌, ◌++◌, ◌+◌, ◌||◌, ◌∙◌, ◌∷◌, ◌≡◌}
+use Rattle.std.proofs.Common.{Bool, List, None, Option, Some, [], ap, cond, false, inl, inr, not, refl, subst, sym, true, ℕ, ◌&&◌, ◌++◌, ◌+◌, ◌||◌, ◌∙◌, ◌∷◌, ◌≡◌}
 use Rattle.std.specs.Prelude.{if◌then◌else◌, option_map, is_some}
 use Rattle.std.specs.Option.{option_or}
 use Rattle.units.specs.Code.{same_code}
@@ -28,9 +28,8 @@ use Rattle.checks.specs.declared.order.NewTransfer.{NewTransfer}
 use Rattle.wire.specs.NotifiedStatuses.{notified_status}
 use Rattle.wire.specs.declared.input.Input.{Input}
 use Rattle.wire.specs.declared.input.Input.TheVariants.{Propose, Received, Request}
-use Rattle.wire.specs.declared.message.Message.TheVariants as message
-use Rattle.wire.specs.declared.message.Notification.{Notification}
-use Rattle.wire.specs.declared.message.Proposal.{Proposal}
+use Rattle.protocol.proofs.MessageForms as message
+use Rattle.protocol.proofs.MessageForms.{ProposalMessage, NotificationMessage}
 use Rattle.scheme.specs.declared.registries.Scheme.{Scheme}
 use Rattle.protocol.proofs.Histories.{history_recorded}
 use Rattle.protocol.specs.AtRegistry.{content_of, holding, holds_some}
@@ -61,7 +60,7 @@ use Rattle.registry_core.specs.declared.tables.Tables.{Tables}
 use Rattle.registry_core.proofs.EffectsMayBe.{entered_move, foreign_of, row_content}
 use Rattle.registry_core.proofs.UnitHoldingsAfterMoves.{unit_holding_arrived, unit_holding_asked, unit_holding_bare, unit_holding_credited, unit_holding_proposed, unit_holding_concluded, unit_holding_unmoved}
 use Rattle.registry_core.proofs.NewestById.{row_changed, row_kept, row_put}
-use Rattle.registry_core.proofs.RecordedEntries.{Entered, entered_made, replays_entered}
+use Rattle.safety.proofs.OneRegistry.RecordedEntries.{Entered, entered_made, replays_entered}
 use Rattle.registry_core.proofs.RequestedTransfers.{unknown_unrequested}
 use Rattle.registry_core.proofs.StatusesOfAccounts.{is_account_order, is_request_order, proposals_kept, proposals_more, requested_kept, requested_more, account_status_kept}
 
@@ -154,13 +153,13 @@ module _ (scheme : Scheme) (c : Code) (es : List Entry) (tables tables' : Tables
         foreign = foreign_stays x mine carried.3;
       }
 
-  concluded_kept : (n : Notification) (moment : Moment) (q : Transition) (told : Status) (id : TransactionId) (new : Status) → newest (transitions_of es) n.id ≡ Some q → same_code n.id.code c ≡ true
+  concluded_kept : (n : NotificationMessage) (moment : Moment) (q : Transition) (told : Status) (id : TransactionId) (new : Status) → newest (transitions_of es) n.id ≡ Some q → same_code n.id.code c ≡ true
       → initiator_row (Stands q.new) (Notified (notified_status n.notified)) ≡ Move told → n.id ≡ id → told ≡ new
       → Carried (Conclude id new) tables.initiator tables'.initiator tables.acquirer tables'.acquirer tables.holdings tables'.holdings
-      → AreKept scheme c (entry (Received (message.Notification n) moment) (moved q told moment.seconds (concluded_messages c q.id told) ∷ []) ∷ es) tables'
+      → AreKept scheme c (entry (Received (message.notification n) moment) (moved q told moment.seconds (concluded_messages c q.id told) ∷ []) ∷ es) tables'
   concluded_kept n moment q told id new was own move same status carried =
       let x = moved q told moment.seconds (concluded_messages c q.id told) in
-      let input = Received (message.Notification n) moment in
+      let input = Received (message.notification n) moment in
       let e = entry input (x ∷ []) in
       let about : q.id ≡ n.id = (newest_id (transitions_of es) n.id q was).1 in
       let mine : same_code q.id.code c ≡ true = ap (λ (u : TransactionId). same_code u.code c) about ∙ own in
@@ -184,13 +183,13 @@ module _ (scheme : Scheme) (c : Code) (es : List Entry) (tables tables' : Tables
 
   -- ---- a transfer to the registry
 
-  arrived_kept : (p : Proposal) (moment : Moment) (found : List ℕ) (id : TransactionId) (new : Status) (content : Content) → newest (transitions_of es) p.id ≡ None → same_code p.id.code c ≡ false
+  arrived_kept : (p : ProposalMessage) (moment : Moment) (found : List ℕ) (id : TransactionId) (new : Status) (content : Content) → newest (transitions_of es) p.id ≡ None → same_code p.id.code c ≡ false
       → p.id ≡ id → (arrived c p.id p.content moment.seconds found).new ≡ new → p.content ≡ content
       → Carried (Arrive id new content) tables.initiator tables'.initiator tables.acquirer tables'.acquirer tables.holdings tables'.holdings
-      → AreKept scheme c (entry (Received (message.Proposal p) moment) (arrived c p.id p.content moment.seconds found ∷ []) ∷ es) tables'
+      → AreKept scheme c (entry (Received (message.proposal p) moment) (arrived c p.id p.content moment.seconds found ∷ []) ∷ es) tables'
   arrived_kept p moment found id new content none other same status units carried =
       let x = arrived c p.id p.content moment.seconds found in
-      let input = Received (message.Proposal p) moment in
+      let input = Received (message.proposal p) moment in
       let e = entry input (x ∷ []) in
       let changed = subst (λ u. ChangedAt u (λ (y : Option IncomingTransfer). Some (record { status = new; content = Some content })) tables.acquirer.transfers tables'.acquirer.transfers) (sym same) carried.2 in
       let came = sym status in
@@ -207,12 +206,12 @@ module _ (scheme : Scheme) (c : Code) (es : List Entry) (tables tables' : Tables
             (λ u. changed u ∙ ap (λ (r : IncomingTransfer). if same_id p.id u then Some r else map.get tables.acquirer.transfers u) row);
       }
 
-  forestalled_kept : (n : Notification) (moment : Moment) (id : TransactionId) → newest (transitions_of es) n.id ≡ None → same_code n.id.code c ≡ false → n.id ≡ id
+  forestalled_kept : (n : NotificationMessage) (moment : Moment) (id : TransactionId) → newest (transitions_of es) n.id ≡ None → same_code n.id.code c ≡ false → n.id ≡ id
       → Carried (Forestall id) tables.initiator tables'.initiator tables.acquirer tables'.acquirer tables.holdings tables'.holdings
-      → AreKept scheme c (entry (Received (message.Notification n) moment) (bare n.id moment.seconds ∷ []) ∷ es) tables'
+      → AreKept scheme c (entry (Received (message.notification n) moment) (bare n.id moment.seconds ∷ []) ∷ es) tables'
   forestalled_kept n moment id none other same carried =
       let x = bare n.id moment.seconds in
-      let input = Received (message.Notification n) moment in
+      let input = Received (message.notification n) moment in
       let e = entry input (x ∷ []) in
       let changed = subst (λ u. ChangedAt u (λ (y : Option IncomingTransfer). Some (record { status = Cancelled; content = None })) tables.acquirer.transfers tables'.acquirer.transfers) (sym same) carried.2 in
       record {
@@ -237,13 +236,13 @@ module _ (scheme : Scheme) (c : Code) (es : List Entry) (tables tables' : Tables
       (ap not theirs) (ap (newest (transitions_of es)) about ∙ was) row kept.foreign
       (subst (λ u. ChangedAt u (option_map (acquirer.finished new)) tables.acquirer.transfers tables'.acquirer.transfers) (sym (about ∙ same)) changed)
 
-  cancelled_kept : (n : Notification) (moment : Moment) (q : Transition) (told : Status) (id : TransactionId) → newest (transitions_of es) n.id ≡ Some q → same_code n.id.code c ≡ false
+  cancelled_kept : (n : NotificationMessage) (moment : Moment) (q : Transition) (told : Status) (id : TransactionId) → newest (transitions_of es) n.id ≡ Some q → same_code n.id.code c ≡ false
       → acquirer_row (Stands q.new) (Notified (notified_status n.notified)) ≡ Move told → n.id ≡ id → told ≡ Cancelled
       → Carried (Cancel id) tables.initiator tables'.initiator tables.acquirer tables'.acquirer tables.holdings tables'.holdings
-      → AreKept scheme c (entry (Received (message.Notification n) moment) (moved q told moment.seconds [] ∷ []) ∷ es) tables'
+      → AreKept scheme c (entry (Received (message.notification n) moment) (moved q told moment.seconds [] ∷ []) ∷ es) tables'
   cancelled_kept n moment q told id was other move same status carried =
       let x = moved q told moment.seconds [] in
-      let input = Received (message.Notification n) moment in
+      let input = Received (message.notification n) moment in
       let e = entry input (x ∷ []) in
       let theirs : same_code q.id.code c ≡ false = ap (λ (u : TransactionId). same_code u.code c) (newest_id (transitions_of es) n.id q was).1 ∙ other in
       record {
@@ -257,7 +256,7 @@ module _ (scheme : Scheme) (c : Code) (es : List Entry) (tables tables' : Tables
       }
 
   -- what comes to its end has a content
-  ended_content : (n : Notification) (q : Transition) (told : Status) → newest (transitions_of es) n.id ≡ Some q → same_code n.id.code c ≡ false → acquirer_row (Stands q.new) (Notified (notified_status n.notified)) ≡ Move told
+  ended_content : (n : NotificationMessage) (q : Transition) (told : Status) → newest (transitions_of es) n.id ≡ Some q → same_code n.id.code c ≡ false → acquirer_row (Stands q.new) (Notified (notified_status n.notified)) ≡ Move told
       → (k : Content) × (q.content ≡ Some k)
   ended_content n q told was other move =
       elim (known scheme c es made_so n.id q was other) [
@@ -265,13 +264,13 @@ module _ (scheme : Scheme) (c : Code) (es : List Entry) (tables tables' : Tables
         | inr taken ↦ (taken.content, taken.is)
       ]
 
-  completed_kept : (n : Notification) (moment : Moment) (q : Transition) (told : Status) (id : TransactionId) → newest (transitions_of es) n.id ≡ Some q → same_code n.id.code c ≡ false
+  completed_kept : (n : NotificationMessage) (moment : Moment) (q : Transition) (told : Status) (id : TransactionId) → newest (transitions_of es) n.id ≡ Some q → same_code n.id.code c ≡ false
       → acquirer_row (Stands q.new) (Notified (notified_status n.notified)) ≡ Move told → (same_status told Completed && holds_some scheme c (transitions_of es) q.content) ≡ false → n.id ≡ id → told ≡ Completed
       → Carried (Complete id) tables.initiator tables'.initiator tables.acquirer tables'.acquirer tables.holdings tables'.holdings
-      → AreKept scheme c (entry (Received (message.Notification n) moment) (moved q told moment.seconds [] ∷ []) ∷ es) tables'
+      → AreKept scheme c (entry (Received (message.notification n) moment) (moved q told moment.seconds [] ∷ []) ∷ es) tables'
   completed_kept n moment q told id was other move none same status carried =
       let x = moved q told moment.seconds [] in
-      let input = Received (message.Notification n) moment in
+      let input = Received (message.notification n) moment in
       let e = entry input (x ∷ []) in
       let theirs : same_code q.id.code c ≡ false = ap (λ (u : TransactionId). same_code u.code c) (newest_id (transitions_of es) n.id q was).1 ∙ other in
       let k = ended_content n q told was other move in

@@ -34,7 +34,7 @@ use Rattle.registry_core.proofs.EffectsMayBe.{row_none}
 use Rattle.registry_core.specs.declared.effect.RegistryEffect.{RegistryEffect}
 use Rattle.registry_core.specs.declared.effect.RegistryEffect.TheVariants as effects
 use Rattle.registry_core.proofs.KeptByMoves.{entry, kept_moved, kept_recorded, rows_same}
-use Rattle.registry_core.proofs.RecordedEntries.{recorded_causes}
+use Rattle.safety.proofs.OneRegistry.RecordedEntries.{recorded_causes}
 use Rattle.registry_core.proofs.StatusesOfAccounts.{is_request_order, proposals_kept, requested_kept, account_status_closed, account_status_kept, account_status_opened}
 
 entered_so : (scheme : Scheme) (c : Code) (es : List Entry) (input : Input) (xs : List Transition) → verdict scheme (Registry c) es input ≡ IsRecorded xs → registry_verdict scheme c es input ≡ IsRecorded xs

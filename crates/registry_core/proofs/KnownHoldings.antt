@@ -19,7 +19,7 @@ use Rattle.std.specs.Prelude.{is_some, option_map}
 use Rattle.registry_core.specs.Readings.{unit_holding_at, unit_holding_in, reserver, account_status_at}
 use Rattle.std.specs.Option.{option_map_or}
 use Rattle.units.specs.Unit.{same_kind}
-use Rattle.registry_core.proofs.SoundHistories.{sound_history}
+use Rattle.safety.proofs.OneRegistry.SoundHistories.{sound_history}
 
 -- what a unit holding says of a piece is what its position says
 unit_holding_says : (r : Option TransactionId) (q : Option Position) (n : ℕ) (p : Piece) → is_position q n p ≡ option_map_or (λ (unit_holding : UnitHolding). (unit_holding.account == n) && same_kind unit_holding.kind p.kind) (option_map (unit_holding_in r) q) false

@@ -1,4 +1,3 @@
-pub mod SoundHistories
 pub mod UnitHoldingsOfUnits
 pub mod KnownHoldings
 pub mod StepsOfUnitHoldings
@@ -9,9 +8,7 @@ pub mod NewestById
 pub mod UsedAccounts
 pub mod AwaitedTransfers
 pub mod OpeningUnitHoldings
-pub mod RecordedEntries
 pub mod OpenReceivers
-pub mod ApartContents
 pub mod RequestedTransfers
 pub mod FirstRefusals
 pub mod AccountVerdicts

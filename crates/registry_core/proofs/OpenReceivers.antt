@@ -5,7 +5,7 @@ use Rattle.wire.specs.declared.input.Input.TheVariants.{Ack, CleanUp, CloseAccou
 use Rattle.std.proofs.Common.{Bool, List, None, Some, [], ap, cond, false, inl, inr, refl, subst, sym, true, ℕ, ◌==◌, ◌∙◌, ◌∷◌, ◌≡◌}
 use Rattle.units.specs.declared.code.Code.{Code}
 use Rattle.status.specs.Content.{Content}
-use Rattle.registry_core.proofs.RecordedEntries.{Entered, entered_made, recorded_causes, entered_registry}
+use Rattle.safety.proofs.OneRegistry.RecordedEntries.{Entered, entered_made, recorded_causes, entered_registry}
 use Rattle.protocol.specs.Deciding.{IsRecorded, recorded_if_room, known}
 use Rattle.protocol.specs.History.{Entry, Transition, closes, is_closed, newest, transitions_of}
 use Rattle.wire.specs.declared.input.Input.{Input}

@@ -4,7 +4,7 @@ use Rattle.protocol.specs.Deciding as decide
 use Rattle.wire.specs.declared.input.Input.TheVariants.{Ack, CleanUp, CloseAccount, Eligible, OpenAccount, Propose, Received, Request}
 use Rattle.std.proofs.Common.{List, None, Some, [], ap, false, inl, inr, refl, sym, true, ◌&&◌, ◌++◌, ◌∙◌, ◌∷◌, ◌≡◌, Option}
 use Rattle.units.specs.declared.code.Code.{Code}
-use Rattle.registry_core.proofs.RecordedEntries.{Entered, entered_registry, recorded_causes}
+use Rattle.safety.proofs.OneRegistry.RecordedEntries.{Entered, entered_registry, recorded_causes}
 use Rattle.protocol.specs.Deciding.{IsRecorded}
 use Rattle.protocol.specs.History.{Entry, Transition, is_known, is_request_of, is_requested, newest, transitions_of}
 use Rattle.wire.specs.declared.input.Input.{Input}

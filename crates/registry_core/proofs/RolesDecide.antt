@@ -26,9 +26,8 @@ use Rattle.wire.specs.NotifiedStatuses.{notified_status}
 use Rattle.wire.specs.declared.input.Input.{Input}
 use Rattle.wire.specs.declared.input.Input.TheVariants.{Propose, Received, Request}
 use Rattle.wire.specs.declared.message.Message.{Message}
-use Rattle.wire.specs.declared.message.Message.TheVariants as message
-use Rattle.wire.specs.declared.message.Notification.{Notification}
-use Rattle.wire.specs.declared.message.Proposal.{Proposal}
+use Rattle.protocol.proofs.MessageForms as message
+use Rattle.protocol.proofs.MessageForms.{ProposalMessage, NotificationMessage}
 use Rattle.scheme.specs.declared.registries.Scheme.{Scheme}
 use Rattle.protocol.specs.AtRegistry.{content_of, holding, registry_refusals, unless_held}
 use Rattle.protocol.specs.Checks.{Holding, acquirer_findings}
@@ -171,31 +170,31 @@ module _ {scheme : Scheme} {c : Code} {tables : Tables} (kept : IsKept scheme c 
   request_sent t {ms} new sent = sent (last_content t) ∙ ap (λ e. initiator_sends e t (last_content t) (asked_column t)) kept.kept.initiator
 
   -- a proposal
-  abbrev pub findings : Proposal → List ℕ
+  abbrev pub findings : ProposalMessage → List ℕ
   findings p = acquirer_findings scheme c (holding scheme c (past scheme c tables)) p.content
 
-  abbrev kept_in : Proposal → Option Content
+  abbrev kept_in : ProposalMessage → Option Content
   kept_in p = acquirer.kept_content (get tables.acquirer.transfers p.id)
 
-  abbrev arrive_row_of : Proposal → Row
+  abbrev arrive_row_of : ProposalMessage → Row
   arrive_row_of p = acquirer_row (acquirer.known_transfer (get tables.acquirer.transfers p.id)) (column_of_proposal (kept_in p) (findings p))
 
-  abbrev pub to_arrive : Proposal → Moment → Status → Transition
+  abbrev pub to_arrive : ProposalMessage → Moment → Status → Transition
   to_arrive p moment = moved p.id (Some p.content) moment.seconds (acquirer_sends c p.id (findings p) (column_of_proposal (kept_in p) (findings p)))
 
   -- what was found in it, where it is new
-  abbrev pub AreFound : Proposal → List ℕ → Type 0
+  abbrev pub AreFound : ProposalMessage → List ℕ → Type 0
   AreFound p codes = (q : Holding) → Knows scheme tables.acquirer.code tables.holdings q → codes ≡ cond (is_some (kept_in p)) [] (acquirer_findings scheme tables.acquirer.code q p.content)
 
-  found_so : (p : Proposal) (codes : List ℕ) → AreFound p codes → codes ≡ cond (is_some (kept_in p)) [] (findings p)
+  found_so : (p : ProposalMessage) (codes : List ℕ) → AreFound p codes → codes ≡ cond (is_some (kept_in p)) [] (findings p)
   found_so p codes found =
       let h = holding scheme c (past scheme c tables) in
       subst (λ e. Knows scheme e tables.holdings h → codes ≡ cond (is_some (kept_in p)) [] (acquirer_findings scheme e h p.content)) kept.kept.acquirer (found h) (knows_so scheme c tables kept)
 
-  arrive_decides : {d : Result Decision Refusal} (p : Proposal) (codes : List ℕ) → AreFound p codes → d ≡ decided (acquirer_row (acquirer.known_transfer (get tables.acquirer.transfers p.id)) (column_of_proposal (kept_in p) codes)) → d ≡ decided (arrive_row_of p)
+  arrive_decides : {d : Result Decision Refusal} (p : ProposalMessage) (codes : List ℕ) → AreFound p codes → d ≡ decided (acquirer_row (acquirer.known_transfer (get tables.acquirer.transfers p.id)) (column_of_proposal (kept_in p) codes)) → d ≡ decided (arrive_row_of p)
   arrive_decides p codes found decides = decides ∙ ap (λ col. decided (acquirer_row (acquirer.known_transfer (get tables.acquirer.transfers p.id)) col)) (same_column (kept_in p) codes (findings p) (found_so p codes found))
 
-  pub arrived : {input : Input} {d : Result Decision Refusal} {p : Proposal} {moment : Moment} {codes : List ℕ} → input ≡ Received (message.Proposal p) moment → first_of (registry_refusals c (past scheme c tables) (message.Proposal p)) ≡ None → AreFound p codes
+  pub arrived : {input : Input} {d : Result Decision Refusal} {p : ProposalMessage} {moment : Moment} {codes : List ℕ} → input ≡ Received (message.proposal p) moment → first_of (registry_refusals c (past scheme c tables) (message.proposal p)) ≡ None → AreFound p codes
       → d ≡ decided (acquirer_row (acquirer.known_transfer (get tables.acquirer.transfers p.id)) (column_of_proposal (kept_in p) codes)) → Decided scheme c tables input (to_arrive p moment) d
   arrived {input} {d} {p} {moment} {codes} given welcome found decides =
       record {
@@ -204,7 +203,7 @@ module _ {scheme : Scheme} {c : Code} {tables : Tables} (kept : IsKept scheme c 
             ∙ decided_so scheme (past scheme c tables) (to_arrive p moment) [] (arrive_row_of p) d (arrive_decides p codes found decides);
       }
 
-  pub arrival_sent : {d : Result Decision Refusal} (p : Proposal) {codes : List ℕ} {new : Status} {ms : List Message} (moment : Moment) → AreFound p codes
+  pub arrival_sent : {d : Result Decision Refusal} (p : ProposalMessage) {codes : List ℕ} {new : Status} {ms : List Message} (moment : Moment) → AreFound p codes
       → d ≡ decided (acquirer_row (acquirer.known_transfer (get tables.acquirer.transfers p.id)) (column_of_proposal (kept_in p) codes)) → d ≡ Ok (Moves new) → ms ≡ acquirer_sends tables.acquirer.code p.id codes (column_of_proposal None codes) → ms ≡ (to_arrive p moment new).messages
   arrival_sent {d} p {codes} {new} {ms} moment found decides h sent =
       let new_here = moves_new p.id (get tables.acquirer.transfers p.id) (findings p) new (moves_by (arrive_row_of p) new (sym (arrive_decides p codes found decides) ∙ h)) in
@@ -212,13 +211,13 @@ module _ {scheme : Scheme} {c : Code} {tables : Tables} (kept : IsKept scheme c 
       sent ∙ (λ i. acquirer_sends (kept.kept.acquirer i) p.id (same i) (column_of_proposal None (same i))) ∙ ap (λ k. acquirer_sends c p.id (findings p) (column_of_proposal k (findings p))) (sym new_here)
 
   -- a notification on a transfer out of the registry
-  abbrev conclude_row_of : Notification → Row
+  abbrev conclude_row_of : NotificationMessage → Row
   conclude_row_of n = initiator_row (initiator.known_transfer (get tables.initiator.transfers n.id)) (Notified (notified_status n.notified))
 
-  abbrev pub to_conclude : Notification → Moment → Status → Transition
+  abbrev pub to_conclude : NotificationMessage → Moment → Status → Transition
   to_conclude n moment = moved n.id (last_content n.id) moment.seconds (initiator_sends c n.id (last_content n.id) (Notified (notified_status n.notified)))
 
-  pub concluded : {input : Input} {d : Result Decision Refusal} {n : Notification} {moment : Moment} {told : Status} → input ≡ Received (message.Notification n) moment → first_of (registry_refusals c (past scheme c tables) (message.Notification n)) ≡ None → same_code n.id.code c ≡ true
+  pub concluded : {input : Input} {d : Result Decision Refusal} {n : NotificationMessage} {moment : Moment} {told : Status} → input ≡ Received (message.notification n) moment → first_of (registry_refusals c (past scheme c tables) (message.notification n)) ≡ None → same_code n.id.code c ≡ true
       → told ≡ notified_status n.notified → d ≡ decided (initiator_row (initiator.known_transfer (get tables.initiator.transfers n.id)) (Notified told)) → Decided scheme c tables input (to_conclude n moment) d
   concluded {input} {d} {n} {moment} {told} given welcome own is decides =
       record {
@@ -227,31 +226,31 @@ module _ {scheme : Scheme} {c : Code} {tables : Tables} (kept : IsKept scheme c 
             ∙ decided_so scheme (past scheme c tables) (to_conclude n moment) [] (conclude_row_of n) d (decides ∙ ap (λ s. decided (initiator_row (initiator.known_transfer (get tables.initiator.transfers n.id)) (Notified s))) is);
       }
 
-  pub conclusion_sent : (n : Notification) {told : Status} {ms : List Message} (moment : Moment) (new : Status) → told ≡ notified_status n.notified → ((k : Option Content) → ms ≡ initiator_sends tables.initiator.code n.id k (Notified told)) → ms ≡ (to_conclude n moment new).messages
+  pub conclusion_sent : (n : NotificationMessage) {told : Status} {ms : List Message} (moment : Moment) (new : Status) → told ≡ notified_status n.notified → ((k : Option Content) → ms ≡ initiator_sends tables.initiator.code n.id k (Notified told)) → ms ≡ (to_conclude n moment new).messages
   conclusion_sent n {told} {ms} moment new is sent = sent (last_content n.id) ∙ (λ i. initiator_sends (kept.kept.initiator i) n.id (last_content n.id) (Notified (is i)))
 
   -- a notification on a transfer to the registry
-  abbrev pub to_finish : Notification → Moment → Status → Transition
+  abbrev pub to_finish : NotificationMessage → Moment → Status → Transition
   to_finish n moment = moved n.id (last_content n.id) moment.seconds []
 
-  abbrev pub is_held : Holding → Notification → Bool
+  abbrev pub is_held : Holding → NotificationMessage → Bool
   is_held q n = option_map_or (λ x. list_any (λ p. q.is_held p.unit) (pieces x.units)) (acquirer.kept_content (get tables.acquirer.transfers n.id)) false
 
-  abbrev finish_row_of : Notification → Row
+  abbrev finish_row_of : NotificationMessage → Row
   finish_row_of n = unless_held (is_held (holding scheme c (past scheme c tables)) n) (acquirer_row (acquirer.known_transfer (get tables.acquirer.transfers n.id)) (Notified (notified_status n.notified)))
 
   -- what the acquirer says to one of that status
-  abbrev pub AreDecided : Notification → Status → Result Decision Refusal → Type 0
+  abbrev pub AreDecided : NotificationMessage → Status → Result Decision Refusal → Type 0
   AreDecided n told d = (q : Holding) → Knows scheme tables.acquirer.code tables.holdings q → d ≡ decided (unless_held (is_held q n) (acquirer_row (acquirer.known_transfer (get tables.acquirer.transfers n.id)) (Notified told)))
 
-  finish_decides : {d : Result Decision Refusal} (n : Notification) {told : Status} → told ≡ notified_status n.notified → AreDecided n told d → d ≡ decided (finish_row_of n)
+  finish_decides : {d : Result Decision Refusal} (n : NotificationMessage) {told : Status} → told ≡ notified_status n.notified → AreDecided n told d → d ≡ decided (finish_row_of n)
   finish_decides {d} n {told} is decides =
       let h = holding scheme c (past scheme c tables) in
       subst (λ e. Knows scheme e tables.holdings h → d ≡ decided (unless_held (is_held h n) (acquirer_row (acquirer.known_transfer (get tables.acquirer.transfers n.id)) (Notified told)))) kept.kept.acquirer (decides h) (knows_so scheme c tables kept)
       ∙ ap (λ t. decided (unless_held (is_held h n) (acquirer_row (acquirer.known_transfer (get tables.acquirer.transfers n.id)) (Notified t)))) is
 
-  pub finished : {input : Input} {d : Result Decision Refusal} {n : Notification} {moment : Moment} {told : Status} → input ≡ Received (message.Notification n) moment
-      → first_of (registry_refusals c (past scheme c tables) (message.Notification n)) ≡ None → same_code n.id.code c ≡ false → told ≡ notified_status n.notified → AreDecided n told d → Decided scheme c tables input (to_finish n moment) d
+  pub finished : {input : Input} {d : Result Decision Refusal} {n : NotificationMessage} {moment : Moment} {told : Status} → input ≡ Received (message.notification n) moment
+      → first_of (registry_refusals c (past scheme c tables) (message.notification n)) ≡ None → same_code n.id.code c ≡ false → told ≡ notified_status n.notified → AreDecided n told d → Decided scheme c tables input (to_finish n moment) d
   finished {input} {d} {n} {moment} {told} given welcome foreign is decides =
       record {
         verdict_is =
@@ -259,10 +258,10 @@ module _ {scheme : Scheme} {c : Code} {tables : Tables} (kept : IsKept scheme c 
       }
 
   -- what ends the transfer is the effect
-  pub finish_effect : {d : Result Decision Refusal} (n : Notification) (moment : Moment) {told new : Status} {effect : RegistryEffect} → same_code n.id.code c ≡ false → told ≡ notified_status n.notified → AreDecided n told d
-      → d ≡ Ok (Moves new) → effect ≡ ending (is_some (get tables.acquirer.transfers n.id)) n.id new → IsEffect c (past scheme c tables) (Received (message.Notification n) moment) (to_finish n moment new) effect
+  pub finish_effect : {d : Result Decision Refusal} (n : NotificationMessage) (moment : Moment) {told new : Status} {effect : RegistryEffect} → same_code n.id.code c ≡ false → told ≡ notified_status n.notified → AreDecided n told d
+      → d ≡ Ok (Moves new) → effect ≡ ending (is_some (get tables.acquirer.transfers n.id)) n.id new → IsEffect c (past scheme c tables) (Received (message.notification n) moment) (to_finish n moment new) effect
   finish_effect {d} n moment {told} {new} {effect} foreign is decides h ends =
       let row = moves_by (finish_row_of n) new (sym (finish_decides n is decides) ∙ h) in
-      subst (λ e. IsEffect c (past scheme c tables) (Received (message.Notification n) moment) (to_finish n moment new) e) (sym ends)
+      subst (λ e. IsEffect c (past scheme c tables) (Received (message.notification n) moment) (to_finish n moment new) e) (sym ends)
       (ending_effect scheme c tables kept n moment (notified_status n.notified) new (is_held (holding scheme c (past scheme c tables)) n) (to_finish n moment new) foreign refl
       (ap (λ q. unless_held (is_held (holding scheme c (past scheme c tables)) n) (acquirer_row q (Notified (notified_status n.notified)))) (sym (foreign_known_so scheme c tables kept n.id foreign)) ∙ row))

@@ -18,11 +18,10 @@ use Rattle.status.specs.declared.rows.RowInput.TheVariants as column
 use Rattle.status.specs.declared.rows.RowInput.TheVariants.{Notified}
 use Rattle.wire.specs.NotifiedStatuses.{notified_status}
 use Rattle.wire.specs.declared.input.Input.TheVariants.{Propose, Request, Received}
-use Rattle.wire.specs.declared.message.Message.TheVariants as message
-use Rattle.wire.specs.declared.message.Notification.{Notification}
-use Rattle.wire.specs.declared.message.Proposal.{Proposal}
+use Rattle.protocol.proofs.MessageForms as message
+use Rattle.protocol.proofs.MessageForms.{ProposalMessage, NotificationMessage}
 use Rattle.scheme.specs.declared.registries.Scheme.{Scheme}
-use Rattle.protocol.specs.AtRegistry.{arrival, content_of, holding, holds_some, in_role, new_transfer_verdict, registry_answer, registry_refusals, request_column, unless_held}
+use Rattle.protocol.specs.AtRegistry.{arrival, content_of, holding, holds_some, in_role, new_transfer_verdict, registry_refusals, request_column, unless_held}
 use Rattle.protocol.specs.Checks.{acquirer_findings, propose_refusals}
 use Rattle.protocol.specs.Deciding as decide
 use Rattle.protocol.specs.Deciding.{IsRefused, Verdict, by_row, content_in, column_of_proposal, refuse}
@@ -91,26 +90,26 @@ module _ (scheme : Scheme) (c : Code) (tables : Tables) (kept : IsKept scheme c 
 
   -- ---- messages that aren't refused for what they are
 
-  pub arrive_row : (p : Proposal) (moment : Moment) (found : List ℕ) → first_of (registry_refusals c es (message.Proposal p)) ≡ None → same_code p.id.code c ≡ false → found ≡ acquirer_findings scheme c (holding scheme c es) p.content
-      → verdict_by_rules scheme c tables (Received (message.Proposal p) moment)
+  pub arrive_row : (p : ProposalMessage) (moment : Moment) (found : List ℕ) → first_of (registry_refusals c es (message.proposal p)) ≡ None → same_code p.id.code c ≡ false → found ≡ acquirer_findings scheme c (holding scheme c es) p.content
+      → verdict_by_rules scheme c tables (Received (message.proposal p) moment)
       ≡ by_row scheme es (decide.moved p.id (Some p.content) moment.seconds (acquirer_sends c p.id found (column_of_proposal (acquirer.kept_content (map.get tables.acquirer.transfers p.id)) found)))
       (acquirer_row (acquirer.known_transfer (map.get tables.acquirer.transfers p.id)) (column_of_proposal (acquirer.kept_content (map.get tables.acquirer.transfers p.id)) found))
   arrive_row p moment found none foreign is =
-      verdict_so scheme c tables (Received (message.Proposal p) moment)
-      ∙ refuse_none (registry_refusals c es (message.Proposal p)) (registry_answer scheme c es moment.seconds (message.Proposal p)) (first_none (registry_refusals c es (message.Proposal p)) none)
+      verdict_so scheme c tables (Received (message.proposal p) moment)
+      ∙ refuse_none (registry_refusals c es (message.proposal p)) _ (first_none (registry_refusals c es (message.proposal p)) none)
       ∙ ap (arrival scheme c es p.id (newest (transitions_of es) p.id) p.content moment.seconds) (sym is)
       ∙ ap (λ k. by_row scheme es (decide.moved p.id (Some p.content) moment.seconds (acquirer_sends c p.id found (column_of_proposal k found))) (acquirer_row (decide.known (newest (transitions_of es) p.id)) (column_of_proposal k found))) (sym (foreign_content_so scheme c tables kept p.id foreign))
       ∙ ap (λ k. by_row scheme es (decide.moved p.id (Some p.content) moment.seconds (acquirer_sends c p.id found (column_of_proposal (acquirer.kept_content (map.get tables.acquirer.transfers p.id)) found)))
       (acquirer_row k (column_of_proposal (acquirer.kept_content (map.get tables.acquirer.transfers p.id)) found))) (sym (foreign_known_so scheme c tables kept p.id foreign))
 
-  heard : (n : Notification) (moment : Moment) → first_of (registry_refusals c es (message.Notification n)) ≡ None
-      → verdict_by_rules scheme c tables (Received (message.Notification n) moment) ≡ in_role scheme c es n.id (newest (transitions_of es) n.id) moment.seconds (Notified (notified_status n.notified))
+  heard : (n : NotificationMessage) (moment : Moment) → first_of (registry_refusals c es (message.notification n)) ≡ None
+      → verdict_by_rules scheme c tables (Received (message.notification n) moment) ≡ in_role scheme c es n.id (newest (transitions_of es) n.id) moment.seconds (Notified (notified_status n.notified))
   heard n moment none =
-      verdict_so scheme c tables (Received (message.Notification n) moment)
-      ∙ refuse_none (registry_refusals c es (message.Notification n)) (registry_answer scheme c es moment.seconds (message.Notification n)) (first_none (registry_refusals c es (message.Notification n)) none)
+      verdict_so scheme c tables (Received (message.notification n) moment)
+      ∙ refuse_none (registry_refusals c es (message.notification n)) _ (first_none (registry_refusals c es (message.notification n)) none)
 
-  pub conclude_row : (n : Notification) (moment : Moment) → first_of (registry_refusals c es (message.Notification n)) ≡ None → same_code n.id.code c ≡ true
-      → verdict_by_rules scheme c tables (Received (message.Notification n) moment)
+  pub conclude_row : (n : NotificationMessage) (moment : Moment) → first_of (registry_refusals c es (message.notification n)) ≡ None → same_code n.id.code c ≡ true
+      → verdict_by_rules scheme c tables (Received (message.notification n) moment)
       ≡ by_row scheme es (decide.moved n.id (content_in (newest (transitions_of es) n.id)) moment.seconds (initiator_sends c n.id (content_in (newest (transitions_of es) n.id)) (Notified (notified_status n.notified))))
       (initiator_row (initiator.known_transfer (map.get tables.initiator.transfers n.id)) (Notified (notified_status n.notified)))
   conclude_row n moment none own =
@@ -119,8 +118,8 @@ module _ (scheme : Scheme) (c : Code) (tables : Tables) (kept : IsKept scheme c 
       (initiator_row k (Notified (notified_status n.notified)))) (sym (own_known_so scheme c tables kept n.id own))
 
   -- as the acquirer's table says, and not while a unit is held
-  pub finish_row : (n : Notification) (moment : Moment) → first_of (registry_refusals c es (message.Notification n)) ≡ None → same_code n.id.code c ≡ false
-      → verdict_by_rules scheme c tables (Received (message.Notification n) moment)
+  pub finish_row : (n : NotificationMessage) (moment : Moment) → first_of (registry_refusals c es (message.notification n)) ≡ None → same_code n.id.code c ≡ false
+      → verdict_by_rules scheme c tables (Received (message.notification n) moment)
       ≡ by_row scheme es (decide.moved n.id (content_in (newest (transitions_of es) n.id)) moment.seconds [])
       (unless_held (option_map_or (λ k. list_any (λ p. (holding scheme c es).is_held p.unit) (pieces k.units)) (acquirer.kept_content (map.get tables.acquirer.transfers n.id)) false)
       (acquirer_row (acquirer.known_transfer (map.get tables.acquirer.transfers n.id)) (Notified (notified_status n.notified))))

@@ -8,7 +8,7 @@ use Rattle.accounts.specs.declared.unit_holding.UnitHolding.{UnitHolding}
 use Rattle.protocol.specs.History.{Position, Transition, at_start, credits, gives, holds, newest, position, position_in, carries, has_serial, credited_position}
 use Rattle.scheme.specs.declared.registries.Scheme.{Scheme}
 use Rattle.units.specs.declared.block.Unit.{Unit as Serial}
-use Rattle.registry_core.proofs.SoundHistories.{Sound}
+use Rattle.safety.proofs.OneRegistry.SoundHistories.{Sound}
 use Rattle.status.specs.declared.id.TransactionId.{TransactionId}
 use Rattle.safety.proofs.OneRegistry.UnitsCountedOnce.{waits_older, Waits, free_content}
 use Rattle.units.proofs.Lists.OneValue.{clash, one_some}

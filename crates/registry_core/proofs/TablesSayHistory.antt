@@ -29,9 +29,9 @@ use Rattle.registry_core.specs.declared.tables.Tables.{Tables}
 use Rattle.registry_core.specs.Kept.{IsKept}
 use Rattle.registry_core.specs.Readings.{foreign_row, own_row}
 use Rattle.registry_core.proofs.AwaitedTransfers.{awaited_row, row_awaited}
-use Rattle.registry_core.proofs.RecordedEntries.{Entered, entered_made, replays_entered}
+use Rattle.safety.proofs.OneRegistry.RecordedEntries.{Entered, entered_made, replays_entered}
 use Rattle.registry_core.proofs.RequestedTransfers.{own_known, unknown_unrequested}
-use Rattle.registry_core.proofs.SoundHistories.{sound_history}
+use Rattle.safety.proofs.OneRegistry.SoundHistories.{sound_history}
 
 -- the history of the tables' journal
 abbrev pub past : Scheme → Code → Tables → List Entry

@@ -1,5 +1,5 @@
 -- What tables have done with an acknowledgement, which the records take.
-use Rattle.std.proofs.Common.{◌≡◌, [], length, Ok, Err, inl, inr, sym, ap, subst, ◌∙◌}
+use Rattle.std.proofs.Common.{◌≡◌, Ok, Err, subst}
 use Rattle.std.specs.Prelude.{Result}
 use Rattle.units.specs.declared.code.Code.{Code}
 use Rattle.units.specs.declared.code.Node.TheVariants.{Registry}
@@ -8,10 +8,8 @@ use Rattle.wire.specs.declared.input.Input.{Input}
 use Rattle.wire.specs.declared.input.Input.TheVariants.{Ack}
 use Rattle.wire.specs.declared.input.Number.{Number}
 use Rattle.scheme.specs.declared.registries.Scheme.{Scheme}
-use Rattle.protocol.specs.Cores.{IsExpectedOrNoMemory, answer}
-use Rattle.protocol.specs.Deciding.{IsRecorded}
 use Rattle.protocol.specs.Taking.{TakesInto}
-use Rattle.protocol.specs.Verdict.{history, verdict}
+use Rattle.protocol.specs.Verdict.{history}
 use Rattle.protocol.specs.declared.node_core.Stepped.{Stepped}
 use Rattle.protocol.specs.declared.node_core.Stepped.TheVariants as stepped
 use Rattle.protocol.proofs.TakenIntoRecords.{ack_recorded}

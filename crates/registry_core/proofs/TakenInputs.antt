@@ -1,5 +1,5 @@
 -- What tables have done with an input: nothing, where it is refused or was acted on before, or one record more.
-use Rattle.std.proofs.Common.{◌≡◌, ◌++◌, ◌∷◌, [], ℕ, List, length, Ok, Err, refl, sym, ap, subst, ◌∙◌}
+use Rattle.std.proofs.Common.{◌≡◌, ℕ, Ok, Err, refl, sym, ap, subst, ◌∙◌}
 use Rattle.std.specs.FinMap as map
 use Rattle.std.specs.Prelude.{Result}
 use Rattle.std.specs.Result.{IsErrAnd}
@@ -11,7 +11,6 @@ use Rattle.scheme.specs.declared.registries.Scheme.{Scheme}
 use Rattle.records.specs.Records.{RecordsView}
 use Rattle.protocol.specs.AtRegistry.{registry_verdict}
 use Rattle.protocol.specs.Decisions.{step_of}
-use Rattle.protocol.specs.History.{Entry}
 use Rattle.protocol.specs.Taking.{TakesInto}
 use Rattle.protocol.specs.Verdict.{history, verdict}
 use Rattle.protocol.specs.declared.decision.Stale.{Stale}

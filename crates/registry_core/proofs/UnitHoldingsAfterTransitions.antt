@@ -5,7 +5,7 @@ use Rattle.units.specs.declared.block.Block.{Block}
 use Rattle.units.specs.declared.code.Code.{Code}
 use Rattle.status.specs.declared.status.Status.TheVariants.{Completed, Proposed}
 use Rattle.status.specs.Content.{Content, raws}
-use Rattle.registry_core.proofs.SoundHistories.{ContentsKept, Sound, follows_keeps, sound_history}
+use Rattle.safety.proofs.OneRegistry.SoundHistories.{ContentsKept, Sound, follows_keeps, sound_history}
 use Rattle.registry_core.proofs.StepsOfUnitHoldings.{Ends, covers_raws, foreign_unit_holding, moved_unit_holding, newly_reserved, released_unit_holding, removed_unit_holding, taken_unit_holding, waits_on}
 use Rattle.protocol.specs.History.{Entry, Transition, carries, credits, gives, has_serial, holds, newest, position, reserved, transitions_of}
 use Rattle.std.proofs.Common.{List, None, Some, [], ap, false, inl, inr, not, subst, sym, true, ◌&&◌, ◌∙◌, ◌∷◌, ◌≡◌}

@@ -10,7 +10,7 @@ use Rattle.accounts.specs.declared.unit_holding.UnitHolding.{UnitHolding}
 use Rattle.protocol.specs.History.{Position, Transition, at_start, credited_position, has_serial, is_status, is_with, position_in, stands_at, carries, credits, gives, holds, position, reserved}
 use Rattle.scheme.specs.declared.registries.Scheme.{Scheme}
 use Rattle.units.specs.declared.block.Unit.{Unit as Serial}
-use Rattle.registry_core.proofs.SoundHistories.{Sound}
+use Rattle.safety.proofs.OneRegistry.SoundHistories.{Sound}
 use Rattle.status.specs.declared.id.TransactionId.{TransactionId}
 use Rattle.safety.proofs.OneRegistry.UnitsCountedOnce.{Waits, reserved_waits}
 use Rattle.std.proofs.lemmas.Bool.{and_parts, cases_Bool, cond-false, cond-true, eq-eqb, eqb-true}

@@ -20,7 +20,8 @@ use Rattle.accounts.specs.declared.unit_holding.AccountStatus.TheVariants as acc
 use Rattle.accounts.specs.declared.unit_holding.UnitHolding.{UnitHolding}
 use Rattle.wire.specs.declared.input.Input.{Input}
 use Rattle.wire.specs.declared.input.Input.TheVariants.{Propose, Request, OpenAccount, CloseAccount, Received}
-use Rattle.wire.specs.declared.message.Message.TheVariants as message
+use Rattle.wire.specs.declared.message.Body.{Body}
+use Rattle.wire.specs.declared.message.Body.TheVariants as body
 use Rattle.protocol.specs.History.{Entry, Transition, transitions_of, is_known}
 use Rattle.initiator.specs.Transfers as initiator
 use Rattle.initiator.specs.Transfers.{InitiatorView}
@@ -32,15 +33,20 @@ use Rattle.registry_core.specs.declared.effect.RegistryEffect.{RegistryEffect}
 use Rattle.registry_core.specs.declared.effect.RegistryEffect.TheVariants.{Open, Ask, Conclude, Arrive, Forestall, Complete, Cancel}
 use Rattle.registry_core.specs.declared.effect.RegistryEffect.TheVariants as effects
 
+-- the effect is what a transition by a message with that body about that transaction asks for
+abbrev pub IsEffectOf : Code → List Entry → TransactionId → Body → Transition → RegistryEffect → Type 0
+IsEffectOf c es t (body.Proposal p) x (Arrive id new content) = (t ≡ id) × (x.new ≡ new) × (p.content ≡ content)
+IsEffectOf c es t (body.Notification n) x (Conclude id new) = (t ≡ id) × (x.new ≡ new) × (is_own c id ≡ true)
+IsEffectOf c es t (body.Notification n) x (Forestall id) = (t ≡ id) × (is_known (transitions_of es) id ≡ false)
+IsEffectOf c es t (body.Notification n) x (Complete id) = (t ≡ id) × (x.new ≡ Completed) × (is_foreign c id ≡ true) × (is_known (transitions_of es) id ≡ true)
+IsEffectOf c es t (body.Notification n) x (Cancel id) = (t ≡ id) × (x.new ≡ Cancelled) × (is_foreign c id ≡ true) × (is_known (transitions_of es) id ≡ true)
+IsEffectOf c es t _ x _ = ⊥
+
 -- the effect is what a transition by that input asks for
 abbrev pub IsEffect : Code → List Entry → Input → Transition → RegistryEffect → Type 0
 IsEffect c es (Propose o) x (Open new_transfer) = (x.id ≡ new_transfer.id) × (x.content ≡ Some new_transfer.content)
 IsEffect c es (Request t) x (Ask id) = t ≡ id
-IsEffect c es (Received (message.Proposal p) moment) x (Arrive id new content) = (p.id ≡ id) × (x.new ≡ new) × (p.content ≡ content)
-IsEffect c es (Received (message.Notification n) moment) x (Conclude id new) = (n.id ≡ id) × (x.new ≡ new) × (is_own c id ≡ true)
-IsEffect c es (Received (message.Notification n) moment) x (Forestall id) = (n.id ≡ id) × (is_known (transitions_of es) id ≡ false)
-IsEffect c es (Received (message.Notification n) moment) x (Complete id) = (n.id ≡ id) × (x.new ≡ Completed) × (is_foreign c id ≡ true) × (is_known (transitions_of es) id ≡ true)
-IsEffect c es (Received (message.Notification n) moment) x (Cancel id) = (n.id ≡ id) × (x.new ≡ Cancelled) × (is_foreign c id ≡ true) × (is_known (transitions_of es) id ≡ true)
+IsEffect c es (Received m moment) x effect = IsEffectOf c es m.id m.body x effect
 IsEffect c es _ x _ = ⊥
 
 -- the effect is what a record of that input with these transitions asks for

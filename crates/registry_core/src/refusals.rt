@@ -5,9 +5,8 @@ ghost use Rattle.units.specs.Code.{same_code};
 ghost use Rattle.status.specs.Status.{same_status};
 ghost use Rattle.status.specs.declared.id.TransactionId.{TransactionId as Id};
 ghost use Rattle.status.specs.declared.status.Status.TheVariants as statuses;
-ghost use Rattle.wire.specs.NotifiedStatuses.{notified_status};
-ghost use Rattle.wire.specs.declared.message.Message.TheVariants as message;
-ghost use Rattle.protocol.specs.AtRegistry.{is_checked, registry_refusals};
+ghost use Rattle.wire.specs.declared.message.Body.TheVariants as body;
+ghost use Rattle.protocol.specs.AtRegistry.{is_checked, registry_body_refusals, registry_refusals};
 ghost use Rattle.protocol.specs.Deciding as deciding;
 ghost use Rattle.protocol.specs.History.{Entry, newest, transitions_of};
 ghost use Rattle.protocol.specs.History as history;
@@ -24,7 +23,7 @@ use units::Code;
 use units::refusal_code::{
     NO_ROW, OTHER_ADDRESSEE, OTHER_CONTENT, SENDER_NOT_ALLOWED, UNKNOWN_TRANSACTION, WRONG_PARTY,
 };
-use wire::{Message, Notification, Proposal, ProposalStatus, Request};
+use wire::{Body, Message, NotifiedStatus, Proposal, ProposalStatus};
 
 /// Whether the log has checked the proposal.
 fn is_checked(status: ProposalStatus) -> bool
@@ -37,13 +36,11 @@ fn is_checked(status: ProposalStatus) -> bool
 }
 
 /// Whether the transfer isn't one to the registry from another one, or has a unit twice.
-fn is_wrong_party(code: Code, proposal: &Proposal) -> bool
-    ensures { result ≡ (not (same_code proposal.now.content.acquirer code) ||
-        (same_code proposal.now.id.code code || repeats (pieces proposal.now.content.units))) }
+fn is_wrong_party(code: Code, id: TransactionId, content: &Content) -> bool
+    ensures { result ≡ (not (same_code content.now.acquirer code) ||
+        (same_code id.code code || repeats (pieces content.now.units))) }
 {
-    proposal.content.acquirer() != code
-        || proposal.id.code == code
-        || has_repeats(proposal.content.units())
+    content.acquirer() != code || id.code == code || has_repeats(content.units())
 }
 
 /// Whether the transfer of another registry has another content than that one.
@@ -72,30 +69,28 @@ fn is_known(code: Code, initiator: &Initiator, acquirer: &Acquirer, id: Transact
     }
 }
 
-/// Whether the notification tells that a transfer of another registry is Cancelled.
-fn forestalls(code: Code, notification: &Notification) -> bool
-    ensures { result ≡ (same_status (notified_status notification.now.notified) statuses.Cancelled && not
-        (same_code notification.now.id.code code)) }
+/// Whether a notification of that status tells that a transfer of another registry is Cancelled.
+fn forestalls(code: Code, id: TransactionId, told: Status) -> bool
+    ensures { result ≡ (same_status told statuses.Cancelled && not (same_code id.code code)) }
 {
-    notification.notified.status() == Status::Cancelled && notification.id.code != code
+    told == Status::Cancelled && id.code != code
 }
 
-/// Why a registry refuses a proposal, before its table is asked; or `None`.
-pub(crate) fn proposal_refusal(code: Code, acquirer: &Acquirer, proposal: &Proposal) -> Option<u16>
+/// Why a registry refuses a proposal of that transaction from the log, before its table is asked; or `None`.
+fn proposal_refusal(
+    code: Code,
+    acquirer: &Acquirer,
+    id: TransactionId,
+    proposal: &Proposal,
+) -> Option<u16>
     ensures { (es : List Entry) → ((t : Id)
         → map.get acquirer.now.transfers t ≡ row_at (is_foreign code) foreign_row (transitions_of es) t)
-        → result ≡ first_of (registry_refusals code es (message.Proposal proposal.now)) }
+        → result ≡ first_of (registry_body_refusals code es id (body.Proposal proposal.now)) }
 {
-    if !is_registry(proposal.to, code) {
-        return Some(OTHER_ADDRESSEE);
-    }
-    if !is_log(proposal.from) {
-        return Some(SENDER_NOT_ALLOWED);
-    }
-    if is_wrong_party(code, proposal) {
+    if is_wrong_party(code, id, &proposal.content) {
         return Some(WRONG_PARTY);
     }
-    if has_other(acquirer, proposal.id, &proposal.content) {
+    if has_other(acquirer, id, &proposal.content) {
         return Some(OTHER_CONTENT);
     }
     if !is_checked(proposal.status) {
@@ -104,41 +99,23 @@ pub(crate) fn proposal_refusal(code: Code, acquirer: &Acquirer, proposal: &Propo
     None
 }
 
-/// Why a registry refuses a notification, before its tables are asked; or `None`.
-pub(crate) fn notification_refusal(
+/// Why a registry refuses a notification about that transaction from the log, before its tables are asked; or `None`.
+fn notification_refusal(
     code: Code,
     initiator: &Initiator,
     acquirer: &Acquirer,
-    notification: &Notification,
+    id: TransactionId,
+    notified: &NotifiedStatus,
 ) -> Option<u16>
     ensures { (es : List Entry) → ((t : Id)
         → map.get initiator.now.transfers t ≡ row_at (is_own code) (own_row es) (transitions_of es) t)
         → ((t : Id) → map.get acquirer.now.transfers t ≡ row_at (is_foreign code) foreign_row (transitions_of es) t)
-        → result ≡ first_of (registry_refusals code es (message.Notification notification.now)) }
+        → result ≡ first_of (registry_body_refusals code es id (body.Notification notified.now)) }
 {
-    if !is_registry(notification.to, code) {
-        return Some(OTHER_ADDRESSEE);
-    }
-    if !is_log(notification.from) {
-        return Some(SENDER_NOT_ALLOWED);
-    }
-    if is_known(code, initiator, acquirer, notification.id) || forestalls(code, notification) {
+    if is_known(code, initiator, acquirer, id) || forestalls(code, id, notified.status()) {
         return None;
     }
     Some(UNKNOWN_TRANSACTION)
-}
-
-/// Why a registry refuses a request, before its tables are asked; or `None`.
-pub(crate) fn request_refusal(code: Code, request: &Request) -> Option<u16>
-    ensures { (es : List Entry) → result ≡ first_of (registry_refusals code es (message.Request request.now)) }
-{
-    if !is_registry(request.to, code) {
-        return Some(OTHER_ADDRESSEE);
-    }
-    if !is_log(request.from) {
-        return Some(SENDER_NOT_ALLOWED);
-    }
-    None
 }
 
 /// Why a registry refuses a message, before its tables are asked; or `None`.
@@ -153,14 +130,18 @@ pub(crate) fn message_refusal(
         → ((t : Id) → map.get acquirer.now.transfers t ≡ row_at (is_foreign code) foreign_row (transitions_of es) t)
         → result ≡ first_of (registry_refusals code es message.now) }
 {
-    match message {
-        Message::Proposal(proposal) => proposal_refusal(code, acquirer, proposal),
-        Message::Notification(notification) => notification_refusal(
-            code,
-            initiator,
-            acquirer,
-            notification,
-        ),
-        Message::Request(request) => request_refusal(code, request),
+    if !is_registry(message.to, code) {
+        return Some(OTHER_ADDRESSEE);
+    }
+    if !is_log(message.from) {
+        return Some(SENDER_NOT_ALLOWED);
+    }
+    let id = message.id;
+    match &message.body {
+        Body::Proposal(proposal) => proposal_refusal(code, acquirer, id, proposal),
+        Body::Notification(notified) => {
+            notification_refusal(code, initiator, acquirer, id, notified)
+        }
+        Body::Request => None,
     }
 }

@@ -1,16 +1,12 @@
 //! What a registry's tables do with orders to transfer units, and with messages.
 ghost use Rattle.std.specs.FinMap as map;
-ghost use Rattle.std.specs.Prelude.{◌≡◌, true, false, None, is_some};
-ghost use Rattle.checks.specs.Refusing.{first_of};
-ghost use Rattle.protocol.specs.AtRegistry.{registry_refusals};
-ghost use Rattle.protocol.specs.Verdict.{history};
+ghost use Rattle.std.specs.Prelude.{◌≡◌, true, false, is_some};
 ghost use Rattle.units.specs.Code.{same_code};
-ghost use Rattle.units.specs.declared.code.Node.TheVariants.{Registry};
 ghost use Rattle.registry_core.specs.Effects.{ending};
 ghost use Rattle.registry_core.specs.Kept.{IsKept};
-ghost use Rattle.registry_core.specs.Taking.{Takes};
+ghost use Rattle.registry_core.specs.Taking.{IsWelcome, Takes};
 ghost use Rattle.wire.specs.declared.input.Input.TheVariants as inputs;
-ghost use Rattle.wire.specs.declared.message.Message.TheVariants as messages;
+ghost use Rattle.wire.specs.declared.message.Body.TheVariants as bodies;
 ghost use Rattle.status.specs.declared.moment.Moment.{Moment};
 
 use crate::effect::RegistryEffect;
@@ -20,7 +16,7 @@ use protocol::{Decision, Stepped};
 use status::{Order, Status, TransactionId};
 use units::refusal_code::NO_ROW;
 use units::{Items, Refusal};
-use wire::{Input, Message, Notification, Proposal};
+use wire::{Body, Input, Message, NotifiedStatus, Proposal};
 
 impl Tables {
     /// Takes an order to transfer units.
@@ -72,22 +68,27 @@ impl Tables {
         ) {
             return Err(Refusal { code: refused });
         }
-        match message {
-            Message::Proposal(proposal) => self.arrive(input, proposal),
-            Message::Notification(notification) => { self.take_notification(input, notification) }
-            Message::Request(_) => Err(Refusal { code: NO_ROW }),
+        match &message.body {
+            Body::Proposal(proposal) => self.arrive(input, message, proposal),
+            Body::Notification(notified) => self.take_notification(input, message, notified),
+            Body::Request => Err(Refusal { code: NO_ROW }),
         }
     }
 
     /// Takes a proposal that isn't refused for what it is.
-    fn arrive(&mut self, input: &Input, proposal: &Proposal) -> Result<Stepped, Refusal>
+    fn arrive(
+        &mut self,
+        input: &Input,
+        message: &Message,
+        proposal: &Proposal,
+    ) -> Result<Stepped, Refusal>
         requires kept { IsKept self.old.scheme self.old.code self.old }
-        requires input { (moment : Moment) × (input.now ≡ inputs.Received (messages.Proposal proposal.now) moment) }
-        requires welcome { first_of (registry_refusals self.old.code (history self.old.scheme (Registry self.old.code) self.old.records.inputs)
-            (messages.Proposal proposal.now)) ≡ None }
+        requires input { (moment : Moment) × (input.now ≡ inputs.Received message.now moment) }
+        requires body { message.now.body ≡ bodies.Proposal proposal.now }
+        requires welcome { IsWelcome self.old message.now }
         ensures { Takes self.old.scheme self.old.code self.old self.new input.now result }
     {
-        let (id, content) = (proposal.id, &proposal.content);
+        let (id, content) = (message.id, &proposal.content);
         let found = self
             .acquirer
             .findings(self.alloc, &self.scheme, &self.holdings, id, content)?;
@@ -107,33 +108,37 @@ impl Tables {
     fn take_notification(
         &mut self,
         input: &Input,
-        notification: &Notification,
+        message: &Message,
+        notified: &NotifiedStatus,
     ) -> Result<Stepped, Refusal>
         requires kept { IsKept self.old.scheme self.old.code self.old }
-        requires input { (moment : Moment)
-            × (input.now ≡ inputs.Received (messages.Notification notification.now) moment) }
-        requires welcome { first_of (registry_refusals self.old.code (history self.old.scheme (Registry self.old.code) self.old.records.inputs)
-            (messages.Notification notification.now)) ≡ None }
+        requires input { (moment : Moment) × (input.now ≡ inputs.Received message.now moment) }
+        requires body { message.now.body ≡ bodies.Notification notified.now }
+        requires welcome { IsWelcome self.old message.now }
         ensures { Takes self.old.scheme self.old.code self.old self.new input.now result }
     {
-        if notification.id.code == self.code {
-            self.conclude(input, notification)
+        if message.id.code == self.code {
+            self.conclude(input, message, notified)
         } else {
-            self.finish(input, notification)
+            self.finish(input, message, notified)
         }
     }
 
     /// Takes a notification about a transfer out of the registry.
-    fn conclude(&mut self, input: &Input, notification: &Notification) -> Result<Stepped, Refusal>
+    fn conclude(
+        &mut self,
+        input: &Input,
+        message: &Message,
+        notified: &NotifiedStatus,
+    ) -> Result<Stepped, Refusal>
         requires kept { IsKept self.old.scheme self.old.code self.old }
-        requires input { (moment : Moment)
-            × (input.now ≡ inputs.Received (messages.Notification notification.now) moment) }
-        requires welcome { first_of (registry_refusals self.old.code (history self.old.scheme (Registry self.old.code) self.old.records.inputs)
-            (messages.Notification notification.now)) ≡ None }
-        requires own { same_code notification.now.id.code self.old.code ≡ true }
+        requires input { (moment : Moment) × (input.now ≡ inputs.Received message.now moment) }
+        requires body { message.now.body ≡ bodies.Notification notified.now }
+        requires welcome { IsWelcome self.old message.now }
+        requires own { same_code message.now.id.code self.old.code ≡ true }
         ensures { Takes self.old.scheme self.old.code self.old self.new input.now result }
     {
-        let (id, told) = (notification.id, notification.notified.status());
+        let (id, told) = (message.id, notified.status());
         let decision = self.initiator.notice(id, told)?;
         match decision {
             Decision::Moves(new) => {
@@ -145,16 +150,20 @@ impl Tables {
     }
 
     /// Takes a notification about a transfer to the registry.
-    fn finish(&mut self, input: &Input, notification: &Notification) -> Result<Stepped, Refusal>
+    fn finish(
+        &mut self,
+        input: &Input,
+        message: &Message,
+        notified: &NotifiedStatus,
+    ) -> Result<Stepped, Refusal>
         requires kept { IsKept self.old.scheme self.old.code self.old }
-        requires input { (moment : Moment)
-            × (input.now ≡ inputs.Received (messages.Notification notification.now) moment) }
-        requires welcome { first_of (registry_refusals self.old.code (history self.old.scheme (Registry self.old.code) self.old.records.inputs)
-            (messages.Notification notification.now)) ≡ None }
-        requires foreign { same_code notification.now.id.code self.old.code ≡ false }
+        requires input { (moment : Moment) × (input.now ≡ inputs.Received message.now moment) }
+        requires body { message.now.body ≡ bodies.Notification notified.now }
+        requires welcome { IsWelcome self.old message.now }
+        requires foreign { same_code message.now.id.code self.old.code ≡ false }
         ensures { Takes self.old.scheme self.old.code self.old self.new input.now result }
     {
-        let (id, told) = (notification.id, notification.notified.status());
+        let (id, told) = (message.id, notified.status());
         let decision = self.acquirer.notice(&self.holdings, id, told)?;
         match decision {
             Decision::Moves(new) => {

@@ -11,13 +11,12 @@ use Rattle.units.specs.declared.block.RawBlock.{RawBlock}
 use Rattle.units.specs.declared.block.Unit.{Unit as Serial}
 use Rattle.status.specs.Content.{raws}
 use Rattle.registry_core.specs.HeldBlock.{HeldBlock}
-use Rattle.protocol.specs.Proposal.{Proposal}
 use Rattle.scheme.specs.Order.{all_blocks}
 use Rattle.scheme.specs.declared.members.SchemeRegistry.{SchemeRegistry}
 use Rattle.scheme.specs.declared.registries.Scheme.{Scheme}
 use Rattle.protocol.specs.Claims.{at_registry, holders, live_of, owed}
 use Rattle.protocol.specs.History.{holds}
-use Rattle.protocol.specs.Table.{due}
+use Rattle.protocol.specs.Table.{ProposedTransfer, due}
 use Rattle.protocol.specs.World.{World, opening, run}
 use Rattle.protocol.specs.declared.event.WorldEvent.{WorldEvent}
 use Rattle.safety.proofs.OwnersOfUnits.UnitsInOnePlace.{causal_one_place}
@@ -38,16 +37,16 @@ line_blocks ls = map (λ (l : HeldBlock). l.block.raw) ls
 abbrev held_blocks : List (List HeldBlock) → List RawBlock
 held_blocks lines = flat_map line_blocks lines
 
-abbrev due_blocks : List Proposal → List RawBlock
-due_blocks ps = flat_map (λ (p : Proposal). p.content.units) ps
+abbrev due_blocks : List ProposedTransfer → List RawBlock
+due_blocks ps = flat_map (λ (p : ProposedTransfer). p.content.units) ps
 
 held_sum : (lines : List (List HeldBlock)) → sum_by units_of (held_blocks lines) ≡ sum_by (λ ls. sum_by held_units ls) lines
 held_sum lines =
     sum_flat units_of line_blocks lines
     ∙ sum_same (λ (ls : List HeldBlock). sum_by units_of (line_blocks ls)) (λ (ls : List HeldBlock). sum_by held_units ls) lines (λ ls i. sum_map units_of (λ (l : HeldBlock). l.block.raw) ls)
 
-due_sum : (ps : List Proposal) → sum_by units_of (due_blocks ps) ≡ sum_by due_units ps
-due_sum ps = sum_flat units_of (λ (p : Proposal). p.content.units) ps
+due_sum : (ps : List ProposedTransfer) → sum_by units_of (due_blocks ps) ≡ sum_by due_units ps
+due_sum ps = sum_flat units_of (λ (p : ProposedTransfer). p.content.units) ps
 
 allotted_sum : (scheme : Scheme) → sum_by units_of (raws (all_blocks scheme.members)) ≡ allotted_units scheme
 allotted_sum scheme = sum_map units_of (λ (b : Block). b.raw) (all_blocks scheme.members)
@@ -81,10 +80,10 @@ module _ (s : Serial) where
       (reached_scheme scheme events) (lines_count w scheme.members lines are)
 
   due_count : (scheme : Scheme) (events : List WorldEvent)
-      → count_by (λ (b : RawBlock). has_unit b s) (due_blocks (due (reached scheme events))) ≡ count_by (λ (p : Proposal). have_unit p.content.units s) (due (reached scheme events))
+      → count_by (λ (b : RawBlock). has_unit b s) (due_blocks (due (reached scheme events))) ≡ count_by (λ (p : ProposedTransfer). have_unit p.content.units s) (due (reached scheme events))
   due_count scheme events =
-      sum_flat one (λ (p : Proposal). p.content.units) (due (reached scheme events))
-      ∙ sum_same (λ (p : Proposal). sum_by one p.content.units) (λ (p : Proposal). cond {A = ℕ} (have_unit p.content.units s) 1 0) (due (reached scheme events))
+      sum_flat one (λ (p : ProposedTransfer). p.content.units) (due (reached scheme events))
+      ∙ sum_same (λ (p : ProposedTransfer). sum_by one p.content.units) (λ (p : ProposedTransfer). cond {A = ℕ} (have_unit p.content.units s) 1 0) (due (reached scheme events))
       (λ p i. units_once p.content.units (due_apart scheme events p i) s)
 
 -- ---- the law

@@ -3,7 +3,7 @@ use Rattle.std.specs.Prelude.{ℕ, ◌+◌, ◌-◌}
 use Rattle.std.specs.List.{sum_by}
 use Rattle.units.specs.declared.block.RawBlock.{RawBlock}
 use Rattle.registry_core.specs.HeldBlock.{HeldBlock}
-use Rattle.protocol.specs.Proposal.{Proposal}
+use Rattle.protocol.specs.Table.{ProposedTransfer}
 use Rattle.scheme.specs.Order.{all_blocks}
 use Rattle.scheme.specs.declared.registries.Scheme.{Scheme}
 
@@ -16,7 +16,7 @@ abbrev pub held_units : HeldBlock → ℕ
 held_units l = units_of l.block.raw
 
 -- of a transfer, in all its blocks
-abbrev pub due_units : Proposal → ℕ
+abbrev pub due_units : ProposedTransfer → ℕ
 due_units p = sum_by units_of p.content.units
 
 -- of all that the registries of a scheme have at the start

@@ -10,7 +10,7 @@ use Rattle.status.specs.Status.{status_text}
 use Rattle.status.specs.declared.id.TransactionId.{TransactionId}
 use Rattle.status.specs.declared.status.Status.{Status}
 use Rattle.registry_core.specs.HeldBlock.{HeldBlock}
-use Rattle.protocol.specs.Proposal.{Proposal}
+use Rattle.protocol.specs.Table.{ProposedTransfer}
 use Rattle.protocol.specs.declared.event.Outcome.{Outcome}
 use Rattle.protocol.specs.declared.event.Outcome.TheVariants.{Recorded, Repeat, Late, Refused, Done, NotPossible}
 use Rattle.report.specs.NumberOfUnits.{due_units, held_units}
@@ -68,7 +68,7 @@ held_shown lines = shown (sum_by held_units lines)
 abbrev pub free_shown : List HeldBlock → ℕ
 free_shown lines = shown (sum_by free_units lines)
 
-abbrev pub owed_shown : List Proposal → ℕ
+abbrev pub owed_shown : List ProposedTransfer → ℕ
 owed_shown proposals = shown (sum_by due_units proposals)
 
 -- ---- what a registry holds: its numbers of units, and each line of its holdings
@@ -94,11 +94,11 @@ registry_lines code lines = registry_line code (held_shown lines) (free_shown li
 abbrev pub due_line : TransactionId → RawBlock → List ℕ
 due_line id block = codes "due " ++ id_text id ++ codes " " ++ raw_text block ++ codes "\n"
 
-abbrev pub due_lines : Proposal → List ℕ
+abbrev pub due_lines : ProposedTransfer → List ℕ
 due_lines p = flat_map (due_line p.id) p.content.units
 
-abbrev pub owed_line : List Proposal → List ℕ
+abbrev pub owed_line : List ProposedTransfer → List ℕ
 owed_line proposals = codes "owed " ++ decimal (owed_shown proposals) ++ codes "\n"
 
-abbrev pub owed_lines : List Proposal → List ℕ
+abbrev pub owed_lines : List ProposedTransfer → List ℕ
 owed_lines proposals = owed_line proposals ++ flat_map due_lines proposals ++ codes "end\n"

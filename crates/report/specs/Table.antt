@@ -1,12 +1,11 @@
 -- The table of a world.
 use Rattle.std.specs.Prelude.{◌≡◌, ℕ, ◌+◌, List, ◌++◌, flat_map, sum_by}
 use Rattle.units.specs.declared.code.Node.TheVariants.{Itl, Registry}
-use Rattle.protocol.specs.Proposal.{Proposal}
 use Rattle.scheme.specs.declared.registries.Scheme.{Scheme}
 use Rattle.protocol.specs.Claims.{committed_of, live_of}
 use Rattle.protocol.specs.Headline.{IsSafe}
 use Rattle.protocol.specs.History.{stands, transitions_of}
-use Rattle.protocol.specs.Table.{due, transactions}
+use Rattle.protocol.specs.Table.{ProposedTransfer, due, transactions}
 use Rattle.protocol.specs.World.{World, opening, run}
 use Rattle.protocol.specs.declared.event.WorldEvent.{WorldEvent}
 use Rattle.report.specs.NumberOfUnits.{allotted_units}
@@ -16,7 +15,7 @@ use Rattle.report.specs.ReportLines.{held_shown, owed_lines, owed_shown, registr
 use Rattle.report.specs.declared.transactions.TransactionRow.{TransactionRow}
 
 -- where a transfer stands at its initiator, at the log and at its acquirer
-abbrev pub row_of : World → Proposal → TransactionRow
+abbrev pub row_of : World → ProposedTransfer → TransactionRow
 row_of w p = record {
   id = p.id;
   acquirer = p.content.acquirer;
@@ -40,7 +39,7 @@ pub record IsTable (w : World) (text : List ℕ) : Type 0 where
 
 -- the numbers after `held` of all registries and the one after `owed` are together the number of units that the
 -- scheme allots
-abbrev pub AddUp : Scheme → List Stock → List Proposal → Type 0
+abbrev pub AddUp : Scheme → List Stock → List ProposedTransfer → Type 0
 AddUp scheme stocks owing = sum_by (λ s. held_shown s.lines) stocks + owed_shown owing ≡ allotted_units scheme
 
 -- the text is the table of the world that the events lead to from the opening one. It counts every tonne once; and by

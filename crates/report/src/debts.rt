@@ -3,12 +3,13 @@ ghost use Rattle.std.specs.Prelude.{◌≡◌, ◌+◌, ◌++◌, OnOk, map, str
 ghost use Rattle.std.specs.List.{flat_map};
 ghost use Rattle.status.specs.Content.{raws};
 ghost use Rattle.report.specs.NumberOfUnits.{units_of};
+ghost use Rattle.world.specs.Transfers.{transfer_of};
 ghost use Rattle.report.specs.ReportLines.{due_line, due_lines, owed_line, owed_lines, owed_shown, shown};
 
-use protocol::wire::Proposal;
 use status::TransactionId;
 use std::fmt::Write;
 use units::{Block, NoMemory};
+use world::ProposedTransfer;
 
 /// The number of units of the blocks and of `before` more, and 2^64 - 1 where there are more.
 fn units_in(before: u64, blocks: &[Block]) -> u64
@@ -21,13 +22,13 @@ fn units_in(before: u64, blocks: &[Block]) -> u64
     count
 }
 
-/// The number of units of all the proposals, and 2^64 - 1 where there are more.
-fn owed_in(proposals: &[&Proposal]) -> u64
-    ensures { result ≡ owed_shown (map (λ p. p.now) proposals.now) }
+/// The number of units of all the transfers, and 2^64 - 1 where there are more.
+fn owed_in(transfers: &[ProposedTransfer<'_>]) -> u64
+    ensures { result ≡ owed_shown (map transfer_of transfers.now) }
 {
     let mut count = 0u64;
-    for proposal in proposals {
-        count = units_in(count, proposal.content.units());
+    for transfer in transfers {
+        count = units_in(count, transfer.content.units());
     }
     count
 }
@@ -41,28 +42,28 @@ fn push_blocks(text: &mut String, id: TransactionId, blocks: &[Block]) -> Result
     Ok(())
 }
 
-fn push_due(text: &mut String, proposal: &Proposal) -> Result<(), NoMemory>
-    ensures { OnOk result (string_bytes text.new ≡ string_bytes text.old ++ due_lines proposal.now) }
+fn push_due(text: &mut String, transfer: ProposedTransfer<'_>) -> Result<(), NoMemory>
+    ensures { OnOk result (string_bytes text.new ≡ string_bytes text.old ++ due_lines (transfer_of transfer.entry)) }
 {
-    push_blocks(text, proposal.id, proposal.content.units())
+    push_blocks(text, transfer.id, transfer.content.units())
 }
 
-fn push_each_due(text: &mut String, proposals: &[&Proposal]) -> Result<(), NoMemory>
-    ensures { OnOk result (string_bytes text.new ≡ string_bytes text.old ++ flat_map due_lines (map
-        (λ p. p.now) proposals.now)) }
+fn push_each_due(text: &mut String, transfers: &[ProposedTransfer<'_>]) -> Result<(), NoMemory>
+    ensures { OnOk result (string_bytes text.new ≡ string_bytes text.old ++
+        flat_map due_lines (map transfer_of transfers.now)) }
 {
-    for proposal in proposals {
-        push_due(text, *proposal)?;
+    for transfer in transfers {
+        push_due(text, *transfer)?;
     }
     Ok(())
 }
 
 /// Adds the line of the number of units.
-fn push_number(text: &mut String, proposals: &[&Proposal]) -> Result<(), NoMemory>
-    ensures { OnOk result (string_bytes text.new ≡ string_bytes text.old ++ owed_line (map
-        (λ p. p.now) proposals.now)) }
+fn push_number(text: &mut String, transfers: &[ProposedTransfer<'_>]) -> Result<(), NoMemory>
+    ensures { OnOk result
+        (string_bytes text.new ≡ string_bytes text.old ++ owed_line (map transfer_of transfers.now)) }
 {
-    let owed = owed_in(proposals);
+    let owed = owed_in(transfers);
     writeln!(text, "owed {owed}")?;
     Ok(())
 }
@@ -73,12 +74,15 @@ fn push_number(text: &mut String, proposals: &[&Proposal]) -> Result<(), NoMemor
 /// # Errors
 ///
 /// Fails with `NoMemory` where there is no room for the lines. The text may then have a part of them.
-pub(crate) fn push_owed(text: &mut String, proposals: &[&Proposal]) -> Result<(), NoMemory>
-    ensures { OnOk result (string_bytes text.new ≡ string_bytes text.old ++ owed_lines (map
-        (λ p. p.now) proposals.now)) }
+pub(crate) fn push_owed(
+    text: &mut String,
+    transfers: &[ProposedTransfer<'_>],
+) -> Result<(), NoMemory>
+    ensures { OnOk result
+        (string_bytes text.new ≡ string_bytes text.old ++ owed_lines (map transfer_of transfers.now)) }
 {
-    push_number(text, proposals)?;
-    push_each_due(text, proposals)?;
+    push_number(text, transfers)?;
+    push_each_due(text, transfers)?;
     writeln!(text, "end")?;
     Ok(())
 }

@@ -3,6 +3,7 @@ ghost use Rattle.std.specs.Prelude.{◌≡◌, ◌++◌, ℕ, List, OnOk, flat_m
 ghost use Rattle.protocol.specs.World.{opening, run};
 ghost use Rattle.protocol.specs.declared.event.WorldEvent.{WorldEvent};
 ghost use Rattle.scheme.specs.declared.registries.Scheme.{Scheme};
+ghost use Rattle.world.specs.Transfers.{transfer_of};
 ghost use Rattle.report.specs.Table.{IsSafeTable, IsTable, row_of, stock_lines, transaction_lines};
 
 use crate::debts::push_owed;
@@ -10,17 +11,16 @@ use crate::holdings::push_registry;
 use crate::safe_worlds::worlds_are_safe;
 use crate::totals::tonnes_add_up;
 use crate::transactions::{TransactionRow, push_transaction};
-use protocol::wire::Proposal;
 use std::alloc::Global;
 use units::{NoMemory, Node};
-use world::{Stock, World};
+use world::{ProposedTransfer, Stock, World};
 
 /// Where a transfer stands at its three nodes.
-fn row_of(world: &World, proposal: &Proposal) -> TransactionRow
-    ensures { result ≡ row_of world.now proposal.now }
+fn row_of(world: &World, transfer: ProposedTransfer<'_>) -> TransactionRow
+    ensures { result ≡ row_of world.now (transfer_of transfer.entry) }
 {
-    let id = proposal.id;
-    let acquirer = proposal.content.acquirer();
+    let id = transfer.id;
+    let acquirer = transfer.content.acquirer();
     TransactionRow {
         id,
         acquirer,
@@ -34,8 +34,8 @@ fn push_transactions(alloc: Global, text: &mut String, world: &World) -> Result<
     ensures { OnOk result (string_bytes text.new ≡ string_bytes text.old ++ transaction_lines world.now) }
 {
     let transactions = world.transactions(alloc)?;
-    for proposal in transactions.as_slice() {
-        push_transaction(text, &row_of(world, *proposal))?;
+    for transfer in transactions.as_slice() {
+        push_transaction(text, &row_of(world, *transfer))?;
     }
     Ok(())
 }

@@ -33,9 +33,6 @@ grow_at (seat ∷ seats) (suc at) old new is g (suc k) x at_k = grow_at seats at
 
 -- ---- one line more
 
-pub found_at : {X : Type 0} (xs ys : List X) (k : ℕ) (x : X) → xs ≡ ys → x ≡ get_or xs k x → k < length xs → slice_get ys k ≡ Some x
-found_at xs ys k x same is below = ap (λ (l : List _). slice_get l k) (sym same) ∙ slice_get-get_or xs k x below ∙ ap (λ (y : _). Some y) (sym is)
-
 pub heard_line : (l m : ScriptLine) (seat : SeatView) (told : Told) → l ≡ m → HasHeard seat (asked_by m) told → HasHeard seat (asked_by l) told
 heard_line l m seat told is h = subst (λ (x : ScriptLine). HasHeard seat (asked_by x) told) (sym is) h
 

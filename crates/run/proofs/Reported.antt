@@ -24,7 +24,8 @@ use Rattle.run.specs.Answers.{IsAnswer, IsBorne, IsRecordAt, answer_lines, asked
 use Rattle.run.specs.Gathered.{AreGathered, IsGathered}
 use Rattle.run.specs.Heard.{IsHeard}
 use Rattle.run.specs.Orders.{IsPlayed}
-use Rattle.run.specs.Runs.{HaveOthers, IsReported, IsRunReport, committed_by_all}
+use Rattle.audit.specs.Reported.{IsReported, committed_by_all}
+use Rattle.run.specs.Runs.{HaveOthers, IsRunReport}
 use Rattle.run.specs.declared.answer.ScriptAnswer.{ScriptAnswer}
 use Rattle.run.specs.declared.answer.ScriptAnswer.TheVariants.{NotPossible, Told as Answered}
 use Rattle.run.proofs.Borne.{borne}

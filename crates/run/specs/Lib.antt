@@ -4,6 +4,4 @@ pub mod Notes
 pub mod Orders
 pub mod Wiring
 pub mod Gathered
-pub mod Settled
 pub mod Runs
-pub mod Ended

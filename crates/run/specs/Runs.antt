@@ -16,44 +16,15 @@ use Rattle.weave.specs.declared.fault.WeaveFault.TheVariants as weaving
 use Rattle.command_faults.specs.declared.fault.OpFault.{OpFault}
 use Rattle.command_faults.specs.declared.fault.OpFault.TheVariants.{Write, Store, Stuck, Unsettled, NoMemory}
 use Rattle.audit.specs.Audits.{IsAuditTable}
+use Rattle.audit.specs.Ended.{states_of}
+use Rattle.audit.specs.Reported.{IsTableFault, committed_by_all}
 use Rattle.input_lines.specs.declared.script_line.ScriptLine.{ScriptLine}
 use Rattle.run.specs.Answers.{AreAnswers, IsAnswer, answer_lines}
 use Rattle.run.specs.Heard.{AreHeard}
 use Rattle.run.specs.Orders.{AreOrders}
-use Rattle.run.specs.Settled.{AreSettled, FailsToSettle}
 use Rattle.run.specs.declared.answer.ScriptAnswer.{ScriptAnswer}
 
--- ---- the table of states, and of what their threads were told
-
-abbrev pub committed_by_all : List StateView → List (List Input)
-committed_by_all helds = map committed_records helds
-
--- all nodes are settled, and the table is that of a run that leads to their committed records
-pub record IsReported (scheme : Scheme) (helds : List StateView) (seats : List (List SeatView)) (table : List ℕ) : Type 0 where
-  pub settled : AreSettled scheme helds seats
-  pub is_table : IsAuditTable scheme (committed_by_all helds) table
-
--- all nodes are settled, and no run leads to their committed records
-pub record HasNoRun (scheme : Scheme) (helds : List StateView) (seats : List (List SeatView)) (n : Node) (place : ℕ) : Type 0 where
-  pub settled : AreSettled scheme helds seats
-  pub fault : IsWeaveFault scheme (journal_of scheme (committed_by_all helds)) (weaving.Stuck n place)
-
--- why there is no table
-abbrev pub IsTableFault : Scheme → List StateView → List (List SeatView) → OpFault → Type 0
-IsTableFault scheme helds seats (Unsettled n) = FailsToSettle scheme helds seats (Unsettled n)
-IsTableFault scheme helds seats (Stuck n place) = HasNoRun scheme helds seats n place
-IsTableFault scheme helds seats NoMemory = Unit {0}
-IsTableFault scheme helds seats _ = ⊥
-
--- nothing was written, or the first bytes of the table, fewer than all
-abbrev pub FailsToReport : OpFault → Scheme → List StateView → List (List SeatView) → (before after : Option (List ℕ)) → Type 0
-FailsToReport (Write count) scheme helds seats v w = (table : List ℕ) × IsReported scheme helds seats table × (count < length table) × Appends v w (take count table)
-FailsToReport fault scheme helds seats v w = IsTableFault scheme helds seats fault × Keeps v w
-
 -- ---- how the nodes of a run end
-
-abbrev pub states_of : {S : Type 0} → List (StoredView S) → List StateView
-states_of nodes = map (λ n. n.state) nodes
 
 -- the state at a desk goes by the scheme, and is that of one of the nodes that were loaded: its journal at the opening
 -- is that one's, and its store's count of faults was

@@ -1,13 +1,14 @@
-//! What a run leaves of each node: its state with its store, and the seats of all that its desk told something.
+//! What a run leaves of each node.
 ghost use Rattle.std.specs.Prelude.{◌≡◌, ◌++◌, ◌∷◌, [], All, Some, map, vec_len, IfErr, IfOk, IfSome, OnOk};
 ghost use Rattle.desk.specs.Views.{SeatView};
 ghost use Rattle.protocol.specs.Registries.{nodes};
 ghost use Rattle.sessions.specs.Orders.{AreAll, HasOnly};
-ghost use Rattle.run.specs.Ended.{seats_in, stored_in};
+ghost use Rattle.audit.specs.Ended.{seats_in, stored_in};
 ghost use Rattle.run.specs.Gathered.{AreGathered, IsGathered};
 ghost use Rattle.run.specs.Runs.{EndsWell, HaveEnded, IsLateFault};
 
 use crate::taking::Taking;
+use audit::EndedNode;
 use command_faults::{OpFault, store_fault};
 use desk::stores::NodeStore;
 use desk::{Desk, Ended, Opening, RoomBell, Seat, Stored};
@@ -15,13 +16,6 @@ use sessions::{NodeTypes, Station};
 use std::alloc::Global;
 use units::{NoMemory, Node};
 use world::Core;
-
-/// A node after a run: its state with its store, and the seats of all that its desk told something.
-#[derive(Drop)]
-pub struct EndedNode<S: NodeStore> {
-    pub stored: Stored<Core, S>,
-    pub seats: Vec<Seat>,
-}
 
 /// What the threads of a node were told: a seat for each thread, or `NoMemory` where memory ran out for them.
 pub(crate) type ThreadSeats = Result<Vec<Seat>, NoMemory>;

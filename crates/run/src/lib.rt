@@ -6,7 +6,6 @@ mod answer;
 mod asking;
 mod gathering;
 mod playing;
-mod reporting;
 mod running;
 mod taking;
 mod threads;
@@ -14,8 +13,6 @@ mod watch;
 mod wiring;
 
 pub use answer::ScriptAnswer;
-pub use gathering::EndedNode;
-pub use reporting::report_run;
 pub use running::run_script;
 pub use watch::{Nobody, Watch};
 pub use wiring::LoadedNode;

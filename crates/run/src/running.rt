@@ -7,21 +7,22 @@ ghost use Rattle.desk.specs.Keeping.{MayOpen};
 ghost use Rattle.desk.specs.Views.{SeatView, opened_with};
 ghost use Rattle.input_lines.specs.declared.script_line.ScriptLine.{ScriptLine as ALine};
 ghost use Rattle.run.specs.Answers.{answer_lines};
-ghost use Rattle.run.specs.Ended.{seats_in, states_in, stored_in};
+ghost use Rattle.audit.specs.Ended.{seats_in, states_in, stored_in};
 ghost use Rattle.run.specs.Orders.{IsPlayed};
 ghost use Rattle.sessions.specs.Orders.{AreAll, HasOnly, was_ordered};
 ghost use Rattle.sessions.specs.Threads.{IsOfThread};
 ghost use Rattle.run.specs.Gathered.{AreGathered};
-ghost use Rattle.run.specs.Runs.{FailsToRun, HaveEnded, HaveOthers, IsLateFault, IsLoadedAmong, IsRunReport, IsTableFault};
+ghost use Rattle.audit.specs.Reported.{IsTableFault};
+ghost use Rattle.run.specs.Runs.{FailsToRun, HaveEnded, HaveOthers, IsLateFault, IsLoadedAmong, IsRunReport};
 ghost use Rattle.run.specs.declared.answer.ScriptAnswer.{ScriptAnswer as AnAnswer};
 
 use crate::answer::lines_of;
-use crate::gathering::{EndedNode, ThreadSeats, end_all};
-use crate::reporting::report_of;
+use crate::gathering::{ThreadSeats, end_all};
 use crate::taking::Taking;
 use crate::threads::{Heard, Played, Run, run_and_play};
 use crate::watch::Watch;
 use crate::wiring::LoadedNode;
+use audit::{EndedNode, table_of_ended};
 use command_faults::{OpFault, write_out};
 use desk::stores::NodeStore;
 use desk::{Opening, Seat};
@@ -64,7 +65,7 @@ fn with_table<T: Taking, S: NodeStore, P: weave::Watch>(
         × HaveOthers T.takes scheme.now (states_in ended.now)) }
     ensures err { IfErr result (IsTableFault scheme.now (states_in ended.now) (seats_in ended.now)) }
 {
-    match report_of(alloc, scheme, ended, watch) {
+    match table_of_ended(alloc, scheme, ended, watch) {
         Ok(table) => Ok(joined(alloc, answers, table.as_str())?),
         Err(fault) => Err(fault),
     }

@@ -3,3 +3,5 @@ pub mod LogHearings
 pub mod LogInputs
 pub mod OwnersInLog
 pub mod LogSendings
+pub mod CleanedInOrder
+pub mod KnownContents

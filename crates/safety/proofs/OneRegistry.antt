@@ -6,3 +6,6 @@ pub mod InitiatorStatuses
 pub mod RegistrySendings
 pub mod ProposalNumbers
 pub mod ProposedTransfers
+pub mod ApartContents
+pub mod RecordedEntries
+pub mod SoundHistories

@@ -179,4 +179,4 @@ neither (inl e) = omega arith
 neither (inr e) = omega arith
 
 pub terminated_for_units : TerminatesForEligibility (terminated (204 ∷ [])) → ⊥
-terminated_for_units h = neither (h (record { from = Itl; to = nz_node; id = nz1; notified = notified.Terminated (204 ∷ []) }) (204 ∷ []) 204 (0, (omega arith), refl) refl (0, (omega arith), refl))
+terminated_for_units h = neither (h (notification Itl nz_node nz1 (notified.Terminated (204 ∷ []))) (204 ∷ []) 204 (0, (omega arith), refl) refl (0, (omega arith), refl))

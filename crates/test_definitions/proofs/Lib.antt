@@ -19,3 +19,4 @@ pub mod OwnersAndRest
 pub mod RestAndWayOut
 pub mod OrdersOfRecords
 pub mod EdgesOfDefinitions
+pub mod RecordedMessages

@@ -17,8 +17,8 @@ use Rattle.status.specs.declared.status.Status.{Status}
 use Rattle.status.specs.declared.status.Status.TheVariants.{Completed}
 use Rattle.wire.specs.declared.input.Input.{Input}
 use Rattle.wire.specs.declared.input.Input.TheVariants as input
+use Rattle.wire.specs.declared.message.Body.TheVariants as body
 use Rattle.wire.specs.declared.message.Message.{Message}
-use Rattle.wire.specs.declared.message.Message.TheVariants as message
 use Rattle.wire.specs.declared.message.ProposalStatus.{ProposalStatus}
 use Rattle.wire.specs.declared.message.ProposalStatus.TheVariants as proposal
 use Rattle.wire.specs.declared.notified.NotifiedStatus.TheVariants as notified
@@ -72,10 +72,10 @@ abbrev pub to_jp : List RawBlock → Content
 to_jp units = terms 1 jp 7 units
 
 abbrev pub proposes : Node → Node → TransactionId → ProposalStatus → Content → Message
-proposes from to t status k = message.Proposal (record { from = from; to = to; id = t; status = status; content = k })
+proposes from to t status k = record { from = from; to = to; id = t; body = body.Proposal (record { status = status; content = k }) }
 
 abbrev pub asks : Node → Node → TransactionId → Message
-asks from to t = message.Request (record { from = from; to = to; id = t })
+asks from to t = record { from = from; to = to; id = t; body = body.Request }
 
 -- ---- inputs
 

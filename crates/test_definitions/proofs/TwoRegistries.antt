@@ -2,9 +2,8 @@
 -- that are still to be acknowledged.
 use Rattle.std.proofs.Common.{◌≡◌, ℕ, ◌≤◌, ◌<◌, zero, suc, Bool, true, false, List, [], ◌∷◌, ◌++◌, map, Some, None, refl, sym, true≢false, not-suc-le-zero, arith, lit≤, lit<}
 use Rattle.std.specs.Ordering.{is_lt}
-use Rattle.units.specs.declared.code.Code.{Code}
 use Rattle.units.specs.declared.code.Node.{Node}
-use Rattle.units.specs.declared.code.Node.TheVariants.{Itl, Registry}
+use Rattle.units.specs.declared.code.Node.TheVariants.{Itl}
 use Rattle.status.specs.Content.{Content}
 use Rattle.status.specs.Id.{id_cmp, number_from}
 use Rattle.status.specs.declared.id.TransactionId.{TransactionId}
@@ -12,7 +11,6 @@ use Rattle.status.specs.declared.status.Status.TheVariants.{Cancelled}
 use Rattle.wire.specs.declared.input.Input.{Input}
 use Rattle.wire.specs.declared.input.Input.TheVariants.{Ack, CleanUp, Received, Request}
 use Rattle.wire.specs.declared.message.Message.{Message}
-use Rattle.wire.specs.declared.message.Proposal.{Proposal}
 use Rattle.wire.specs.declared.message.ProposalStatus.TheVariants as proposal
 use Rattle.wire.specs.declared.notified.NotifiedStatus.TheVariants as notified
 use Rattle.protocol.specs.declared.event.Outcome.TheVariants.{Recorded, Done}
@@ -20,7 +18,7 @@ use Rattle.protocol.specs.declared.event.WorldEvent.{WorldEvent}
 use Rattle.protocol.specs.declared.event.WorldEvent.TheVariants.{Take}
 use Rattle.protocol.specs.Claims.{live_of}
 use Rattle.protocol.specs.History.{sends, is_acknowledged}
-use Rattle.protocol.specs.Table.{transactions, due, is_due}
+use Rattle.protocol.specs.Table.{ProposedTransfer, transactions, due, is_due}
 use Rattle.protocol.specs.Unacknowledged.{awaits, IsLeastFrom}
 use Rattle.protocol.specs.Verdict.{verdict, history}
 use Rattle.protocol.specs.World.{World, opening, step, run, outcomes}
@@ -99,20 +97,20 @@ four_proposals = propose nz 1 jp 7 (block 1 2 ∷ []) ∷ propose jp 7 nz 1 (jp_
 abbrev after : List WorldEvent → World
 after events = run (opening scheme_t) events
 
-abbrev proposal_of : Code → TransactionId → Content → Proposal
-proposal_of c t k = record { from = Registry c; to = Itl; id = t; status = proposal.Proposed; content = k }
+abbrev transfer_of : TransactionId → Content → ProposedTransfer
+transfer_of t k = record { id = t; content = k }
 
-abbrev of_jp1 : Proposal
-of_jp1 = proposal_of jp jp1 (terms 7 nz 1 (jp_block 1 2 ∷ []))
+abbrev of_jp1 : ProposedTransfer
+of_jp1 = transfer_of jp1 (terms 7 nz 1 (jp_block 1 2 ∷ []))
 
-abbrev of_jp2 : Proposal
-of_jp2 = proposal_of jp jp2 (terms 7 nz 2 (jp_block 3 3 ∷ []))
+abbrev of_jp2 : ProposedTransfer
+of_jp2 = transfer_of jp2 (terms 7 nz 2 (jp_block 3 3 ∷ []))
 
-abbrev of_nz1 : Proposal
-of_nz1 = proposal_of nz nz1 (terms 1 jp 7 (block 1 2 ∷ []))
+abbrev of_nz1 : ProposedTransfer
+of_nz1 = transfer_of nz1 (terms 1 jp 7 (block 1 2 ∷ []))
 
-abbrev of_nz2 : Proposal
-of_nz2 = proposal_of nz nz2 (terms 1 jp 8 (block 3 3 ∷ []))
+abbrev of_nz2 : ProposedTransfer
+of_nz2 = transfer_of nz2 (terms 1 jp 8 (block 3 3 ∷ []))
 
 pub transactions_in_order : (transactions (after four_proposals) ≡ of_jp1 ∷ of_jp2 ∷ of_nz1 ∷ of_nz2 ∷ []) × (due (after four_proposals) ≡ []) × (transactions (opening scheme_t) ≡ [])
 unfolding step verdict
@@ -154,7 +152,7 @@ unfolding step verdict
 due_no_longer = (refl, refl)
 
 -- proposed alone; completed at the initiator; at both
-abbrev is_due_in : World → Proposal → Bool
+abbrev is_due_in : World → ProposedTransfer → Bool
 is_due_in w p = is_due (live_of w) p
 
 pub due_one_by_one : (map (is_due_in (after jp2_completed)) (of_jp1 ∷ of_jp2 ∷ of_nz1 ∷ of_nz2 ∷ []) ≡ false ∷ true ∷ true ∷ false ∷ []) × (is_due_in (after nz1_received) of_nz1 ≡ false)

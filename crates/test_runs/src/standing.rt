@@ -75,7 +75,7 @@ pub fn next_for_log<O: Opening, C: NodeCore, S: NodeStore, B: Bell, R: Wait + Ab
     let found = again!(desk.next_send(rt, Node::Itl, from), Err(NoMemory) => ());
     match found.expect(rt, "memory") {
         Some((key, message)) => {
-            let id = message.transaction();
+            let id = message.id;
             drop(message);
             Some((key, id))
         }

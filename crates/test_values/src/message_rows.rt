@@ -4,8 +4,8 @@ use protocol::status::Content;
 use protocol::units::refusal_code::OUT_OF_MEMORY;
 use protocol::units::{Code, Items, NoMemory, Node, Refusal};
 use protocol::wire::{
-    AcquirerCodes, LogCodes, Message, Notification, NotifiedStatus, Proposal, ProposalStatus,
-    Request, decode, encode,
+    AcquirerCodes, Body, LogCodes, Message, NotifiedStatus, Proposal, ProposalStatus, decode,
+    encode,
 };
 use std::alloc::Global;
 use std::process::Abort;
@@ -38,20 +38,21 @@ fn terminated(rt: &impl Abort, alloc: Global, codes: &[u16]) -> NotifiedStatus {
 }
 
 fn notification(rt: &impl Abort, from: Node, to: Node, notified: NotifiedStatus) -> Message {
-    Message::Notification(Notification {
+    Message {
         from,
         to,
         id: id(rt, "NZ1"),
-        notified,
-    })
+        body: Body::Notification(notified),
+    }
 }
 
 fn request(rt: &impl Abort, from: Node) -> Message {
-    Message::Request(Request {
+    Message {
         from,
         to: Node::Itl,
         id: id(rt, "NZ1"),
-    })
+        body: Body::Request,
+    }
 }
 
 /// A content for that registry of a hundred units and of all but the first four of another registry.
@@ -65,13 +66,16 @@ fn content(rt: &impl Abort, alloc: Global, acquirer: Code) -> Content {
 }
 
 fn checked_proposal(rt: &impl Abort, alloc: Global, acquirer: Code) -> Message {
-    Message::Proposal(Proposal {
+    let proposal = Proposal {
+        status: ProposalStatus::Checked,
+        content: content(rt, alloc, acquirer),
+    };
+    Message {
         from: Node::Itl,
         to: Node::Registry(acquirer),
         id: id(rt, "NZ999999"),
-        status: ProposalStatus::Checked,
-        content: content(rt, alloc, acquirer),
-    })
+        body: Body::Proposal(proposal),
+    }
 }
 
 /// The message is written as that text.

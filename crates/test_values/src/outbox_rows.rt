@@ -2,7 +2,7 @@ use crate::same::assert_same;
 use protocol::records::Outbox;
 use protocol::status::TransactionId;
 use protocol::units::{Code, NoMemory, Node};
-use protocol::wire::{Message, Request};
+use protocol::wire::{Body, Message};
 use std::alloc::Global;
 use std::process::Abort;
 use test_support::{READING, again};
@@ -17,7 +17,8 @@ fn requests(rt: &impl Abort, alloc: Global, count: u32) -> Vec<Message> {
     let mut messages = Vec::new(alloc);
     for number in 1..=count {
         let id = TransactionId::new(nz(rt), number).expect(rt, "an identifier");
-        let message = Message::Request(Request { from, to, id });
+        let body = Body::Request;
+        let message = Message { from, to, id, body };
         messages.push(message).expect(rt, READING);
     }
     messages
@@ -67,7 +68,7 @@ fn messages_are_numbered(rt: HostRuntime) {
     let outbox = acknowledged(&rt, rt.alloc());
     assert_same(&rt, (outbox.records(), outbox.sends()), (2, 2));
     assert_same(&rt, (outbox.sent_by(0), outbox.sent_by(1)), (0, 2));
-    assert_same(&rt, outbox.message(1).map(|m| m.transaction()), second);
+    assert_same(&rt, outbox.message(1).map(|m| m.id), second);
     assert!(rt; outbox.message(2).is_none());
     drop(outbox);
 }

@@ -3,7 +3,7 @@
 use crate::same::assert_same;
 use protocol::status::Status;
 use protocol::units::NoMemory;
-use protocol::wire::{Message, Notification, NotifiedStatus, Proposal, Request, decode};
+use protocol::wire::{Body, Message, NotifiedStatus, Proposal, decode};
 use std::alloc::Global;
 use std::process::Abort;
 use test_support::texts::{ACCEPTED, CHECKED, PROPOSED, REJECTED, REQUEST, TERMINATED_TO_NZ};
@@ -13,49 +13,37 @@ fn message(rt: &impl Abort, alloc: Global, text: &str) -> Message {
     decode(alloc, text.as_bytes()).expect(rt, READING)
 }
 
-fn proposal(rt: &impl Abort, alloc: Global, text: &str) -> Proposal {
-    match message(rt, alloc, text) {
-        Message::Proposal(proposal) => proposal,
-        other => {
-            drop(other);
-            rt.abort()
-        }
+fn proposal_in<'a>(rt: &impl Abort, message: &'a Message) -> &'a Proposal {
+    match &message.body {
+        Body::Proposal(proposal) => proposal,
+        _ => rt.abort(),
     }
 }
 
-fn notification(rt: &impl Abort, alloc: Global, text: &str) -> Notification {
-    match message(rt, alloc, text) {
-        Message::Notification(notification) => notification,
-        other => {
-            drop(other);
-            rt.abort()
-        }
+fn notified_in<'a>(rt: &impl Abort, message: &'a Message) -> &'a NotifiedStatus {
+    match &message.body {
+        Body::Notification(notified) => notified,
+        _ => rt.abort(),
     }
 }
 
-fn request(rt: &impl Abort, alloc: Global, text: &str) -> Request {
-    match message(rt, alloc, text) {
-        Message::Request(request) => request,
-        other => {
-            drop(other);
-            rt.abort()
-        }
-    }
+/// Asserts that a copy of the first proposal is the same as that one, and not as the second.
+fn assert_copied(rt: &impl Abort, first: &Proposal, second: &Proposal) {
+    let copy = again!(first.copy(), Err(NoMemory) => ());
+    let copy = copy.expect(rt, "memory");
+    assert_same(rt, (copy.same(first), copy.same(second)), (true, false));
+    drop(copy);
 }
 
 #[test]
 fn proposals(rt: HostRuntime) {
     let alloc = rt.alloc();
-    let (first, second) = (
-        proposal(&rt, alloc, PROPOSED),
-        proposal(&rt, alloc, CHECKED),
-    );
-    let copy = again!(first.copy(), Err(NoMemory) => ());
-    let copy = copy.expect(&rt, "memory");
-    assert_same(&rt, (copy.same(&first), copy.same(&second)), (true, false));
-    assert_same(&rt, copy.status.status(), Status::Proposed);
-    assert_same(&rt, second.status.status(), Status::Checked);
-    drop(copy);
+    let (first, second) = (message(&rt, alloc, PROPOSED), message(&rt, alloc, CHECKED));
+    assert_copied(&rt, proposal_in(&rt, &first), proposal_in(&rt, &second));
+    let status = proposal_in(&rt, &first).status.status();
+    assert_same(&rt, status, Status::Proposed);
+    let status = proposal_in(&rt, &second).status.status();
+    assert_same(&rt, status, Status::Checked);
     drop(second);
     drop(first);
 }
@@ -64,20 +52,20 @@ const REJECTED_ONCE: &str =
     r#"{"call":"AcceptNotification","codes":[301],"from":"JP","status":"Rejected","to":"ITL","transaction":"NZ1"}"#;
 
 #[test]
-fn notifications(rt: HostRuntime) {
+fn bodies(rt: HostRuntime) {
     let alloc = rt.alloc();
     for (text, other) in [
         (ACCEPTED, REJECTED),
         (REJECTED, REJECTED_ONCE),
         (TERMINATED_TO_NZ, ACCEPTED),
+        (PROPOSED, CHECKED),
+        (REQUEST, ACCEPTED),
     ] {
-        let (first, second) = (
-            notification(&rt, alloc, text),
-            notification(&rt, alloc, other),
-        );
-        let copy = again!(first.copy(), Err(NoMemory) => ());
+        let (first, second) = (message(&rt, alloc, text), message(&rt, alloc, other));
+        let copy = again!(first.body.copy(), Err(NoMemory) => ());
         let copy = copy.expect(&rt, "memory");
-        assert_same(&rt, (copy.same(&first), copy.same(&second)), (true, false));
+        let same = (copy.same(&first.body), copy.same(&second.body));
+        assert_same(&rt, same, (true, false));
         drop(copy);
         drop(second);
         drop(first);
@@ -104,14 +92,15 @@ fn assert_notified(
 #[test]
 fn notified_statuses(rt: HostRuntime) {
     let alloc = rt.alloc();
-    let other = notification(&rt, alloc, REJECTED_ONCE);
+    let other = message(&rt, alloc, REJECTED_ONCE);
     for (text, status, codes) in [
         (ACCEPTED, Status::Accepted, NO_CODES),
         (REJECTED, Status::Rejected, &[301, 303]),
         (TERMINATED_TO_NZ, Status::Terminated, &[207]),
     ] {
-        let told = notification(&rt, alloc, text);
-        assert_notified(&rt, &told.notified, status, codes, &other.notified);
+        let told = message(&rt, alloc, text);
+        let notified = notified_in(&rt, &told);
+        assert_notified(&rt, notified, status, codes, notified_in(&rt, &other));
         drop(told);
     }
     drop(other);
@@ -134,8 +123,8 @@ fn assert_codes_copied(rt: &impl Abort, notified: &NotifiedStatus, expected: &[u
 
 #[test]
 fn codes_of_the_log(rt: HostRuntime) {
-    let told = notification(&rt, rt.alloc(), TERMINATED_TO_NZ);
-    assert_codes_copied(&rt, &told.notified, &[207]);
+    let told = message(&rt, rt.alloc(), TERMINATED_TO_NZ);
+    assert_codes_copied(&rt, notified_in(&rt, &told), &[207]);
     drop(told);
 }
 
@@ -145,9 +134,9 @@ const SECOND_REQUEST: &str =
 #[test]
 fn requests(rt: HostRuntime) {
     let alloc = rt.alloc();
-    let first = request(&rt, alloc, REQUEST);
-    let again = request(&rt, alloc, REQUEST);
-    let second = request(&rt, alloc, SECOND_REQUEST);
+    let first = message(&rt, alloc, REQUEST);
+    let again = message(&rt, alloc, REQUEST);
+    let second = message(&rt, alloc, SECOND_REQUEST);
     assert_same(
         &rt,
         (first.same(&again), first.same(&second)),

@@ -8,12 +8,12 @@ use input_lines::event_of;
 use protocol::WorldEvent;
 use protocol::status::Status;
 use protocol::units::{NoMemory, Node};
-use protocol::wire::{Input, Proposal};
+use protocol::wire::Input;
 use registry_core::accounts::HeldBlock;
 use std::alloc::Global;
 use std::process::Abort;
 use test_support::{READING, again};
-use world::World;
+use world::{ProposedTransfer, World};
 
 /// A line of a registry's holdings: the account, the block, and the transaction that reserves it, if any.
 pub type Line = (u64, &'static str, Option<&'static str>);
@@ -166,10 +166,10 @@ pub fn assert_owed(rt: &impl Abort, alloc: Global, world: &World, block: &str, e
     }
 }
 
-fn assert_proposals(rt: &impl Abort, found: &[&Proposal], expected: &[&str]) {
+fn assert_proposed(rt: &impl Abort, found: &[ProposedTransfer<'_>], expected: &[&str]) {
     assert_same(rt, found.len(), expected.len());
-    for (proposal, text) in found.iter().zip(expected) {
-        assert_same(rt, proposal.id, id(rt, *text));
+    for (transfer, text) in found.iter().zip(expected) {
+        assert_same(rt, transfer.id, id(rt, *text));
     }
 }
 
@@ -183,10 +183,10 @@ pub fn assert_transfers(
 ) {
     let transactions = again!(world.transactions(alloc), Err(NoMemory) => ());
     let transactions = transactions.expect(rt, "memory");
-    assert_proposals(rt, transactions.as_slice(), all);
+    assert_proposed(rt, transactions.as_slice(), all);
     let due = again!(world.due(alloc), Err(NoMemory) => ());
     let due = due.expect(rt, "memory");
-    assert_proposals(rt, due.as_slice(), owing);
+    assert_proposed(rt, due.as_slice(), owing);
 }
 
 /// Asserts that the world shows nothing of a registry that the scheme doesn't have.

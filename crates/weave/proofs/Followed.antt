@@ -8,7 +8,6 @@ use Rattle.units.specs.declared.code.Node.{Node}
 use Rattle.status.proofs.Ids.{same_id-refl}
 use Rattle.status.specs.Id.{same_id}
 use Rattle.status.specs.declared.id.TransactionId.{TransactionId}
-use Rattle.wire.specs.Parties.{receiver, transaction}
 use Rattle.wire.specs.declared.input.Input.{Input}
 use Rattle.wire.specs.declared.message.Message.{Message}
 use Rattle.scheme.specs.declared.registries.Scheme.{Scheme}
@@ -75,17 +74,17 @@ module _ (scheme : Scheme) (journals : Node → List Input) (w : World) (events 
 
 -- ---- one message more
 
-numbers_more : (numbers more : TransactionId → List ℕ) (bag : List Posted) (p : Posted) → ((t : TransactionId) → more t ≡ (if same_id (transaction p.message) t then numbers t ++ length bag ∷ [] else numbers t))
+numbers_more : (numbers more : TransactionId → List ℕ) (bag : List Posted) (p : Posted) → ((t : TransactionId) → more t ≡ (if same_id p.message.id t then numbers t ++ length bag ∷ [] else numbers t))
     → AreAllNumbered numbers bag → AreAllNumbered more (bag ++ p ∷ [])
 numbers_more numbers more bag p put all k q is =
     elim (one_more bag p q k is) [
       | inl old ↦
-          let t = transaction q.message in
-          subst (λ (ks : List ℕ). Contains ks k) (sym (put t)) (pick (same_id (transaction p.message) t) (numbers t) (all k q old.1))
+          let t = q.message.id in
+          subst (λ (ks : List ℕ). Contains ks k) (sym (put t)) (pick (same_id p.message.id t) (numbers t) (all k q old.1))
       | inr new ↦
-          let t = transaction p.message in
+          let t = p.message.id in
           let here : more t ≡ numbers t ++ length bag ∷ [] = put t ∙ cond-true (same_id t t) (numbers t ++ length bag ∷ []) (numbers t) (same_id-refl t) in
-          subst (λ (z : Posted). Contains (more (transaction z.message)) k) new.1
+          subst (λ (z : Posted). Contains (more z.message.id) k) new.1
           (subst (λ (ks : List ℕ). Contains ks k) (sym here) (subst (Contains (numbers t ++ length bag ∷ [])) (sym new.0) (contains_last (numbers t) (length bag))))
     ]
   where
@@ -95,8 +94,8 @@ numbers_more numbers more bag p put all k q is =
 
 pub follows_posted : (scheme : Scheme) (journals : Node → List Input) (w : World) (events : List WorldEvent) (numbers more : TransactionId → List ℕ) (posted : List ℕ) (pending : List Node) (n : Node) (key : ℕ) (m : Message)
     → Follows scheme journals w events numbers posted pending → Contains pending n → next_message w n key ≡ Some m
-    → ((t : TransactionId) → more t ≡ (if same_id (transaction m) t then numbers t ++ length w.bag ∷ [] else numbers t))
-    → Follows scheme journals (with_message w n key m) (events ++ Post n key ∷ []) more posted (pending ++ receiver m ∷ [])
+    → ((t : TransactionId) → more t ≡ (if same_id m.id t then numbers t ++ length w.bag ∷ [] else numbers t))
+    → Follows scheme journals (with_message w n key m) (events ++ Post n key ∷ []) more posted (pending ++ m.to ∷ [])
 follows_posted scheme journals w events numbers more posted pending n key m f own is put = record {
   led = sym (posts w n key m is) ∙ ap (λ (z : World). run z (Post n key ∷ [])) f.led ∙ sym (run_append (opening scheme) events (Post n key ∷ []));
   front = f.front;

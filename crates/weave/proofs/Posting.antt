@@ -10,7 +10,6 @@ use Rattle.units.specs.Code.{same_node}
 use Rattle.units.specs.declared.code.Node.{Node}
 use Rattle.wire.specs.declared.input.Input.{Input}
 use Rattle.wire.specs.declared.message.Message.{Message}
-use Rattle.wire.specs.Parties.{receiver}
 use Rattle.protocol.specs.Claims.{committed_part, committed_of}
 use Rattle.protocol.specs.History.{sends}
 use Rattle.protocol.specs.Registries.{is_node}
@@ -108,7 +107,7 @@ or_false : (b : Bool) → (b || false) ≡ b
 or_false true = refl
 or_false false = refl
 
-same_for : (w : World) (n : Node) (key : ℕ) (m : Message) (k : Node) → same_node n k ≡ false → same_node (receiver m) k ≡ false → IsSameFor w (with_message w n key m) k
+same_for : (w : World) (n : Node) (key : ℕ) (m : Message) (k : Node) → same_node n k ≡ false → same_node m.to k ≡ false → IsSameFor w (with_message w n key m) k
 same_for w n key m k other_sender other_receiver = record {
   scheme = refl;
   at = refl;
@@ -126,24 +125,24 @@ same_for w n key m k other_sender other_receiver = record {
     clash : (b : Bool) → b ≡ true → b ≡ false → ⊥
     clash b t f = let e : true ≡ false = sym t ∙ f in cc (e)
 
-    only : (p : Posted) → In p (record { node = n; key = key; message = m } ∷ []) → receiver p.message ≡ k → ⊥
+    only : (p : Posted) → In p (record { node = n; key = key; message = m } ∷ []) → p.message.to ≡ k → ⊥
     only p (inl e) to =
-        let here : receiver m ≡ k = ap (λ (z : Posted). receiver z.message) e ∙ to in
-        clash (same_node (receiver m) k) (subst (λ z. same_node (receiver m) z ≡ true) here (same_node-refl (receiver m))) other_receiver
+        let here : m.to ≡ k = ap (λ (z : Posted). z.message.to) e ∙ to in
+        clash (same_node m.to k) (subst (λ z. same_node m.to z ≡ true) here (same_node-refl m.to)) other_receiver
     only p (inr h) to = absurd h
 
 -- the receiver is pending now
 pub waits_more : (w : World) (n : Node) (key : ℕ) (m : Message) (journals : Node → List Input) (pending : List Node) → Contains pending n → ((k : Node) → Contains pending k ⊎ Waits w journals k)
-    → (k : Node) → Contains (pending ++ receiver m ∷ []) k ⊎ Waits (with_message w n key m) journals k
+    → (k : Node) → Contains (pending ++ m.to ∷ []) k ⊎ Waits (with_message w n key m) journals k
 waits_more w n key m journals pending own waits k =
     elim (cases_Bool (same_node n k)) [
-      | inl y ↦ inl (contains_left pending (receiver m ∷ []) k (subst (Contains pending) (node_of_same n k y) own))
+      | inl y ↦ inl (contains_left pending (m.to ∷ []) k (subst (Contains pending) (node_of_same n k y) own))
       | inr other ↦
-          elim (cases_Bool (same_node (receiver m) k)) [
-            | inl z ↦ inl (subst (Contains (pending ++ receiver m ∷ [])) (node_of_same (receiver m) k z) (contains_last pending (receiver m)))
+          elim (cases_Bool (same_node m.to k)) [
+            | inl z ↦ inl (subst (Contains (pending ++ m.to ∷ [])) (node_of_same m.to k z) (contains_last pending m.to))
             | inr apart ↦
                 elim (waits k) [
-                  | inl h ↦ inl (contains_left pending (receiver m ∷ []) k h)
+                  | inl h ↦ inl (contains_left pending (m.to ∷ []) k h)
                   | inr h ↦ inr (waits_on w (with_message w n key m) k (same_for w n key m k other apart) journals h)
                 ]
           ]

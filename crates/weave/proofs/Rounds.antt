@@ -8,7 +8,6 @@ use Rattle.units.specs.declared.code.Node.{Node}
 use Rattle.status.specs.declared.id.TransactionId.{TransactionId}
 use Rattle.wire.specs.declared.input.Input.{Input}
 use Rattle.scheme.specs.declared.registries.Scheme.{Scheme}
-use Rattle.wire.specs.Parties.{receiver, transaction}
 use Rattle.wire.specs.declared.message.Message.{Message}
 use Rattle.status.specs.Id.{same_id}
 use Rattle.protocol.specs.declared.event.Posted.{Posted}
@@ -235,7 +234,7 @@ posts_same f g n key p = ap (λ (z : World). z.stations) p.world
 
 -- a message found last in the bag
 pub posts_by : (f g : Following) (n : Node) (key : ℕ) (m : Message) (p : Posted) (id : TransactionId) (to : Node) (bag : List Posted) → next_message f.world n key ≡ Some m → g.world ≡ with_message f.world n key m → bag ≡ f.world.bag
-    → Some p ≡ slice_get g.world.bag (length bag) → id ≡ transaction p.message → to ≡ receiver p.message
+    → Some p ≡ slice_get g.world.bag (length bag) → id ≡ p.message.id → to ≡ p.message.to
     → ((t : TransactionId) → numbers_of g t ≡ (if same_id id t then numbers_of f t ++ length bag ∷ [] else numbers_of f t)) → g.events.items ≡ f.events.items ++ Post n key ∷ [] → g.posted.items ≡ f.posted.items
     → g.pending.items ≡ f.pending.items ++ to ∷ [] → Posts f g n key
 posts_by f g n key m p id to bag next world bag_is last id_is to_is numbers events posted pending = record {
@@ -243,10 +242,10 @@ posts_by f g n key m p id to bag next world bag_is last id_is to_is numbers even
   next = next;
   world = world;
   events = events;
-  numbers = λ t. numbers t ∙ ap (λ (z : TransactionId). if same_id z t then numbers_of f t ++ length bag ∷ [] else numbers_of f t) (id_is ∙ ap (λ (z : Posted). transaction z.message) same)
-      ∙ ap (λ (b : List Posted). if same_id (transaction m) t then numbers_of f t ++ length b ∷ [] else numbers_of f t) bag_is;
+  numbers = λ t. numbers t ∙ ap (λ (z : TransactionId). if same_id z t then numbers_of f t ++ length bag ∷ [] else numbers_of f t) (id_is ∙ ap (λ (z : Posted). z.message.id) same)
+      ∙ ap (λ (b : List Posted). if same_id m.id t then numbers_of f t ++ length b ∷ [] else numbers_of f t) bag_is;
   posted = posted;
-  pending = pending ∙ ap (λ (z : Node). f.pending.items ++ z ∷ []) (to_is ∙ ap (λ (z : Posted). receiver z.message) same);
+  pending = pending ∙ ap (λ (z : Node). f.pending.items ++ z ∷ []) (to_is ∙ ap (λ (z : Posted). z.message.to) same);
 }
   where
     same : p ≡ record { node = n; key = key; message = m }
@@ -263,12 +262,12 @@ module _ (scheme : Scheme) (f g : Following) (n : Node) (key : ℕ) (i : IsPosti
       let longer : World = with_message f.world n key p.message in
       record {
         follows = record {
-          follows = follows_same scheme longer g.world (f.events.items ++ Post n key ∷ []) g.events.items (numbers_of g) (numbers_of g) f.posted.items g.posted.items (f.pending.items ++ receiver p.message ∷ []) g.pending.items p.world p.events (λ t. refl) p.posted p.pending
+          follows = follows_same scheme longer g.world (f.events.items ++ Post n key ∷ []) g.events.items (numbers_of g) (numbers_of g) f.posted.items g.posted.items (f.pending.items ++ p.message.to ∷ []) g.pending.items p.world p.events (λ t. refl) p.posted p.pending
               (follows_posted scheme (whole_at f.world) (without_tails f.world) f.events.items (numbers_of f) (numbers_of g) f.posted.items f.pending.items n key p.message i.follows.follows i.pending next p.numbers);
           nodes_are = ap (λ (z : World). map (λ (x : Station). x.node) z.stations) p.world ∙ i.follows.nodes_are;
         };
         node = subst (λ (z : World). is_node z.scheme n ≡ true) (sym p.world) i.node;
-        pending = subst (λ (ns : List Node). Contains ns n) (sym p.pending) (contains_left f.pending.items (receiver p.message ∷ []) n i.pending);
+        pending = subst (λ (ns : List Node). Contains ns n) (sym p.pending) (contains_left f.pending.items (p.message.to ∷ []) n i.pending);
         posted = subst (λ (z : World). IsPostedTo (without_tails z) n (key + 1)) (sym p.world) (posted_more (without_tails f.world) n key p.message next i.posted);
         few = subst (λ (z : World). key + 1 ≤ sent_count (without_tails z) n) (sym p.world)
             (let below = slice_get_within (sends (committed_of (without_tails f.world) n)) key p.message (is_sent (without_tails f.world) n key p.message next) in omega (arith, below));

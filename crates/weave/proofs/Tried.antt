@@ -6,7 +6,6 @@ use Rattle.std.proofs.lemmas.Bool.{cond-false}
 use Rattle.units.specs.declared.code.Node.{Node}
 use Rattle.status.specs.declared.id.TransactionId.{TransactionId}
 use Rattle.status.specs.declared.moment.Moment.{Moment}
-use Rattle.wire.specs.Parties.{receiver, transaction}
 use Rattle.wire.specs.declared.input.Input.{Input}
 use Rattle.wire.specs.declared.input.Input.TheVariants.{Received}
 use Rattle.wire.specs.declared.message.Message.{Message}
@@ -27,14 +26,14 @@ came v o = record { world = v; outcome = o }
 pub fits_order : (w : World) (n : Node) (input : Input) → is_order w n input ≡ true → Fits w (Take n input) n input
 fits_order w n input order = record { gives = (refl, refl); allowed = order }
 
-pub fits_delivery : (w : World) (n : Node) (m : Message) (moment : Moment) (index : ℕ) → HasMessage w.bag m index → receiver m ≡ n → Fits w (Deliver index moment) n (Received m moment)
-fits_delivery w n m moment index h to = record { gives = (h.0, h.1, ap receiver h.2 ∙ to, ap (λ z. Received z moment) h.2); allowed = tt }
+pub fits_delivery : (w : World) (n : Node) (m : Message) (moment : Moment) (index : ℕ) → HasMessage w.bag m index → m.to ≡ n → Fits w (Deliver index moment) n (Received m moment)
+fits_delivery w n m moment index h to = record { gives = (h.0, h.1, ap (λ (z : Message). z.to) h.2 ∙ to, ap (λ z. Received z moment) h.2); allowed = tt }
 
 pub no_delivery : (w : World) (n : Node) (m : Message) (moment : Moment) → ((k : ℕ) → HasMessage w.bag m k → ⊥) → IsNotRecorded w n (Received m moment)
 no_delivery w n m moment none e place g r = message_none w n m moment e place (λ index p is to same. none index (p, is, same)) g r
 
-pub other_delivery : (w : World) (n : Node) (m : Message) (moment : Moment) → (receiver m ≡ n → ⊥) → IsNotRecorded w n (Received m moment)
-other_delivery w n m moment apart e place g r = message_none w n m moment e place (λ index p is to same. apart (ap receiver (sym same) ∙ to)) g r
+pub other_delivery : (w : World) (n : Node) (m : Message) (moment : Moment) → (m.to ≡ n → ⊥) → IsNotRecorded w n (Received m moment)
+other_delivery w n m moment apart e place g r = message_none w n m moment e place (λ index p is to same. apart (ap (λ (z : Message). z.to) (sym same) ∙ to)) g r
 
 not_ordered : (w : World) (n : Node) (input : Input) (place : ℕ) → is_order w n input ≡ false → (step w (Take n input)).outcome ≡ Recorded place → ⊥
 unfolding step
@@ -69,6 +68,6 @@ stands_last w v n key m is = ap (λ (z : World). slice_get z.bag (length w.bag))
 
 -- ---- a message found by the numbers of its transaction
 
-pub not_numbered : (numbers : TransactionId → List ℕ) (bag : List Posted) (m : Message) (ks : List ℕ) → AreAllNumbered numbers bag → numbers (transaction m) ≡ ks → ((k : ℕ) → Contains ks k → HasMessage bag m k → ⊥) → (k : ℕ) → HasMessage bag m k → ⊥
+pub not_numbered : (numbers : TransactionId → List ℕ) (bag : List Posted) (m : Message) (ks : List ℕ) → AreAllNumbered numbers bag → numbers m.id ≡ ks → ((k : ℕ) → Contains ks k → HasMessage bag m k → ⊥) → (k : ℕ) → HasMessage bag m k → ⊥
 not_numbered numbers bag m ks all are none k h =
-    none k (subst (λ (xs : List ℕ). Contains xs k) are (subst (λ (z : Message). Contains (numbers (transaction z)) k) h.2 (all k h.0 h.1))) h
+    none k (subst (λ (xs : List ℕ). Contains xs k) are (subst (λ (z : Message). Contains (numbers z.id) k) h.2 (all k h.0 h.1))) h

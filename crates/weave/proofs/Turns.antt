@@ -7,7 +7,6 @@ use Rattle.wire.specs.declared.input.Input.{Input}
 use Rattle.wire.specs.declared.input.Input.TheVariants.{Received}
 use Rattle.wire.specs.declared.message.Message.{Message}
 use Rattle.protocol.specs.Weave.{Gives}
-use Rattle.wire.specs.Parties.{receiver}
 use Rattle.protocol.specs.World.{World, Stepped, station, stays, take_input, at_node, is_order, deliver, step}
 use Rattle.protocol.specs.declared.event.Outcome.TheVariants.{Recorded, NotPossible}
 use Rattle.protocol.specs.declared.event.Posted.{Posted}
@@ -32,7 +31,7 @@ take_recorded : (w : World) (n : Node) (input : Input) (place : ℕ) → (step w
 unfolding step
 take_recorded w n input place e = order_recorded w (is_order w n input) (taken w n input) place e
 
-pub deliver_at : (w : World) (index : ℕ) (moment : Moment) (n : Node) (p : Posted) → slice_get w.bag index ≡ Some p → receiver p.message ≡ n → step w (Deliver index moment) ≡ taken w n (Received p.message moment)
+pub deliver_at : (w : World) (index : ℕ) (moment : Moment) (n : Node) (p : Posted) → slice_get w.bag index ≡ Some p → p.message.to ≡ n → step w (Deliver index moment) ≡ taken w n (Received p.message moment)
 unfolding step
 deliver_at w index moment n p is to = ap (deliver w moment) is ∙ ap (λ z. taken w z (Received p.message moment)) to
 
@@ -62,7 +61,7 @@ unfolding step
 never_order w n m moment place e = not_possible place e
 
 -- a message that isn't in the bag, or is for another node, isn't recorded by any event
-pub message_none : (w : World) (n : Node) (m : Message) (moment : Moment) (e : WorldEvent) (place : ℕ) → ((index : ℕ) (p : Posted) → slice_get w.bag index ≡ Some p → receiver p.message ≡ n → p.message ≡ m → ⊥)
+pub message_none : (w : World) (n : Node) (m : Message) (moment : Moment) (e : WorldEvent) (place : ℕ) → ((index : ℕ) (p : Posted) → slice_get w.bag index ≡ Some p → p.message.to ≡ n → p.message ≡ m → ⊥)
     → Gives w e n (Received m moment) → (step w e).outcome ≡ Recorded place → ⊥
 message_none w n m moment (Take k order) place none g r = never_order w k m moment place (subst (λ z. (step w (Take k z)).outcome ≡ Recorded place) g.1 r)
 message_none w n m moment (Deliver index at) place none g r = none index g.0 g.1 g.2 (message_of g.0.message m at moment g.3)

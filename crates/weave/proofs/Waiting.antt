@@ -6,7 +6,6 @@ use Rattle.wire.specs.declared.input.Input.{Input}
 use Rattle.wire.specs.declared.input.Input.TheVariants.{Propose, Request, OpenAccount, CloseAccount, Ack, CleanUp, Eligible, Received}
 use Rattle.scheme.specs.declared.registries.Scheme.{Scheme}
 use Rattle.protocol.specs.Claims.{committed_part}
-use Rattle.wire.specs.Parties.{receiver}
 use Rattle.protocol.specs.World.{World, Station, Turn, Stepped, station, stays, take_input, at_node, is_order, was_posted, step}
 use Rattle.protocol.specs.declared.event.Outcome.TheVariants.{Recorded, NotPossible}
 use Rattle.protocol.specs.declared.event.Posted.{Posted}
@@ -21,7 +20,7 @@ pub record IsSameFor (w v : World) (n : Node) : Type 0 where
   pub scheme : v.scheme ≡ w.scheme
   pub at : station v n ≡ station w n
   pub marked : (key : ℕ) → was_posted v n key ≡ was_posted w n key
-  pub bag : (p : Posted) → In p v.bag → receiver p.message ≡ n → In p w.bag
+  pub bag : (p : Posted) → In p v.bag → p.message.to ≡ n → In p w.bag
 
 module _ (w v : World) (n : Node) (same : IsSameFor w v n) where
   order_same : (input : Input) → is_order v n input ≡ is_order w n input

@@ -5,7 +5,6 @@ use Rattle.std.specs.Prelude.{◌≡◌, ◌<◌, ◌≤◌, ℕ, true, List, []
 use Rattle.units.specs.declared.code.Node.{Node}
 use Rattle.status.specs.Id.{id_cmp, same_id}
 use Rattle.status.specs.declared.id.TransactionId.{TransactionId}
-use Rattle.wire.specs.Parties.{receiver, transaction}
 use Rattle.wire.specs.declared.message.Message.{Message}
 use Rattle.scheme.specs.declared.registries.Scheme.{Scheme}
 use Rattle.protocol.specs.Registries.{is_node, nodes}
@@ -65,9 +64,9 @@ pub record Posts (f g : Following) (n : Node) (key : ℕ) : Type 0 where
   pub next : next_message f.world n key ≡ Some message
   pub world : g.world ≡ with_message f.world n key message
   pub events : g.events.items ≡ f.events.items ++ Post n key ∷ []
-  pub numbers : (t : TransactionId) → numbers_of g t ≡ (if same_id (transaction message) t then numbers_of f t ++ length f.world.bag ∷ [] else numbers_of f t)
+  pub numbers : (t : TransactionId) → numbers_of g t ≡ (if same_id message.id t then numbers_of f t ++ length f.world.bag ∷ [] else numbers_of f t)
   pub posted : g.posted.items ≡ f.posted.items
-  pub pending : g.pending.items ≡ f.pending.items ++ receiver message ∷ []
+  pub pending : g.pending.items ≡ f.pending.items ++ message.to ∷ []
 
 abbrev pub HasPosted : Following → Following → Node → ℕ → Visit → Type 0
 HasPosted f g n key Advanced = Posts f g n key

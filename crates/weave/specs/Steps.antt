@@ -3,7 +3,6 @@ use Rattle.std.specs.Prelude.{◌≡◌, ◌<◌, ◌≤◌, ◌⊎◌, ℕ, tru
 use Rattle.units.specs.Code.{same_node}
 use Rattle.units.specs.declared.code.Node.{Node}
 use Rattle.status.specs.declared.id.TransactionId.{TransactionId}
-use Rattle.wire.specs.Parties.{transaction}
 use Rattle.wire.specs.declared.input.Input.{Input}
 use Rattle.wire.specs.declared.message.Message.{Message}
 use Rattle.scheme.specs.declared.registries.Scheme.{Scheme}
@@ -85,7 +84,7 @@ HasMessage bag m k = (p : Posted) × (slice_get bag k ≡ Some p) × (p.message 
 
 -- each message of the bag stands among the numbers of its transaction
 abbrev pub AreAllNumbered : (TransactionId → List ℕ) → List Posted → Type 0
-AreAllNumbered numbers bag = (k : ℕ) (p : Posted) → slice_get bag k ≡ Some p → Contains (numbers (transaction p.message)) k
+AreAllNumbered numbers bag = (k : ℕ) (p : Posted) → slice_get bag k ≡ Some p → Contains (numbers p.message.id) k
 
 -- ---- how far the journals are followed
 

@@ -125,8 +125,8 @@ impl Following {
         let Some(posted) = self.world.bag_message(number) else {
             unreachable!()
         };
-        let id = posted.message.transaction();
-        let receiver = posted.message.receiver();
+        let id = posted.message.id;
+        let receiver = posted.message.to;
         add_number(self.alloc, &mut self.numbers, id, number)?;
         self.events.reserve(1)?;
         self.events.push_reserved(WorldEvent::Post { node, key });

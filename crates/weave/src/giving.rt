@@ -32,7 +32,7 @@ fn delivery_of(
     ensures some { IfSome result (λ e. Fits world.now e node (Input.Received message.now moment)) }
     ensures none { IfNone result (IsNotRecorded (without_tails world.now) node (Input.Received message.now moment)) }
 {
-    if !are_same_nodes(message.receiver(), node) {
+    if !are_same_nodes(message.to, node) {
         return None;
     }
     let number = number_in_bag(world, numbers, message)?;

@@ -67,6 +67,6 @@ pub(crate) fn number_in_bag(
     ensures some { IfSome result (HasMessage world.now.bag message.now) }
     ensures none { IfNone result ((k : ℕ) → HasMessage world.now.bag message.now k → ⊥) }
 {
-    let found = numbers.get(&message.transaction())?;
+    let found = numbers.get(&message.id)?;
     find_number(world, found.as_slice(), message)
 }

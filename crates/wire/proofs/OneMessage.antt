@@ -14,16 +14,16 @@ use Rattle.status.specs.declared.id.TransactionId.{TransactionId}
 use Rattle.status.specs.declared.status.Status.{Status}
 use Rattle.status.specs.declared.status.Status.TheVariants as status
 use Rattle.status.proofs.Ids.{id_text_same}
-use Rattle.wire.specs.Messages.{IsMessage, IsLine}
+use Rattle.wire.specs.Messages.{fields_with, IsMessage, IsLine, IsSound}
 use Rattle.wire.specs.NotifiedStatuses.{notified_status, notified_codes, proposal_status}
-use Rattle.wire.specs.Reading.{HasContent, HasNotified, IsProposal, IsNotification, IsRequest}
+use Rattle.wire.specs.Objects.{HasExactly}
+use Rattle.wire.specs.Reading.{HasBody, HasContent, HasNotified}
+use Rattle.wire.specs.declared.message.Body.{Body}
+use Rattle.wire.specs.declared.message.Body.TheVariants.{Proposal, Notification, Request}
 use Rattle.wire.specs.declared.message.Message.{Message}
-use Rattle.wire.specs.declared.message.Message.TheVariants as message
-use Rattle.wire.specs.declared.message.Notification.{Notification}
-use Rattle.wire.specs.declared.message.Proposal.{Proposal}
+use Rattle.wire.specs.declared.message.Proposal as proposals
 use Rattle.wire.specs.declared.message.ProposalStatus.{ProposalStatus}
 use Rattle.wire.specs.declared.message.ProposalStatus.TheVariants.{Proposed, Checked}
-use Rattle.wire.specs.declared.message.Request.{Request}
 use Rattle.wire.specs.declared.notified.NotifiedStatus.{NotifiedStatus}
 use Rattle.wire.specs.declared.notified.NotifiedStatus.TheVariants.{Accepted, Rejected, Terminated, Cancelled, Completed}
 use Rattle.json_fields.proofs.OneAtKey.{text_once, whole_once}
@@ -101,39 +101,34 @@ notified_once d m n p q =
 
 -- ---- messages
 
--- the fields of a proposal that are a content's
-content_of : (d : Data) (p : Proposal) → IsProposal d p → HasContent d p.content
-content_of d p h = let f = h.0.1 in (f.0, f.1.1.1.1.1.0, f.1.1.1.1.1.1.0, f.1.1.1.1.1.1.1.1.0, h.1)
+-- the sender, the receiver and the transaction in the object
+pub record HasParties (d : Data) (m : Message) : Type 0 where
+  pub sender : HasAt d (codes "from") (string (node_text m.from))
+  pub receiver : HasAt d (codes "to") (string (node_text m.to))
+  pub transaction : HasAt d (codes "transaction") (string (id_text m.id))
 
-pub proposal_once : (d : Data) (p q : Proposal) → IsProposal d p → IsProposal d q → p ≡ q
+parties_of : (d : Data) (m : Message) (b : Body) → HasExactly d (fields_with m b) → HasParties d m
+parties_of d m (Proposal p) h = let f = h.1 in record { sender = f.1.1.0; receiver = f.1.1.1.1.0; transaction = f.1.1.1.1.1.1.1.0 }
+parties_of d m (Notification n) h = let f = h.1 in record { sender = f.1.1.0; receiver = f.1.1.1.1.0; transaction = f.1.1.1.1.1.0 }
+parties_of d m Request h = let f = h.1 in record { sender = f.1.0; receiver = f.1.1.0; transaction = f.1.1.1.0 }
+
+pub body_of : (d : Data) (m : Message) (b : Body) → HasExactly d (fields_with m b) → IsSound b → HasBody d b
+body_of d m (Proposal p) h is =
+    let f = h.1 in ((h.0, f.1.0), f.1.1.1.0, (f.0, f.1.1.1.1.1.0, f.1.1.1.1.1.1.0, f.1.1.1.1.1.1.1.1.0, is))
+body_of d m (Notification n) h is = let f = h.1 in ((h.0, f.0), (f.1.0, f.1.1.1.0, is))
+body_of d m Request h is = (h.0, h.1.0)
+
+pub body_in : (d : Data) (m : Message) → IsMessage d m → HasBody d m.body
+body_in d m is = body_of d m m.body is.0 is.1
+
+pub parties_in : (d : Data) (m : Message) → IsMessage d m → HasParties d m
+parties_in d m is = parties_of d m m.body is.0
+
+proposal_once : (d : Data) (p q : proposals.Proposal) → HasBody d (Proposal p) → HasBody d (Proposal q) → p ≡ q
 proposal_once d p q h k =
-    let f = h.0.1 in
-    let g = k.0.1 in
-    let froms = node_once d (codes "from") p.from q.from f.1.1.0 g.1.1.0 in
-    let tos = node_once d (codes "to") p.to q.to f.1.1.1.1.0 g.1.1.1.1.0 in
-    let ids = id_once d (codes "transaction") p.id q.id f.1.1.1.1.1.1.1.0 g.1.1.1.1.1.1.1.0 in
-    let statuses = proposal_status_same p.status q.status (status_once d (codes "status") (proposal_status p.status) (proposal_status q.status) f.1.1.1.0 g.1.1.1.0) in
-    let contents = content_once d p.content q.content (content_of d p h) (content_of d q k) in
-    λ i. record { from = froms i; to = tos i; id = ids i; status = statuses i; content = contents i }
-
-pub notification_once : (d : Data) (m n : Notification) → IsNotification d m → IsNotification d n → m ≡ n
-notification_once d m n h k =
-    let f = h.0.1 in
-    let g = k.0.1 in
-    let froms = node_once d (codes "from") m.from n.from f.1.1.0 g.1.1.0 in
-    let tos = node_once d (codes "to") m.to n.to f.1.1.1.1.0 g.1.1.1.1.0 in
-    let ids = id_once d (codes "transaction") m.id n.id f.1.1.1.1.1.0 g.1.1.1.1.1.0 in
-    let notified_statuses = notified_once d m.notified n.notified (f.1.0, f.1.1.1.0, h.1) (g.1.0, g.1.1.1.0, k.1) in
-    λ i. record { from = froms i; to = tos i; id = ids i; notified = notified_statuses i }
-
-pub request_once : (d : Data) (r s : Request) → IsRequest d r → IsRequest d s → r ≡ s
-request_once d r s h k =
-    let f = h.1 in
-    let g = k.1 in
-    let froms = node_once d (codes "from") r.from s.from f.1.0 g.1.0 in
-    let tos = node_once d (codes "to") r.to s.to f.1.1.0 g.1.1.0 in
-    let ids = id_once d (codes "transaction") r.id s.id f.1.1.1.0 g.1.1.1.0 in
-    λ i. record { from = froms i; to = tos i; id = ids i }
+    let statuses = proposal_status_same p.status q.status (status_once d (codes "status") (proposal_status p.status) (proposal_status q.status) h.1 k.1) in
+    let contents = content_once d p.content q.content h.2 k.2 in
+    λ i. record { status = statuses i; content = contents i }
 
 nine_or_six : (o : Option ℕ) → o ≡ Some 9 → o ≡ Some 6 → ⊥
 nine_or_six o p q = cc (p, q)
@@ -153,16 +148,26 @@ no_proposal d p q = nine_or_four _ p q
 no_request : (d : Data) → HasKeys d 6 → HasKeys d 4 → ⊥
 no_request d p q = six_or_four _ p q
 
+body_once : (d : Data) (a b : Body) → HasBody d a → HasBody d b → a ≡ b
+body_once d (Proposal p) (Proposal q) h k = ap (λ (x : proposals.Proposal). Proposal x) (proposal_once d p q h k)
+body_once d (Proposal p) (Notification n) h k = absurd (no_notification d h.0.0 k.0.0)
+body_once d (Proposal p) Request h k = absurd (no_proposal d h.0.0 k.0)
+body_once d (Notification m) (Proposal q) h k = absurd (no_notification d k.0.0 h.0.0)
+body_once d (Notification m) (Notification n) h k = ap (λ (x : NotifiedStatus). Notification x) (notified_once d m n h.1 k.1)
+body_once d (Notification m) Request h k = absurd (no_request d h.0.0 k.0)
+body_once d Request (Proposal q) h k = absurd (no_proposal d k.0.0 h.0)
+body_once d Request (Notification n) h k = absurd (no_request d k.0.0 h.0)
+body_once d Request Request h k = refl
+
 pub message_once : (d : Data) (m n : Message) → IsMessage d m → IsMessage d n → m ≡ n
-message_once d (message.Proposal p) (message.Proposal q) h k = ap message.Proposal (proposal_once d p q h k)
-message_once d (message.Proposal p) (message.Notification n) h k = absurd (no_notification d h.0.0 k.0.0)
-message_once d (message.Proposal p) (message.Request s) h k = absurd (no_proposal d h.0.0 k.0.0)
-message_once d (message.Notification m) (message.Proposal q) h k = absurd (no_notification d k.0.0 h.0.0)
-message_once d (message.Notification m) (message.Notification n) h k = ap message.Notification (notification_once d m n h k)
-message_once d (message.Notification m) (message.Request s) h k = absurd (no_request d h.0.0 k.0.0)
-message_once d (message.Request r) (message.Proposal q) h k = absurd (no_proposal d k.0.0 h.0.0)
-message_once d (message.Request r) (message.Notification n) h k = absurd (no_request d k.0.0 h.0.0)
-message_once d (message.Request r) (message.Request s) h k = ap message.Request (request_once d r s h.0 k.0)
+message_once d m n h k =
+    let p = parties_in d m h in
+    let q = parties_in d n k in
+    let froms = node_once d (codes "from") m.from n.from p.sender q.sender in
+    let tos = node_once d (codes "to") m.to n.to p.receiver q.receiver in
+    let ids = id_once d (codes "transaction") m.id n.id p.transaction q.transaction in
+    let bodies = body_once d m.body n.body (body_in d m h) (body_in d n k) in
+    λ i. record { from = froms i; to = tos i; id = ids i; body = bodies i }
 
 pub line_once : (line : List ℕ) (m n : Message) → IsLine line m → IsLine line n → m ≡ n
 line_once line m n p q =

@@ -132,8 +132,8 @@ received_once f d m n t u h k =
     λ i. Received (messages i) (moments i)
 
 -- where the one message at the key has units beyond the format, there is none
-pub none_within : (f : RecordFormat) (d inner : Data) (m : Message) → HasAt d (codes "message") inner → IsMessage inner m → (AreUnitsWithin f m → ⊥) → (n : Message) → HasMessage f d n → ⊥
-none_within f d inner m at is beyond n h = beyond (subst (AreUnitsWithin f) (sym (inner_once d inner h.0 m n at h.1 is h.2)) h.3)
+pub none_within : (f : RecordFormat) (d inner : Data) (m : Message) → HasAt d (codes "message") inner → IsMessage inner m → (AreUnitsWithin f m.body → ⊥) → (n : Message) → HasMessage f d n → ⊥
+none_within f d inner m at is beyond n h = beyond (subst (λ (x : Message). AreUnitsWithin f x.body) (sym (inner_once d inner h.0 m n at h.1 is h.2)) h.3)
 
 words : (f : RecordFormat) (d : Data) (i j : Input) → IsRecord f d i → IsRecord f d j → input_word i ≡ input_word j
 words f d i j p q = word_is f d (input_word i) j (word_at f d i p) q

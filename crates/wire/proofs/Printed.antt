@@ -1,5 +1,5 @@
 -- What is printed for a message: the fields that were wanted, and few bytes.
-use Rattle.std.proofs.Common.{◌≡◌, ℕ, ◌+◌, ◌*◌, ◌^◌, ◌<◌, ◌≤◌, List, [], ◌∷◌, ◌++◌, length, Bool, true, false, cond, decimal, codes, refl, sym, ap, subst, ◌∙◌, arith, length-append, Some, lit≤, ltb, ◌/◌, ◌%◌}
+use Rattle.std.proofs.Common.{◌≡◌, ℕ, ◌+◌, ◌*◌, ◌^◌, ◌<◌, ◌≤◌, List, [], ◌∷◌, ◌++◌, length, Bool, true, false, cond, decimal, codes, refl, sym, subst, arith, length-append, lit≤, ltb, ◌/◌, ◌%◌}
 use Rattle.std.proofs.lemmas.Fmt.{length-decimal-le}
 use Rattle.std.specs.Char.{digit_char}
 use Rattle.std.specs.List.{AllByRecursion}
@@ -18,22 +18,19 @@ use Rattle.units.specs.declared.block.Period.{Period}
 use Rattle.units.specs.declared.block.Period.TheVariants.{First, Second}
 use Rattle.units.specs.declared.code.Node.{Node}
 use Rattle.units.specs.declared.code.Node.TheVariants.{Itl, Registry}
-use Rattle.status.specs.Content.{IsContent}
 use Rattle.status.specs.Id.{id_text}
 use Rattle.status.specs.Status.{status_text}
 use Rattle.status.specs.declared.id.TransactionId.{TransactionId}
 use Rattle.status.specs.declared.status.Status.{Status}
 use Rattle.status.specs.declared.status.Status.TheVariants as status
 use Rattle.wire.specs.Codes.{Ascends}
-use Rattle.wire.specs.Messages.{proposal_fields, notification_fields, request_fields, message_fields, message_data, message_text, IsSound, IsLine}
+use Rattle.wire.specs.Messages.{fields_with, message_fields, message_data, message_text, IsSound, IsLine}
 use Rattle.wire.specs.NotifiedStatuses.{notified_status, notified_codes, IsNotified, proposal_status}
 use Rattle.wire.specs.Objects.{Field, HasExactly, object_of, members_of, whole_items, block_items}
 use Rattle.wire.specs.Writing.{data_tokens}
+use Rattle.wire.specs.declared.message.Body.{Body}
+use Rattle.wire.specs.declared.message.Body.TheVariants.{Proposal, Notification, Request}
 use Rattle.wire.specs.declared.message.Message.{Message}
-use Rattle.wire.specs.declared.message.Message.TheVariants as message
-use Rattle.wire.specs.declared.message.Notification.{Notification}
-use Rattle.wire.specs.declared.message.Proposal.{Proposal}
-use Rattle.wire.specs.declared.message.Request.{Request}
 use Rattle.wire.specs.declared.notified.NotifiedStatus.{NotifiedStatus}
 use Rattle.wire.specs.declared.notified.NotifiedStatus.TheVariants.{Accepted, Rejected, Terminated, Cancelled, Completed}
 use Rattle.wire.proofs.ReadBack.{message_back, message_shallow}
@@ -41,10 +38,13 @@ use Rattle.wire.proofs.Written.{printed, printed_reads}
 
 -- ---- the fields that were wanted
 
+exact : (m : Message) (b : Body) → HasExactly (object_of (fields_with m b)) (fields_with m b)
+exact m (Proposal p) = (refl, (refl, (refl, (refl, (refl, (refl, (refl, (refl, (refl, (refl, tt))))))))))
+exact m (Notification n) = (refl, (refl, (refl, (refl, (refl, (refl, (refl, tt)))))))
+exact m Request = (refl, (refl, (refl, (refl, (refl, tt)))))
+
 pub message_exact : (m : Message) → HasExactly (message_data m) (message_fields m)
-message_exact (message.Proposal p) = (refl, (refl, (refl, (refl, (refl, (refl, (refl, (refl, (refl, (refl, tt))))))))))
-message_exact (message.Notification n) = (refl, (refl, (refl, (refl, (refl, (refl, (refl, tt)))))))
-message_exact (message.Request r) = (refl, (refl, (refl, (refl, (refl, tt)))))
+message_exact m = exact m m.body
 
 -- ---- few bytes
 
@@ -155,8 +155,8 @@ members_short later (f ∷ fs) =
 object_short : (fs : List Field) (n : ℕ) → most fs ≤ n → length (compact_text (object_of fs)) ≤ n + 1
 object_short fs n le = omega (arith, members_short false fs)
 
-proposal_short : (p : Proposal) → IsContent p.content → most (proposal_fields p) ≤ 8191
-proposal_short p is =
+fields_short : (m : Message) (b : Body) → IsSound b → most (fields_with m b) ≤ 8191
+fields_short m (Proposal p) is =
     let account = is.account in
     let to_account = is.to_account in
     let few = is.few_units in
@@ -164,56 +164,50 @@ proposal_short p is =
       arith,
       number_short p.content.account (omega arith),
       quoted_short (codes "AcceptProposal"),
-      quoted_short (node_text p.from),
-      node_short p.from,
+      quoted_short (node_text m.from),
+      node_short m.from,
       quoted_short (status_text (proposal_status p.status)),
       status_short (proposal_status p.status),
-      quoted_short (node_text p.to),
-      node_short p.to,
+      quoted_short (node_text m.to),
+      node_short m.to,
       number_short p.content.to_account (omega arith),
       quoted_short (code_text p.content.acquirer),
-      quoted_short (id_text p.id),
-      id_short p.id,
+      quoted_short (id_text m.id),
+      id_short m.id,
       blocks_short false p.content.units is.in_range,
     )
-
-notification_short : (n : Notification) → IsNotified n.notified → most (notification_fields n) ≤ 8191
-notification_short n is =
+fields_short m (Notification n) is =
     omega (
       arith,
       quoted_short (codes "AcceptNotification"),
-      notified_short n.notified is,
-      quoted_short (node_text n.from),
-      node_short n.from,
-      quoted_short (status_text (notified_status n.notified)),
-      status_short (notified_status n.notified),
-      quoted_short (node_text n.to),
-      node_short n.to,
-      quoted_short (id_text n.id),
-      id_short n.id,
+      notified_short n is,
+      quoted_short (node_text m.from),
+      node_short m.from,
+      quoted_short (status_text (notified_status n)),
+      status_short (notified_status n),
+      quoted_short (node_text m.to),
+      node_short m.to,
+      quoted_short (id_text m.id),
+      id_short m.id,
     )
-
-request_short : (r : Request) → most (request_fields r) ≤ 8191
-request_short r =
+fields_short m Request is =
     omega (
       arith,
       quoted_short (codes "RequestCancellation"),
-      quoted_short (node_text r.from),
-      node_short r.from,
-      quoted_short (node_text r.to),
-      node_short r.to,
-      quoted_short (id_text r.id),
-      id_short r.id,
+      quoted_short (node_text m.from),
+      node_short m.from,
+      quoted_short (node_text m.to),
+      node_short m.to,
+      quoted_short (id_text m.id),
+      id_short m.id,
     )
 
-pub message_short : (m : Message) → IsSound m → length (message_text m) ≤ 8192
-message_short (message.Proposal p) is = object_short (proposal_fields p) 8191 (proposal_short p is)
-message_short (message.Notification n) is = object_short (notification_fields n) 8191 (notification_short n is)
-message_short (message.Request r) is = object_short (request_fields r) 8191 (request_short r)
+pub message_short : (m : Message) → IsSound m.body → length (message_text m) ≤ 8192
+message_short m is = object_short (message_fields m) 8191 (fields_short m m.body is)
 
 -- ---- the text, whole
 
-pub line_of : (m : Message) (ts : List Token) (bytes : List ℕ) → ts ≡ data_tokens (message_data m) → IsSound m → bytes ≡ print ts → tokens (print ts) ≡ ts → IsUtf8 (print ts) → IsLine bytes m
+pub line_of : (m : Message) (ts : List Token) (bytes : List ℕ) → ts ≡ data_tokens (message_data m) → IsSound m.body → bytes ≡ print ts → tokens (print ts) ≡ ts → IsUtf8 (print ts) → IsLine bytes m
 line_of m ts bytes are sound text reads utf8 =
     record {
       short = subst (λ b. length b ≤ 8192) (sym (printed (message_data m) ts bytes are text)) (message_short m sound);

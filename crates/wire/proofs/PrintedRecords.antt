@@ -23,7 +23,7 @@ record_is (CloseAccount n) is = (refl, (refl, (refl, (refl, tt))))
 record_is (Ack n) is = (refl, (refl, (refl, (refl, tt))))
 record_is (CleanUp t) is = (refl, (refl, (refl, (refl, tt))))
 record_is (Eligible c may) is = (refl, (refl, (refl, (refl, (refl, tt)))))
-record_is (Received m t) is = (message_data m, (refl, (refl, (refl, (refl, (refl, tt))))), (message_exact m, is), within_two m is)
+record_is (Received m t) is = (message_data m, (refl, (refl, (refl, (refl, (refl, tt))))), (message_exact m, is), within_two m.body is)
 
 pub record_of : (i : Input) (ts : List Token) (bytes : List ℕ) → ts ≡ data_tokens (record_data i) → IsSoundInput i → bytes ≡ print ts → tokens (print ts) ≡ ts → IsUtf8 (print ts) → IsRecordText Two bytes i
 record_of i ts bytes are sound text reads utf8 =

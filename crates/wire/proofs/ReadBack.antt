@@ -1,21 +1,21 @@
 -- What messages and records are written as is read back as them: their values nest little, and their numbers are short.
-use Rattle.std.proofs.Common.{◌≡◌, ℕ, ◌+◌, ◌^◌, ◌<◌, ◌≤◌, List, [], ◌∷◌, Some, refl, lit≤, arith}
+use Rattle.std.proofs.Common.{◌≡◌, ℕ, ◌+◌, ◌<◌, ◌≤◌, List, [], ◌∷◌, Some, refl, lit≤, arith}
 use Rattle.json.specs.Tree.{depth, items_depth}
 use Rattle.serde_json.specs.Read.{of_json, of_items}
 use Rattle.serde_json.specs.Written.{outline, items_outline}
 use Rattle.serde_json.proofs.Numbers.{number_of-decimal}
 use Rattle.units.specs.declared.block.RawBlock.{RawBlock}
-use Rattle.status.specs.Content.{IsContent}
 use Rattle.wire.specs.Codes.{Ascends}
-use Rattle.wire.specs.Messages.{message_data, IsSound}
+use Rattle.wire.specs.Messages.{fields_with, message_data, IsSound}
 use Rattle.wire.specs.NotifiedStatuses.{notified_codes, IsNotified}
-use Rattle.wire.specs.Objects.{block_items, whole_items}
+use Rattle.wire.specs.Objects.{block_items, object_of, whole_items}
 use Rattle.wire.specs.Records.{record_data}
 use Rattle.wire.specs.Writing.{IsSoundInput}
 use Rattle.wire.specs.declared.input.Input.{Input}
 use Rattle.wire.specs.declared.input.Input.TheVariants.{Propose, Request, OpenAccount, CloseAccount, Ack, CleanUp, Eligible, Received}
+use Rattle.wire.specs.declared.message.Body.{Body}
+use Rattle.wire.specs.declared.message.Body.TheVariants as body
 use Rattle.wire.specs.declared.message.Message.{Message}
-use Rattle.wire.specs.declared.message.Message.TheVariants as message
 use Rattle.wire.specs.declared.notified.NotifiedStatus.{NotifiedStatus}
 use Rattle.wire.specs.declared.notified.NotifiedStatus.TheVariants.{Accepted, Rejected, Terminated, Cancelled, Completed}
 
@@ -46,18 +46,24 @@ notified_back Completed is = refl
 
 -- ---- messages
 
-pub message_back : (m : Message) → IsSound m → of_json (outline (message_data m)) ≡ Some (message_data m)
-message_back (message.Proposal p) is =
+fields_back : (m : Message) (b : Body) → IsSound b → of_json (outline (object_of (fields_with m b))) ≡ Some (object_of (fields_with m b))
+fields_back m (body.Proposal p) is =
     let account = is.account in
     let to_account = is.to_account in
     rw (number_of-decimal p.content.account (omega arith), number_of-decimal p.content.to_account (omega arith), blocks_back p.content.units) refl
-message_back (message.Notification n) is = rw (notified_back n.notified is) refl
-message_back (message.Request r) is = refl
+fields_back m (body.Notification n) is = rw (notified_back n is) refl
+fields_back m body.Request is = refl
+
+pub message_back : (m : Message) → IsSound m.body → of_json (outline (message_data m)) ≡ Some (message_data m)
+message_back m is = fields_back m m.body is
+
+fields_shallow : (m : Message) (b : Body) → depth (outline (object_of (fields_with m b))) ≤ 2
+fields_shallow m (body.Proposal p) = rw (blocks_flat p.content.units) (lit≤ tt)
+fields_shallow m (body.Notification n) = rw (whole_flat (notified_codes n)) (lit≤ tt)
+fields_shallow m body.Request = lit≤ tt
 
 pub message_shallow : (m : Message) → depth (outline (message_data m)) ≤ 2
-message_shallow (message.Proposal p) = rw (blocks_flat p.content.units) (lit≤ tt)
-message_shallow (message.Notification n) = rw (whole_flat (notified_codes n.notified)) (lit≤ tt)
-message_shallow (message.Request r) = lit≤ tt
+message_shallow m = fields_shallow m m.body
 
 -- ---- records
 

@@ -11,8 +11,8 @@ use Rattle.units.specs.declared.block.RawBlock.{RawBlock}
 use Rattle.status.specs.Content.{raws}
 use Rattle.wire.specs.Messages.{IsSound}
 use Rattle.wire.specs.Records.{AreUnitsWithin, last_unit_of}
-use Rattle.wire.specs.declared.message.Message.{Message}
-use Rattle.wire.specs.declared.message.Message.TheVariants as message
+use Rattle.wire.specs.declared.message.Body.{Body}
+use Rattle.wire.specs.declared.message.Body.TheVariants.{Proposal, Notification, Request}
 use Rattle.wire.specs.declared.record_format.RecordFormat.TheVariants.{Two}
 
 -- ---- a test of each block
@@ -41,7 +41,7 @@ up_to_last [] are = tt
 up_to_last (b ∷ bs) are = (are.0.2, up_to_last bs are.1)
 
 -- has all units of sound messages
-pub within_two : (m : Message) → IsSound m → AreUnitsWithin Two m
-within_two (message.Proposal p) is = up_to_last p.content.units is.in_range
-within_two (message.Notification n) is = tt
-within_two (message.Request r) is = tt
+pub within_two : (b : Body) → IsSound b → AreUnitsWithin Two b
+within_two (Proposal p) is = up_to_last p.content.units is.in_range
+within_two (Notification n) is = tt
+within_two Request is = tt

@@ -1,7 +1,6 @@
 pub mod Codes
 pub mod NotifiedStatuses
 pub mod Objects
-pub mod Parties
 pub mod Messages
 pub mod Records
 pub mod Reading

@@ -9,16 +9,15 @@ use Rattle.units.specs.declared.block.Block.{Block}
 use Rattle.units.specs.declared.block.RawBlock.{RawBlock}
 use Rattle.status.specs.Content.{Content, IsContent}
 use Rattle.status.specs.Status.{status_text}
-use Rattle.wire.specs.Messages.{proposal_fields, notification_fields, request_fields, IsMessage}
+use Rattle.wire.specs.Messages.{IsMessage}
 use Rattle.wire.specs.NotifiedStatuses.{notified_status, notified_codes, IsNotified, proposal_status}
 use Rattle.wire.specs.Objects.{HasExactly, HasFields, whole, numbers, blocks}
 use Rattle.wire.specs.Records.{format_fields, AreUnitsWithin}
 use Rattle.wire.specs.declared.input.Number.{Number}
+use Rattle.wire.specs.declared.message.Body.{Body}
+use Rattle.wire.specs.declared.message.Body.TheVariants.{Proposal, Notification, Request}
 use Rattle.wire.specs.declared.message.Message.{Message}
-use Rattle.wire.specs.declared.message.Notification.{Notification}
-use Rattle.wire.specs.declared.message.Proposal.{Proposal}
 use Rattle.wire.specs.declared.message.ProposalStatus.{ProposalStatus}
-use Rattle.wire.specs.declared.message.Request.{Request}
 use Rattle.wire.specs.declared.notified.NotifiedStatus.{NotifiedStatus}
 use Rattle.wire.specs.declared.record_format.RecordFormat.{RecordFormat}
 
@@ -48,21 +47,22 @@ Says text told n = (text ≡ status_text (notified_status n)) × (told ≡ notif
 abbrev pub HasNotified : Data → NotifiedStatus → Type 0
 HasNotified d n = HasAt d (codes "codes") (numbers (notified_codes n)) × HasAt d (codes "status") (string (status_text (notified_status n))) × IsNotified n
 
-abbrev pub IsProposal : Data → Proposal → Type 0
-IsProposal d p = HasExactly d (proposal_fields p) × IsContent p.content
-
-abbrev pub IsNotification : Data → Notification → Type 0
-IsNotification d n = HasExactly d (notification_fields n) × IsNotified n.notified
-
-abbrev pub IsRequest : Data → Request → Type 0
-IsRequest d r = HasExactly d (request_fields r)
-
 abbrev pub HasProposalStatus : Data → ProposalStatus → Type 0
 HasProposalStatus d s = HasAt d (codes "status") (string (status_text (proposal_status s)))
 
+-- the object has so many keys, and its call has that name
+abbrev pub IsCall : Data → ℕ → List ℕ → Type 0
+IsCall d count name = HasKeys d count × HasAt d (codes "call") (string name)
+
+-- the object has the body of a message
+abbrev pub HasBody : Data → Body → Type 0
+HasBody d (Proposal p) = IsCall d 9 (codes "AcceptProposal") × HasProposalStatus d p.status × HasContent d p.content
+HasBody d (Notification n) = IsCall d 6 (codes "AcceptNotification") × HasNotified d n
+HasBody d Request = IsCall d 4 (codes "RequestCancellation")
+
 -- the object has a message at its key, whose units are within the format
 abbrev pub HasMessage : RecordFormat → Data → Message → Type 0
-HasMessage format d m = (inner : Data) × HasAt d (codes "message") inner × IsMessage inner m × AreUnitsWithin format m
+HasMessage format d m = (inner : Data) × HasAt d (codes "message") inner × IsMessage inner m × AreUnitsWithin format m.body
 
 -- a record of that word, with `own` keys besides those of the format
 abbrev pub HasWord : RecordFormat → Data → List ℕ → ℕ → Type 0

@@ -12,8 +12,8 @@ use Rattle.wire.specs.Objects.{Field, HasExactly, object_of, whole, blocks}
 use Rattle.wire.specs.Messages.{message_data, IsMessage}
 use Rattle.wire.specs.declared.input.Input.{Input}
 use Rattle.wire.specs.declared.input.Input.TheVariants.{Propose, Request, OpenAccount, CloseAccount, Ack, CleanUp, Eligible, Received}
-use Rattle.wire.specs.declared.message.Message.{Message}
-use Rattle.wire.specs.declared.message.Message.TheVariants as message
+use Rattle.wire.specs.declared.message.Body.{Body}
+use Rattle.wire.specs.declared.message.Body.TheVariants as body
 use Rattle.wire.specs.declared.record_format.RecordFormat.{RecordFormat}
 use Rattle.wire.specs.declared.record_format.RecordFormat.TheVariants.{One, Two}
 
@@ -32,9 +32,9 @@ abbrev pub last_unit_of : RecordFormat → ℕ
 last_unit_of One = last_unit_of_format_one
 last_unit_of Two = last_unit
 
--- no unit of the message has a greater number
-abbrev pub AreUnitsWithin : RecordFormat → Message → Type 0
-AreUnitsWithin format (message.Proposal p) = AllByRecursion (λ b. b.last ≤ last_unit_of format) p.content.units
+-- no unit of a message with that body has a greater number
+abbrev pub AreUnitsWithin : RecordFormat → Body → Type 0
+AreUnitsWithin format (body.Proposal p) = AllByRecursion (λ b. b.last ≤ last_unit_of format) p.content.units
 AreUnitsWithin format _ = Unit {0}
 
 -- the fields of an order to transfer units, which are written as they were ordered
@@ -73,7 +73,7 @@ record_text i = compact_text (record_data i)
 -- the format
 abbrev pub IsRecord : RecordFormat → Data → Input → Type 0
 IsRecord format d (Propose o) = HasExactly d (record_fields format null (Propose o)) × IsOrder o
-IsRecord format d (Received m t) = (message : Data) × HasExactly d (record_fields format message (Received m t)) × IsMessage message m × AreUnitsWithin format m
+IsRecord format d (Received m t) = (message : Data) × HasExactly d (record_fields format message (Received m t)) × IsMessage message m × AreUnitsWithin format m.body
 IsRecord format d i = HasExactly d (record_fields format null i)
 
 -- the text writes the input: JSON in UTF-8

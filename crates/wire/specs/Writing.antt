@@ -34,5 +34,5 @@ number_token n = number (decimal n)
 -- an order's numbers are short, and a message's values in their ranges
 abbrev pub IsSoundInput : Input → Type 0
 IsSoundInput (Propose o) = IsOrder o
-IsSoundInput (Received m t) = IsSound m
+IsSoundInput (Received m t) = IsSound m.body
 IsSoundInput _ = Unit {0}

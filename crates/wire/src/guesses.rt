@@ -3,7 +3,7 @@
 ghost use Rattle.std.specs.Prelude.{◌<◌};
 
 use crate::input::{Input, Number};
-use crate::message::{Message, Notification, Proposal, ProposalStatus};
+use crate::message::{Body, Message, Proposal, ProposalStatus};
 use crate::notified::NotifiedStatus;
 use status::{Content, Moment, Order, Status, TransactionId};
 use std::alloc::Global;
@@ -114,7 +114,7 @@ fn notified_status(text: &str) -> Option<NotifiedStatus> {
 }
 
 /// A proposal, after its first key.
-fn proposal(alloc: Global, front: &mut Front<'_>) -> Option<Proposal> {
+fn proposal(alloc: Global, front: &mut Front<'_>) -> Option<Message> {
     let account = front.number()?;
     front.skip("\"call\":\"AcceptProposal\",\"from\":\"")?;
     let from = front.node()?;
@@ -132,17 +132,12 @@ fn proposal(alloc: Global, front: &mut Front<'_>) -> Option<Proposal> {
     let units = front.blocks(alloc)?;
     front.skip("}")?;
     let content = Content::new(account, acquirer, to_account, units)?;
-    Some(Proposal {
-        from,
-        to,
-        id,
-        status,
-        content,
-    })
+    let body = Body::Proposal(Proposal { status, content });
+    Some(Message { from, to, id, body })
 }
 
 /// A notification without codes, after them.
-fn notification(front: &mut Front<'_>) -> Option<Notification> {
+fn notification(front: &mut Front<'_>) -> Option<Message> {
     front.skip(",\"from\":\"")?;
     let from = front.node()?;
     front.skip(",\"status\":\"")?;
@@ -152,12 +147,8 @@ fn notification(front: &mut Front<'_>) -> Option<Notification> {
     front.skip(",\"transaction\":\"")?;
     let id = front.id()?;
     front.skip("}")?;
-    Some(Notification {
-        from,
-        to,
-        id,
-        notified,
-    })
+    let body = Body::Notification(notified);
+    Some(Message { from, to, id, body })
 }
 
 fn message(alloc: Global, front: &mut Front<'_>) -> Option<Message> {
@@ -165,12 +156,10 @@ fn message(alloc: Global, front: &mut Front<'_>) -> Option<Message> {
         .skip("{\"call\":\"AcceptNotification\",\"codes\":[]")
         .is_some()
     {
-        let notification = notification(front)?;
-        return Some(Message::Notification(notification));
+        return notification(front);
     }
     front.skip("{\"account\":")?;
-    let proposal = proposal(alloc, front)?;
-    Some(Message::Proposal(proposal))
+    proposal(alloc, front)
 }
 
 /// A message that this line may write.

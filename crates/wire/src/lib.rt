@@ -23,7 +23,7 @@ mod writing_records;
 pub use codes::{AcquirerCodes, LogCodes};
 pub use input::{Input, Number};
 pub use json_fields::TextFault;
-pub use message::{Message, Notification, Proposal, ProposalStatus, Request};
+pub use message::{Body, Message, Proposal, ProposalStatus};
 pub use notified::NotifiedStatus;
 pub use reading::{decode, one_message};
 pub use reading_records::{decode_input, decode_input_v1, one_input};

@@ -1,7 +1,6 @@
 //! Messages between registries and the log.
 ghost use Rattle.std.specs.Prelude.{◌≡◌, IfOk};
 ghost use Rattle.wire.specs.NotifiedStatuses.{notified_status, notified_codes, proposal_status, IsNotified};
-ghost use Rattle.wire.specs.Parties as parties;
 
 use crate::notified::NotifiedStatus;
 use status::{Content, Status, TransactionId};
@@ -17,10 +16,6 @@ pub enum ProposalStatus {
 /// A transfer that a registry proposes, and that the log passes on.
 #[derive(Debug)]
 pub struct Proposal {
-    pub from: Node,
-    pub to: Node,
-    /// Its code is the initiator.
-    pub id: TransactionId,
     pub status: ProposalStatus,
     pub content: Content,
 }
@@ -28,53 +23,53 @@ pub struct Proposal {
 // Written out, since a derived destructor is proved anew in each crate that lets a value go.
 impl Drop for Proposal {
     fn drop(self) {
-        let Proposal {
-            from: _,
-            to: _,
-            id: _,
-            status: _,
-            content,
-        } = self;
+        let Proposal { status: _, content } = self;
         drop(content);
     }
 }
 
-/// How a transfer stands at the node that it is from.
+/// What a message says about its transaction.
 #[derive(Debug)]
-pub struct Notification {
-    pub from: Node,
-    pub to: Node,
-    pub id: TransactionId,
-    pub notified: NotifiedStatus,
+pub enum Body {
+    Proposal(Proposal),
+    /// How the transfer stands at the sender.
+    Notification(NotifiedStatus),
+    /// A registry asks the log to cancel the transfer that it proposed.
+    Request,
 }
 
 // Written out, since a derived destructor is proved anew in each crate that lets a value go.
-impl Drop for Notification {
+impl Drop for Body {
     fn drop(self) {
-        let Notification {
-            from: _,
-            to: _,
-            id: _,
-            notified,
-        } = self;
-        drop(notified);
+        match self {
+            Body::Proposal(proposal) => drop(proposal),
+            Body::Notification(notified) => drop(notified),
+            Body::Request => {}
+        }
     }
 }
 
-/// A registry asks the log to cancel a transfer that it proposed.
-#[derive(Clone, Copy, Debug, PartialEq, Eq)]
-pub struct Request {
+/// A message from one node to another, about one transaction.
+#[derive(Debug)]
+pub struct Message {
     pub from: Node,
     pub to: Node,
+    /// Its code is the initiator.
     pub id: TransactionId,
+    pub body: Body,
 }
 
-/// A message from one node to another.
-#[derive(Debug, Drop)]
-pub enum Message {
-    Proposal(Proposal),
-    Notification(Notification),
-    Request(Request),
+// Written out, since a derived destructor is proved anew in each crate that lets a value go.
+impl Drop for Message {
+    fn drop(self) {
+        let Message {
+            from: _,
+            to: _,
+            id: _,
+            body,
+        } = self;
+        drop(body);
+    }
 }
 
 impl ProposalStatus {
@@ -134,72 +129,38 @@ impl Proposal {
     pub fn copy(&self) -> Result<Proposal, NoMemory>
         ensures { IfOk result (λ p. p ≡ self.now) }
     {
+        let content = self.content.copy()?;
         Ok(Proposal {
-            from: self.from,
-            to: self.to,
-            id: self.id,
             status: self.status,
-            content: self.content.copy()?,
+            content,
         })
     }
 }
 
-impl Notification {
-    /// An equal notification, or `NoMemory`.
-    pub fn copy(&self) -> Result<Notification, NoMemory>
-        ensures { IfOk result (λ n. n ≡ self.now) }
+impl Body {
+    /// An equal body, or `NoMemory`.
+    pub fn copy(&self) -> Result<Body, NoMemory>
+        ensures { IfOk result (λ b. b ≡ self.now) }
     {
-        Ok(Notification {
-            from: self.from,
-            to: self.to,
-            id: self.id,
-            notified: self.notified.copy()?,
-        })
+        match self {
+            Body::Proposal(proposal) => Ok(Body::Proposal(proposal.copy()?)),
+            Body::Notification(notified) => Ok(Body::Notification(notified.copy()?)),
+            Body::Request => Ok(Body::Request),
+        }
     }
 }
 
 impl Message {
-    /// The node that it is from.
-    pub fn sender(&self) -> Node
-        ensures { result ≡ parties.sender self.now }
-    {
-        match self {
-            Message::Proposal(proposal) => proposal.from,
-            Message::Notification(notification) => notification.from,
-            Message::Request(request) => request.from,
-        }
-    }
-
-    /// The node that it is addressed to.
-    pub fn receiver(&self) -> Node
-        ensures { result ≡ parties.receiver self.now }
-    {
-        match self {
-            Message::Proposal(proposal) => proposal.to,
-            Message::Notification(notification) => notification.to,
-            Message::Request(request) => request.to,
-        }
-    }
-
-    /// The transaction that it is about.
-    pub fn transaction(&self) -> TransactionId
-        ensures { result ≡ parties.transaction self.now }
-    {
-        match self {
-            Message::Proposal(proposal) => proposal.id,
-            Message::Notification(notification) => notification.id,
-            Message::Request(request) => request.id,
-        }
-    }
-
     /// An equal message, or `NoMemory`.
     pub fn copy(&self) -> Result<Message, NoMemory>
         ensures { IfOk result (λ m. m ≡ self.now) }
     {
-        match self {
-            Message::Proposal(proposal) => Ok(Message::Proposal(proposal.copy()?)),
-            Message::Notification(notification) => Ok(Message::Notification(notification.copy()?)),
-            Message::Request(request) => Ok(Message::Request(*request)),
-        }
+        let body = self.body.copy()?;
+        Ok(Message {
+            from: self.from,
+            to: self.to,
+            id: self.id,
+            body,
+        })
     }
 }

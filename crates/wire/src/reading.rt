@@ -1,19 +1,19 @@
 //! Reading messages.
-ghost use Rattle.std.specs.Prelude.{◌≡◌, ◌⊎◌, List, [], ℕ, IfOk, IfErr, IfSome, IfNone};
+ghost use Rattle.std.specs.Prelude.{◌≡◌, ◌⊎◌, ◌↔◌, List, [], ℕ, IfOk, IfErr, IfSome, IfNone, IsTrue};
 ghost use Rattle.serde_json.specs.View.{view};
 ghost use Rattle.json_fields.specs.Fields.{HasAt};
 ghost use Rattle.json_fields.specs.Found.{Finds, Reads};
 ghost use Rattle.units.specs.RefusalCodes.{not_a_message, out_of_memory};
 ghost use Rattle.status.specs.Content.{Content};
 ghost use Rattle.wire.specs.Messages.{IsMessage, IsLine};
-ghost use Rattle.wire.specs.Reading.{HasContent, Says, HasNotified, HasProposalStatus, IsProposal, IsNotification, IsRequest};
+ghost use Rattle.wire.specs.Reading.{HasBody, HasContent, HasNotified, HasProposalStatus, IsCall, Says};
 ghost use Rattle.wire.specs.declared.message.Message.{Message};
 ghost use Rattle.wire.specs.declared.notified.NotifiedStatus.{NotifiedStatus};
 
 use crate::codes::{AcquirerCodes, LogCodes};
 use crate::exact::exact_message;
 use crate::lists::{blocks, codes};
-use crate::message::{Message, Notification, Proposal, ProposalStatus, Request};
+use crate::message::{Body, Message, Proposal, ProposalStatus};
 use crate::notified::NotifiedStatus;
 use crate::values::{code_at, has_text, id_at, node_at, whole_at};
 use json_fields::{TextFault, has_keys, text_at};
@@ -95,69 +95,45 @@ fn notified(alloc: Global, value: &Value) -> Result<NotifiedStatus, TextFault>
 }
 
 fn proposal(alloc: Global, value: &Value) -> Result<Proposal, TextFault>
-    ensures { Finds (IsProposal (view value.now)) result }
+    ensures { Finds (λ p. HasProposalStatus (view value.now) p.status × HasContent (view value.now) p.content) result }
 {
-    if !has_keys(value, 9) || !has_text(value, "call", "AcceptProposal") {
-        return Err(TextFault::Shape);
-    }
-    let from = node_at(value, "from").ok_or(TextFault::Shape)?;
-    let to = node_at(value, "to").ok_or(TextFault::Shape)?;
-    let id = id_at(value, "transaction").ok_or(TextFault::Shape)?;
     let status = proposal_status(value).ok_or(TextFault::Shape)?;
     let content = content(alloc, value)?;
-    Ok(Proposal {
-        from,
-        to,
-        id,
-        status,
-        content,
-    })
+    Ok(Proposal { status, content })
 }
 
-fn notification(alloc: Global, value: &Value) -> Result<Notification, TextFault>
-    ensures { Finds (IsNotification (view value.now)) result }
+/// Whether the object has so many keys, and its call has that name.
+fn is_call(value: &Value, count: usize, name: &str) -> bool
+    ensures { IsTrue result ↔ IsCall (view value.now) count name.now }
 {
-    if !has_keys(value, 6) || !has_text(value, "call", "AcceptNotification") {
-        return Err(TextFault::Shape);
-    }
-    let from = node_at(value, "from").ok_or(TextFault::Shape)?;
-    let to = node_at(value, "to").ok_or(TextFault::Shape)?;
-    let id = id_at(value, "transaction").ok_or(TextFault::Shape)?;
-    let notified = notified(alloc, value)?;
-    Ok(Notification {
-        from,
-        to,
-        id,
-        notified,
-    })
+    has_keys(value, count) && has_text(value, "call", name)
 }
 
-fn request(value: &Value) -> Option<Request>
-    ensures { Reads (IsRequest (view value.now)) result }
+/// What a message says about its transaction.
+fn body(alloc: Global, value: &Value) -> Result<Body, TextFault>
+    ensures { Finds (HasBody (view value.now)) result }
 {
-    if !has_keys(value, 4) || !has_text(value, "call", "RequestCancellation") {
-        return None;
+    if is_call(value, 9, "AcceptProposal") {
+        return Ok(Body::Proposal(proposal(alloc, value)?));
     }
-    let from = node_at(value, "from")?;
-    let to = node_at(value, "to")?;
-    let id = id_at(value, "transaction")?;
-    Some(Request { from, to, id })
+    if is_call(value, 6, "AcceptNotification") {
+        return Ok(Body::Notification(notified(alloc, value)?));
+    }
+    if is_call(value, 4, "RequestCancellation") {
+        return Ok(Body::Request);
+    }
+    Err(TextFault::Shape)
 }
 
 /// The message that the value writes.
 pub fn message(alloc: Global, value: &Value) -> Result<Message, TextFault>
     ensures { Finds (IsMessage (view value.now)) result }
 {
-    if has_text(value, "call", "AcceptProposal") {
-        let proposal = proposal(alloc, value)?;
-        Ok(Message::Proposal(proposal))
-    } else if has_text(value, "call", "RequestCancellation") {
-        let request = request(value).ok_or(TextFault::Shape)?;
-        Ok(Message::Request(request))
-    } else {
-        let notification = notification(alloc, value)?;
-        Ok(Message::Notification(notification))
-    }
+    let from = node_at(value, "from").ok_or(TextFault::Shape)?;
+    let to = node_at(value, "to").ok_or(TextFault::Shape)?;
+    let id = id_at(value, "transaction").ok_or(TextFault::Shape)?;
+    let body = body(alloc, value)?;
+    Ok(Message { from, to, id, body })
 }
 
 /// The message that the line writes.

@@ -16,7 +16,7 @@ ghost use Rattle.wire.specs.declared.record_format.RecordFormat.TheVariants.{One
 use crate::exact::exact_input;
 use crate::input::{Input, Number};
 use crate::lists::raw_blocks;
-use crate::message::Message;
+use crate::message::{Body, Message};
 use crate::reading::message;
 use crate::record_format::RecordFormat;
 use crate::values::{code_at, has_text, id_at, moment_at, short_at, whole_at};
@@ -108,12 +108,12 @@ fn are_up_to(blocks: &[Block], last: u64) -> bool
     blocks.iter().all(|block| block.raw.last <= last)
 }
 
-/// Whether the format has all units of the message.
-fn are_units_within(message: &Message, format: RecordFormat) -> bool
-    ensures { IsTrue result ↔ AreUnitsWithin format message.now }
+/// Whether the format has all units of a message with that body.
+fn are_units_within(body: &Body, format: RecordFormat) -> bool
+    ensures { IsTrue result ↔ AreUnitsWithin format body.now }
 {
-    match message {
-        Message::Proposal(proposal) => are_up_to(proposal.content.units(), format.last_unit()),
+    match body {
+        Body::Proposal(proposal) => are_up_to(proposal.content.units(), format.last_unit()),
         _ => true,
     }
 }
@@ -124,7 +124,7 @@ fn message_at(alloc: Global, value: &Value, format: RecordFormat) -> Result<Mess
 {
     let inner = value_at(value, "message").ok_or(TextFault::Shape)?;
     let message = message(alloc, inner)?;
-    if are_units_within(&message, format) {
+    if are_units_within(&message.body, format) {
         Ok(message)
     } else {
         Err(TextFault::Shape)

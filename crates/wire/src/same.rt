@@ -2,7 +2,7 @@
 ghost use Rattle.std.specs.Prelude.{◌≡◌, ◌↔◌, IsTrue};
 
 use crate::input::{Input, Number};
-use crate::message::{Message, Notification, Proposal, ProposalStatus, Request};
+use crate::message::{Body, Message, Proposal, ProposalStatus};
 use crate::notified::NotifiedStatus;
 use status::{Moment, Status, TransactionId};
 use units::{Code, Node};
@@ -76,48 +76,33 @@ impl Proposal {
     pub fn same(&self, other: &Proposal) -> bool
         ensures { IsTrue result ↔ self.now ≡ other.now }
     {
-        are_same_nodes(self.from, other.from)
-            && are_same_nodes(self.to, other.to)
-            && are_same_ids(self.id, other.id)
-            && are_same_stages(self.status, other.status)
-            && self.content.same(&other.content)
+        are_same_stages(self.status, other.status) && self.content.same(&other.content)
     }
 }
 
-impl Notification {
-    /// Whether both are the same, with the same codes. Takes no memory.
-    pub fn same(&self, other: &Notification) -> bool
+impl Body {
+    /// Whether both are the same, blocks and codes compared as lists. Takes no memory.
+    pub fn same(&self, other: &Body) -> bool
         ensures { IsTrue result ↔ self.now ≡ other.now }
     {
-        are_same_nodes(self.from, other.from)
-            && are_same_nodes(self.to, other.to)
-            && are_same_ids(self.id, other.id)
-            && self.notified.same(&other.notified)
-    }
-}
-
-impl Request {
-    /// Whether both are the same. Takes no memory.
-    pub fn same(&self, other: &Request) -> bool
-        ensures { IsTrue result ↔ self.now ≡ other.now }
-    {
-        are_same_nodes(self.from, other.from)
-            && are_same_nodes(self.to, other.to)
-            && are_same_ids(self.id, other.id)
+        match (self, other) {
+            (Body::Proposal(a), Body::Proposal(b)) => a.same(b),
+            (Body::Notification(a), Body::Notification(b)) => a.same(b),
+            (Body::Request, Body::Request) => true,
+            _ => false,
+        }
     }
 }
 
 impl Message {
-    /// Whether both are the same, blocks compared as lists. Takes no memory.
+    /// Whether both are the same, blocks and codes compared as lists. Takes no memory.
     pub fn same(&self, other: &Message) -> bool
         ensures { IsTrue result ↔ self.now ≡ other.now }
     {
-        match (self, other) {
-            (Message::Proposal(a), Message::Proposal(b)) => a.same(b),
-            (Message::Notification(a), Message::Notification(b)) => a.same(b),
-            (Message::Request(a), Message::Request(b)) => a.same(b),
-            _ => false,
-        }
+        are_same_nodes(self.from, other.from)
+            && are_same_nodes(self.to, other.to)
+            && are_same_ids(self.id, other.id)
+            && self.body.same(&other.body)
     }
 }
 

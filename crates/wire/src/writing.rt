@@ -1,96 +1,106 @@
 //! The texts of messages.
 ghost use Rattle.std.specs.Prelude.{◌≡◌, ◌++◌, IfOk, OnOk, take, drop};
 ghost use Rattle.status.specs.Content.{IsContent};
-ghost use Rattle.wire.specs.Messages.{proposal_fields, notification_fields, request_fields, message_data, message_text, IsSound, IsLine};
+ghost use Rattle.wire.specs.Messages.{fields_with, message_fields, message_data, message_text, IsSound, IsLine};
 ghost use Rattle.wire.specs.NotifiedStatuses.{IsNotified};
-ghost use Rattle.wire.specs.Objects.{object_of};
 ghost use Rattle.wire.specs.Writing.{after_fields, data_tokens};
+ghost use Rattle.wire.specs.declared.message.Body.TheVariants as body;
 
 use crate::json_text::JsonText;
 use crate::members::{put_blocks, put_code, put_id, put_node, put_number, put_numbers, put_text};
-use crate::message::{Message, Notification, Proposal, Request};
+use crate::message::{Body, Message, Proposal};
+use crate::notified::NotifiedStatus;
 use std::alloc::Global;
 use units::NoMemory;
 
-/// The first four fields of a proposal.
-fn put_sender(alloc: Global, out: &mut JsonText, proposal: &Proposal) -> Result<(), NoMemory>
-    ensures { OnOk result (out.new ≡ after_fields out.old (take 4 (proposal_fields proposal.now))) }
+/// The first five fields of a message with a proposal.
+fn put_first_fields(
+    alloc: Global,
+    out: &mut JsonText,
+    message: &Message,
+    proposal: &Proposal,
+) -> Result<(), NoMemory>
+    ensures { OnOk result
+        (out.new ≡ after_fields out.old (take 5 (fields_with message.now (body.Proposal proposal.now)))) }
 {
     put_number(out, "account", proposal.content.account())?;
     put_text(out, "call", "AcceptProposal")?;
-    put_node(alloc, out, "from", proposal.from)?;
-    put_text(out, "status", proposal.status.status().name())
+    put_node(alloc, out, "from", message.from)?;
+    put_text(out, "status", proposal.status.status().name())?;
+    put_node(alloc, out, "to", message.to)
 }
 
-/// The other five fields.
-fn put_receiver(alloc: Global, out: &mut JsonText, proposal: &Proposal) -> Result<(), NoMemory>
-    ensures fields { OnOk result (out.new ≡ after_fields out.old (drop 4 (proposal_fields proposal.now))) }
+/// The other four fields.
+fn put_last_fields(
+    alloc: Global,
+    out: &mut JsonText,
+    message: &Message,
+    proposal: &Proposal,
+) -> Result<(), NoMemory>
+    ensures fields { OnOk result
+        (out.new ≡ after_fields out.old (drop 5 (fields_with message.now (body.Proposal proposal.now)))) }
     ensures sound { OnOk result (IsContent proposal.now.content) }
 {
-    put_node(alloc, out, "to", proposal.to)?;
     put_number(out, "to_account", proposal.content.to_account())?;
     put_code(alloc, out, "to_registry", proposal.content.acquirer())?;
-    put_id(alloc, out, "transaction", proposal.id)?;
+    put_id(alloc, out, "transaction", message.id)?;
     put_blocks(alloc, out, "units", proposal.content.units())
 }
 
-fn write_proposal(alloc: Global, out: &mut JsonText, proposal: &Proposal) -> Result<(), NoMemory>
-    ensures tokens { OnOk result (out.new ≡ out.old ++ data_tokens (object_of (proposal_fields proposal.now))) }
+/// The fields of a message with a proposal.
+fn put_proposal(
+    alloc: Global,
+    out: &mut JsonText,
+    message: &Message,
+    proposal: &Proposal,
+) -> Result<(), NoMemory>
+    ensures fields { OnOk result
+        (out.new ≡ after_fields out.old (fields_with message.now (body.Proposal proposal.now))) }
     ensures sound { OnOk result (IsContent proposal.now.content) }
 {
-    out.begin_object()?;
-    put_sender(alloc, out, proposal)?;
-    put_receiver(alloc, out, proposal)?;
-    out.end_object()
+    put_first_fields(alloc, out, message, proposal)?;
+    put_last_fields(alloc, out, message, proposal)
 }
 
-/// The fields of a notification.
+/// The fields of a message with a notification.
 fn put_notification(
     alloc: Global,
     out: &mut JsonText,
-    notification: &Notification,
+    message: &Message,
+    notified: &NotifiedStatus,
 ) -> Result<(), NoMemory>
-    ensures fields { OnOk result (out.new ≡ after_fields out.old (notification_fields notification.now)) }
-    ensures sound { OnOk result (IsNotified notification.now.notified) }
+    ensures fields { OnOk result
+        (out.new ≡ after_fields out.old (fields_with message.now (body.Notification notified.now))) }
+    ensures sound { OnOk result (IsNotified notified.now) }
 {
     put_text(out, "call", "AcceptNotification")?;
-    put_numbers(out, "codes", notification.notified.codes())?;
-    put_node(alloc, out, "from", notification.from)?;
-    put_text(out, "status", notification.notified.status().name())?;
-    put_node(alloc, out, "to", notification.to)?;
-    put_id(alloc, out, "transaction", notification.id)
+    put_numbers(out, "codes", notified.codes())?;
+    put_node(alloc, out, "from", message.from)?;
+    put_text(out, "status", notified.status().name())?;
+    put_node(alloc, out, "to", message.to)?;
+    put_id(alloc, out, "transaction", message.id)
 }
 
-fn write_notification(
-    alloc: Global,
-    out: &mut JsonText,
-    notification: &Notification,
-) -> Result<(), NoMemory>
-    ensures tokens { OnOk result
-        (out.new ≡ out.old ++ data_tokens (object_of (notification_fields notification.now))) }
-    ensures sound { OnOk result (IsNotified notification.now.notified) }
-{
-    out.begin_object()?;
-    put_notification(alloc, out, notification)?;
-    out.end_object()
-}
-
-/// The fields of a request.
-fn put_request(alloc: Global, out: &mut JsonText, request: Request) -> Result<(), NoMemory>
-    ensures { OnOk result (out.new ≡ after_fields out.old (request_fields request)) }
+/// The fields of a message with a request.
+fn put_request(alloc: Global, out: &mut JsonText, message: &Message) -> Result<(), NoMemory>
+    ensures { OnOk result (out.new ≡ after_fields out.old (fields_with message.now body.Request)) }
 {
     put_text(out, "call", "RequestCancellation")?;
-    put_node(alloc, out, "from", request.from)?;
-    put_node(alloc, out, "to", request.to)?;
-    put_id(alloc, out, "transaction", request.id)
+    put_node(alloc, out, "from", message.from)?;
+    put_node(alloc, out, "to", message.to)?;
+    put_id(alloc, out, "transaction", message.id)
 }
 
-fn write_request(alloc: Global, out: &mut JsonText, request: Request) -> Result<(), NoMemory>
-    ensures { OnOk result (out.new ≡ out.old ++ data_tokens (object_of (request_fields request))) }
+/// The fields of a message.
+fn put_message(alloc: Global, out: &mut JsonText, message: &Message) -> Result<(), NoMemory>
+    ensures fields { OnOk result (out.new ≡ after_fields out.old (message_fields message.now)) }
+    ensures sound { OnOk result (IsSound message.now.body) }
 {
-    out.begin_object()?;
-    put_request(alloc, out, request)?;
-    out.end_object()
+    match &message.body {
+        Body::Proposal(proposal) => put_proposal(alloc, out, message, proposal),
+        Body::Notification(notified) => put_notification(alloc, out, message, notified),
+        Body::Request => put_request(alloc, out, message),
+    }
 }
 
 /// Writes a message.
@@ -100,13 +110,11 @@ pub(crate) fn write_message(
     message: &Message,
 ) -> Result<(), NoMemory>
     ensures tokens { OnOk result (out.new ≡ out.old ++ data_tokens (message_data message.now)) }
-    ensures sound { OnOk result (IsSound message.now) }
+    ensures sound { OnOk result (IsSound message.now.body) }
 {
-    match message {
-        Message::Proposal(proposal) => write_proposal(alloc, out, proposal),
-        Message::Notification(notification) => write_notification(alloc, out, notification),
-        Message::Request(request) => write_request(alloc, out, *request),
-    }
+    out.begin_object()?;
+    put_message(alloc, out, message)?;
+    out.end_object()
 }
 
 /// The text of a message: compact JSON, keys in byte order, no newline, at most 8,192 bytes. Or

@@ -92,7 +92,7 @@ fn put_received(
 ) -> Result<(), NoMemory>
     ensures fields { OnOk result (out.new ≡ after_fields out.old ((codes "input", string (codes "received")) ∷
         (codes "message", message_data message.now) ∷ (codes "moment", whole moment.seconds) ∷ [])) }
-    ensures sound { OnOk result (IsSound message.now) }
+    ensures sound { OnOk result (IsSound message.now.body) }
 {
     put_text(out, "input", "received")?;
     out.key("message")?;

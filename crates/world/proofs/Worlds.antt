@@ -9,7 +9,6 @@ use Rattle.scheme.specs.declared.registries.Scheme.{Scheme}
 use Rattle.status.specs.declared.moment.Moment.{Moment}
 use Rattle.wire.specs.declared.message.Message.{Message}
 use Rattle.wire.specs.declared.input.Input.TheVariants.{Received}
-use Rattle.wire.specs.Parties.{receiver}
 use Rattle.protocol.specs.declared.event.Posted.{Posted}
 use Rattle.world.specs.declared.station.Station.{Station as Kept}
 use Rattle.protocol.specs.World.{Station, World, Turn, Stepped, station, put, at_node, stays, deliver, take_input}
@@ -44,11 +43,11 @@ still scheme ss bag at old new is e = ap (λ (l : List Station). record (world_o
 -- ---- messages
 
 pub delivered : (w : World) (moment : Moment) (o : Option Posted) (m : Message) → option_map (λ (p : Posted). p.message) o ≡ Some m
-    → deliver w moment o ≡ at_node w (station w (receiver m)) (take_input w.scheme (Received m moment))
+    → deliver w moment o ≡ at_node w (station w m.to) (take_input w.scheme (Received m moment))
 delivered w moment None m e = cc
 delivered w moment (Some p) m e =
     let same : p.message ≡ m = cc in
-    ap (λ (x : Message). at_node w (station w (receiver x)) (take_input w.scheme (Received x moment))) same
+    ap (λ (x : Message). at_node w (station w x.to) (take_input w.scheme (Received x moment))) same
 
 pub undelivered : (w : World) (moment : Moment) (o : Option Posted) → option_map (λ (p : Posted). p.message) o ≡ None → deliver w moment o ≡ stays w NotPossible
 undelivered w moment None e = refl

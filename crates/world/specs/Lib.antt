@@ -3,3 +3,4 @@ pub mod Stations
 pub mod Kept
 pub mod RegistryLines
 pub mod Stocks
+pub mod Transfers

@@ -9,5 +9,5 @@ mod world;
 
 pub use any_core::Core;
 pub use protocol::{Outcome, Posted, WorldEvent};
-pub use views::Stock;
+pub use views::{ProposedTransfer, Stock};
 pub use world::World;

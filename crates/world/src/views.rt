@@ -7,13 +7,14 @@ ghost use Rattle.protocol.specs.Claims.{at_registry, live_of};
 ghost use Rattle.protocol.specs.Cores.{Replays};
 ghost use Rattle.protocol.specs.History.{holds, is_status, spendable, stands, transitions_of};
 ghost use Rattle.protocol.specs.Registries.{has_member, is_node};
-ghost use Rattle.protocol.specs.Table.{due, is_due, proposal_in, proposed, transactions};
+ghost use Rattle.protocol.specs.Table.{due, is_due, proposed, proposed_in, transactions};
 ghost use Rattle.protocol.specs.World.{journal, station};
 ghost use Rattle.registry_core.specs.Registry.{past};
 ghost use Rattle.world.specs.Cores.{node_of, scheme_of};
 ghost use Rattle.world.specs.RegistryLines.{registry_at};
 ghost use Rattle.world.specs.Stations.{station_of};
 ghost use Rattle.world.specs.Stocks.{AreStocks, HoldsIf};
+ghost use Rattle.world.specs.Transfers.{transfer_of};
 
 use crate::any_core::Core;
 use crate::station::Station;
@@ -22,10 +23,10 @@ use protocol::{NodeCore, Posted, index_of};
 use registry_core::RegistryCore;
 use registry_core::accounts::HeldBlock;
 use scheme::Scheme;
-use status::{Status, TransactionId};
+use status::{Content, Status, TransactionId};
 use std::alloc::Global;
 use units::{Block, Code, Items, NoMemory, Node, Unit};
-use wire::{Input, Message, Proposal};
+use wire::{Body, Input, Message};
 
 /// What a registry holds: lines by account and then in the order of units.
 #[derive(Debug)]
@@ -40,6 +41,13 @@ impl Drop for Stock {
         let Stock { code: _, lines } = self;
         drop(lines);
     }
+}
+
+/// A transfer that a registry proposed.
+#[derive(Clone, Copy, Debug)]
+pub struct ProposedTransfer<'a> {
+    pub id: TransactionId,
+    pub content: &'a Content,
 }
 
 fn is_completed(status: Option<Status>) -> bool
@@ -58,38 +66,53 @@ fn has_unit_in(blocks: &[Block], unit: &Unit) -> bool
     blocks.iter().any(|b| b.has(unit))
 }
 
-/// Whether the transfer has the unit.
-fn has_unit(proposal: &Proposal, unit: &Unit) -> bool
-    ensures { result ≡ have_unit proposal.now.content.units unit.now }
+/// Whether the content has the unit.
+fn has_unit(content: &Content, unit: &Unit) -> bool
+    ensures { result ≡ have_unit content.now.units unit.now }
 {
-    has_unit_in(proposal.content.units(), unit)
+    has_unit_in(content.units(), unit)
 }
 
-/// Adds the message, if it is a proposal.
-fn add_proposal<'a>(
-    proposals: &mut Vec<&'a Proposal>,
+/// The transfer that the message proposes, if it is a proposal.
+fn proposed_by(message: &Message) -> Option<ProposedTransfer<'_>>
+    ensures { option_map transfer_of result ≡ proposed_in message.now.id message.now.body }
+{
+    match &message.body {
+        Body::Proposal(proposal) => Some(ProposedTransfer {
+            id: message.id,
+            content: &proposal.content,
+        }),
+        _ => None,
+    }
+}
+
+/// Adds the transfer that the message proposes, if it is a proposal.
+fn add_proposed<'a>(
+    transfers: &mut Vec<ProposedTransfer<'a>>,
     message: Option<&'a Message>,
 ) -> Result<(), NoMemory>
-    ensures { OnOk result (map (λ p. p.now) proposals.new.items ≡ map
-        (λ p. p.now) proposals.old.items ++ option_to_list
-        (option_and_then proposal_in (option_copied message.entry))) }
+    ensures { OnOk result (map transfer_of transfers.new.items ≡ map transfer_of transfers.old.items ++ option_to_list
+        (option_and_then (λ m. proposed_in m.id m.body) (option_copied message.entry))) }
 {
-    if let Some(Message::Proposal(proposal)) = message {
-        proposals.push(proposal)?;
+    let Some(message) = message else {
+        return Ok(());
+    };
+    if let Some(transfer) = proposed_by(message) {
+        transfers.push(transfer)?;
     }
     Ok(())
 }
 
-/// Adds the proposals that the registry sent, in the order of their keys.
-fn add_proposals<'a>(
-    proposals: &mut Vec<&'a Proposal>,
+/// Adds the transfers that the registry proposed, in the order of the keys of its messages.
+fn add_all_proposed<'a>(
+    transfers: &mut Vec<ProposedTransfer<'a>>,
     core: &'a RegistryCore,
 ) -> Result<(), NoMemory>
-    ensures { OnOk result (map (λ p. p.now) proposals.new.items ≡ map (λ p. p.now) proposals.old.items ++ proposed
-        (past core.now)) }
+    ensures { OnOk result
+        (map transfer_of transfers.new.items ≡ map transfer_of transfers.old.items ++ proposed (past core.now)) }
 {
     for key in 0..core.sends() {
-        add_proposal(proposals, core.outbox(key))?;
+        add_proposed(transfers, core.outbox(key))?;
     }
     Ok(())
 }
@@ -200,38 +223,38 @@ impl World {
     }
 
     /// The transfers that registries proposed, by code and then by number. Or `NoMemory`.
-    pub fn transactions(&self, alloc: Global) -> Result<Vec<&Proposal>, NoMemory>
-        ensures { IfOk result (λ v. map (λ p. p.now) v.items ≡ transactions self.now) }
+    pub fn transactions(&self, alloc: Global) -> Result<Vec<ProposedTransfer<'_>>, NoMemory>
+        ensures { IfOk result (λ v. map transfer_of v.items ≡ transactions self.now) }
     {
-        let mut proposals = Vec::new(alloc);
+        let mut transfers = Vec::new(alloc);
         for member in self.scheme.registries() {
             if let Some(core) = self.registry(member.code) {
-                add_proposals(&mut proposals, core)?;
+                add_all_proposed(&mut transfers, core)?;
             }
         }
-        Ok(proposals)
+        Ok(transfers)
     }
 
     /// Whether the transfer stands Completed at its initiator and not at its acquirer.
-    fn is_due(&self, proposal: &Proposal) -> bool
-        ensures { result ≡ is_due (live_of self.now) proposal.now }
+    fn is_due(&self, transfer: ProposedTransfer<'_>) -> bool
+        ensures { result ≡ is_due (live_of self.now) (transfer_of transfer.entry) }
     {
-        let initiator = Node::Registry(proposal.id.code);
-        let acquirer = Node::Registry(proposal.content.acquirer());
-        is_completed(self.status(initiator, proposal.id))
-            && !is_completed(self.status(acquirer, proposal.id))
+        let initiator = Node::Registry(transfer.id.code);
+        let acquirer = Node::Registry(transfer.content.acquirer());
+        is_completed(self.status(initiator, transfer.id))
+            && !is_completed(self.status(acquirer, transfer.id))
     }
 
     /// The transfers that owe their units, by code and then by number: Completed at their initiators and not at their
     /// acquirers. Looks at each transfer once. Or `NoMemory`.
-    pub fn due(&self, alloc: Global) -> Result<Vec<&Proposal>, NoMemory>
-        ensures { IfOk result (λ v. map (λ p. p.now) v.items ≡ due self.now) }
+    pub fn due(&self, alloc: Global) -> Result<Vec<ProposedTransfer<'_>>, NoMemory>
+        ensures { IfOk result (λ v. map transfer_of v.items ≡ due self.now) }
     {
         let transactions = self.transactions(alloc)?;
         let mut due = Vec::new(alloc);
-        for proposal in transactions.as_slice() {
-            if self.is_due(proposal) {
-                due.push(*proposal)?;
+        for transfer in transactions.as_slice() {
+            if self.is_due(*transfer) {
+                due.push(*transfer)?;
             }
         }
         Ok(due)
@@ -244,9 +267,9 @@ impl World {
     {
         let due = self.due(alloc)?;
         let mut owed = Vec::new(alloc);
-        for proposal in due.as_slice() {
-            if has_unit(proposal, unit) {
-                owed.push(proposal.id)?;
+        for transfer in due.as_slice() {
+            if has_unit(transfer.content, unit) {
+                owed.push(transfer.id)?;
             }
         }
         Ok(owed)

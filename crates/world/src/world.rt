@@ -251,7 +251,7 @@ impl World {
     {
         match copied(message_at(self.bag.as_slice(), index))? {
             Some(message) => {
-                let node = message.receiver();
+                let node = message.to;
                 let input = Input::Received { message, moment };
                 let taken = self.take(node, &input);
                 drop(input);

@@ -14,11 +14,10 @@ use Rattle.status.specs.declared.id.TransactionId.{TransactionId}
 use Rattle.status.specs.declared.status.Status.{Status}
 use Rattle.status.specs.declared.status.Status.TheVariants.{Proposed, Accepted, Rejected, Terminated, Cancelled, Completed}
 use Rattle.wire.specs.declared.message.Message.{Message}
-use Rattle.wire.specs.declared.message.Message.TheVariants as message
+use Rattle.protocol.proofs.MessageForms as message
 use Rattle.scheme.specs.declared.registries.Scheme.{Scheme}
 use Rattle.protocol.specs.Claims.{Agrees, StandsAt}
 use Rattle.protocol.specs.History.{Transition, Entry, transitions_of, newest, sends}
-use Rattle.wire.specs.Parties.{sender}
 use Rattle.safety.proofs.MovesAndHistories.NewestTransitions.{Made, Got, Heard, newest_stands}
 use Rattle.units.proofs.Lists.Membership.{In}
 use Rattle.units.proofs.Lists.OneValue.{one_some}
@@ -39,7 +38,7 @@ cancelled_rejected e = cc (e)
 -- names
 pub record Causal (scheme : Scheme) (f : Node → List Entry) : Type 0 where
   pub made : (n : Node) → Made scheme n (f n)
-  pub sent : (n : Node) (m : Message) → Got (f n) m → In m (sends (f (sender m)))
+  pub sent : (n : Node) (m : Message) → Got (f n) m → In m (sends (f m.from))
 
 -- the log stands so, or went on from Accepted to Completed
 abbrev pub LogSays : (Node → List Entry) → TransactionId → Status → Type 0
@@ -54,8 +53,8 @@ past_transition s None h = absurd h
 past_transition s (Some x) h = (x, refl, h)
 
 -- a message that was received from a node was sent by it
-pub heard_sent : (scheme : Scheme) (f : Node → List Entry) → Causal scheme f → (n from : Node) (t : TransactionId) (s : Status) (h : Heard (f n) from t s) → In (message.Notification h.notification) (sends (f from))
-heard_sent scheme f causal n from t s h = subst (λ m. In (message.Notification h.notification) (sends (f m))) h.sender (causal.sent n (message.Notification h.notification) h.got)
+pub heard_sent : (scheme : Scheme) (f : Node → List Entry) → Causal scheme f → (n from : Node) (t : TransactionId) (s : Status) (h : Heard (f n) from t s) → In (message.notification h.notification) (sends (f from))
+heard_sent scheme f causal n from t s h = subst (λ m. In (message.notification h.notification) (sends (f m))) h.sender (causal.sent n (message.notification h.notification) h.got)
 
 -- the newest transition of a transaction has one content
 one_content : (xs : List Transition) (t : TransactionId) (x y : Transition) (k l : Content) → newest xs t ≡ Some x → newest xs t ≡ Some y → x.content ≡ Some k → y.content ≡ Some l → k ≡ l
@@ -114,12 +113,12 @@ module _ (scheme : Scheme) (f : Node → List Entry) (causal : Causal scheme f) 
       let cause = subst (Cause c es t) g.2 (told scheme c es (causal.made (Registry c)) t g.0 g.1 foreign) in
       let k = cause.0 in
       let p = cause.1 in
-      let sent_by = subst (λ m. In (message.Proposal p.proposal) (sends (f m))) p.sender (causal.sent (Registry c) (message.Proposal p.proposal) p.got) in
+      let sent_by = subst (λ m. In (message.proposal p.proposal) (sends (f m))) p.sender (causal.sent (Registry c) (message.proposal p.proposal) p.got) in
       let o = log_offered scheme (f Itl) (causal.made Itl) p.proposal sent_by in
       let b = log_backed scheme (f Itl) (causal.made Itl) t a.0 a.1 a.2 in
       let content = one_content (transitions_of (f Itl)) t o.0 a.0 p.proposal.content b.content (subst (λ u. newest (transitions_of (f Itl)) u ≡ Some o.0) p.about o.1) a.1 o.2 b.known in
       let who : b.content.acquirer ≡ c = sym (ap (λ (z : Content). z.acquirer) content) ∙ ap (λ (z : Content). z.acquirer) p.content ∙ cause.2 in
-      let accepted = subst (λ z. In (message.Notification b.heard.notification) (sends (f (Registry z)))) who (heard_sent scheme f causal Itl (Registry b.content.acquirer) t Accepted b.heard) in
+      let accepted = subst (λ z. In (message.notification b.heard.notification) (sends (f (Registry z)))) who (heard_sent scheme f causal Itl (Registry b.content.acquirer) t Accepted b.heard) in
       let s = accepted_sent scheme c es (causal.made (Registry c)) b.heard.notification accepted b.heard.told in
       let taken : IsTaken (Some g.0) = subst IsTaken (ap (newest (transitions_of es)) b.heard.about ∙ g.1) s.1 in
       elim taken [

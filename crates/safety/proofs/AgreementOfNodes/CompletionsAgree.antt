@@ -17,7 +17,7 @@ use Rattle.status.specs.declared.id.TransactionId.{TransactionId}
 use Rattle.status.specs.declared.status.Status.{Status}
 use Rattle.status.specs.declared.status.Status.TheVariants.{Cancelled, Completed}
 use Rattle.wire.specs.declared.input.Input.{Input}
-use Rattle.wire.specs.declared.message.Message.TheVariants as message
+use Rattle.protocol.proofs.MessageForms as message
 use Rattle.wire.specs.declared.message.ProposalStatus.{ProposalStatus}
 use Rattle.wire.specs.declared.message.ProposalStatus.TheVariants as proposal
 use Rattle.scheme.specs.declared.registries.Scheme.{Scheme}
@@ -97,8 +97,8 @@ pub record AgreedTransfer (scheme : Scheme) (f : Node → List Entry) (c : Code)
 
 module _ (scheme : Scheme) (f : Node → List Entry) (causal : Causal scheme f) where
   -- a proposal that was received from a node was sent by it
-  pub offered_sent : (n from : Node) (t : TransactionId) (st : ProposalStatus) (k : Content) (o : Offered (f n) from t st k) → In (message.Proposal o.proposal) (sends (f from))
-  offered_sent n from t st k o = subst (λ m. In (message.Proposal o.proposal) (sends (f m))) o.sender (causal.sent n (message.Proposal o.proposal) o.got)
+  pub offered_sent : (n from : Node) (t : TransactionId) (st : ProposalStatus) (k : Content) (o : Offered (f n) from t st k) → In (message.proposal o.proposal) (sends (f from))
+  offered_sent n from t st k o = subst (λ m. In (message.proposal o.proposal) (sends (f m))) o.sender (causal.sent n (message.proposal o.proposal) o.got)
 
   -- what was offered, the one who offered it has with that content
   pub log_has : (c : Code) (t : TransactionId) (k : Content) → Offered (f (Registry c)) Itl t proposal.Checked k → (y : Transition) × (newest (transitions_of (f Itl)) t ≡ Some y) × (y.content ≡ Some k)

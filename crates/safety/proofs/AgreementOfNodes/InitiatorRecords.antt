@@ -10,7 +10,7 @@ use Rattle.units.specs.declared.code.Node.TheVariants.{Itl, Registry}
 use Rattle.status.specs.Content.{Content}
 use Rattle.status.specs.declared.id.TransactionId.{TransactionId}
 use Rattle.status.specs.declared.status.Status.TheVariants.{Completed}
-use Rattle.wire.specs.declared.message.Message.TheVariants as message
+use Rattle.protocol.proofs.MessageForms as message
 use Rattle.scheme.specs.declared.registries.Scheme.{Scheme}
 use Rattle.protocol.specs.History.{Transition, Entry, transitions_of, newest, sends}
 use Rattle.safety.proofs.AgreementOfNodes.CausalHistories.{Causal, heard_sent}
@@ -72,7 +72,7 @@ module _ (scheme : Scheme) (f : Node → List Entry) (causal : Causal scheme f) 
         | inl b ↦
             let d = t.code in
             let es = f (Registry d) in
-            let sent = subst (λ m. In (message.Request b.request) (sends (f m))) b.sender (causal.sent Itl (message.Request b.request) b.got) in
+            let sent = subst (λ m. In (message.request b.request) (sends (f m))) b.sender (causal.sent Itl (message.request b.request) b.got) in
             let o = asked_known scheme d es (causal.made (Registry d)) b.request sent in
             let last : newest (transitions_of es) t ≡ Some o.0 = subst (λ z. newest (transitions_of es) z ≡ Some o.0) b.about o.1 in
             let id = newest_id (transitions_of es) t o.0 last in

@@ -20,8 +20,8 @@ use Rattle.status.specs.Content.{Content}
 use Rattle.status.specs.declared.id.TransactionId.{TransactionId}
 use Rattle.status.specs.declared.status.Status.{Status}
 use Rattle.status.specs.declared.status.Status.TheVariants.{Proposed, Checked, Accepted, Rejected, Terminated, Cancelled, Completed}
-use Rattle.wire.specs.declared.message.Message.TheVariants as message
-use Rattle.wire.specs.declared.message.Proposal.{Proposal}
+use Rattle.protocol.proofs.MessageForms as message
+use Rattle.protocol.proofs.MessageForms.{ProposalMessage}
 use Rattle.scheme.specs.declared.members.Holder.{Holder}
 use Rattle.scheme.specs.declared.registries.Scheme.{Scheme}
 use Rattle.protocol.specs.AtLog.{ledger}
@@ -129,7 +129,7 @@ module _ (scheme : Scheme) (f : Node → List Entry) (causal : Causal scheme f) 
       )
 
   -- a proposal that was sent and that the log doesn't know waits
-  still_waits : (c : Code) (p : Proposal) → In (message.Proposal p) (sends (f (Registry c))) → newest (transitions_of (f Itl)) p.id ≡ None → (s : Serial) → have_unit p.content.units s ≡ true → Waits c s (at_registry f c) p.id
+  still_waits : (c : Code) (p : ProposalMessage) → In (message.proposal p) (sends (f (Registry c))) → newest (transitions_of (f Itl)) p.id ≡ None → (s : Serial) → have_unit p.content.units s ≡ true → Waits c s (at_registry f c) p.id
   still_waits c p h none s has =
       let o = offered scheme c (f (Registry c)) (causal.made (Registry c)) p h in
       record {
@@ -194,7 +194,7 @@ module _ (scheme : Scheme) (f : Node → List Entry) (causal : Causal scheme f) 
       ])
 
   -- what the log finds in a proposal that was sent and that it doesn't know
-  pub only_eligibility : (c : Code) (p : Proposal) → In (message.Proposal p) (sends (f (Registry c))) → newest (transitions_of (f Itl)) p.id ≡ None
+  pub only_eligibility : (c : Code) (p : ProposalMessage) → In (message.proposal p) (sends (f (Registry c))) → newest (transitions_of (f Itl)) p.id ≡ None
       → (n : ℕ) → In n (log_findings scheme (ledger scheme (f Itl)) p.id.code p.content) → (n ≡ initiator_not_eligible) ⊎ (n ≡ acquirer_not_eligible)
   only_eligibility c p h none n i =
       let k = p.content in

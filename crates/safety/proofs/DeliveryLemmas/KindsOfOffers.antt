@@ -15,8 +15,8 @@ use Rattle.status.specs.Content.{Content}
 use Rattle.status.specs.declared.id.TransactionId.{TransactionId}
 use Rattle.status.specs.declared.status.Status.TheVariants.{Cancelled, Completed}
 use Rattle.wire.specs.declared.input.Input.{Input}
-use Rattle.wire.specs.declared.message.Message.TheVariants as message
-use Rattle.wire.specs.declared.message.Proposal.{Proposal}
+use Rattle.protocol.proofs.MessageForms as message
+use Rattle.protocol.proofs.MessageForms.{ProposalMessage, one_proposal, apart}
 use Rattle.wire.specs.declared.message.ProposalStatus.TheVariants as proposal
 use Rattle.scheme.specs.declared.members.Holder.{Holder}
 use Rattle.scheme.specs.declared.registries.Scheme.{Scheme}
@@ -31,7 +31,7 @@ use Rattle.safety.proofs.AgreementOfNodes.CompletionsAgree.{credited, offered_se
 use Rattle.units.proofs.Lists.SomePass.{list_any_none}
 use Rattle.safety.proofs.OneRegistry.TransactionEnds.{ends_last, known, concluded_offers}
 use Rattle.safety.proofs.OneLog.LogSendings.{is_of_other_kind, passed_on}
-use Rattle.safety.proofs.MovesAndHistories.NewestTransitions.{Made, Offered, offered_later, made_registry, one_proposal}
+use Rattle.safety.proofs.MovesAndHistories.NewestTransitions.{Made, Offered, offered_later, made_registry}
 use Rattle.units.proofs.Lists.Membership.{In, In_cases, In_left, In_right, In_find, In_flat_map}
 use Rattle.units.proofs.Lists.OneValue.{one_some}
 use Rattle.safety.proofs.MovesAndHistories.TableMoves.{RegistryMove, proposes, asks, arrives, bares, concludes, finishes}
@@ -110,10 +110,10 @@ module _ (scheme : Scheme) (c : Code) where
       subst (λ k. has_other_kind (allotted scheme p.unit) k ≡ false) (kind_of_same q.kind p.kind (and_parts (q.account == account) (same_kind q.kind p.kind) h).1)
       (position_right scheme p.unit c (transitions_of es) (credited_kinds es made right p.unit) q e)
 
-  offer_move : (es : List Entry) (input : Input) (x : Transition) (p : Proposal) → Made scheme (Registry c) es → OffersRight scheme es → RegistryMove scheme c es input x → In (message.Proposal p) x.messages → IsSound scheme p.content
+  offer_move : (es : List Entry) (input : Input) (x : Transition) (p : ProposalMessage) → Made scheme (Registry c) es → OffersRight scheme es → RegistryMove scheme c es input x → In (message.proposal p) x.messages → IsSound scheme p.content
   offer_move es input x p made right (proposes o t none is fresh) (inl e) =
       let xs = transitions_of es in
-      subst (λ (z : Proposal). IsSound scheme z.content) (one_proposal _ p e)
+      subst (λ (z : ProposalMessage). IsSound scheme z.content) (one_proposal _ p e)
       (record {
         kinds = λ q i.
             let has =
@@ -123,27 +123,27 @@ module _ (scheme : Scheme) (c : Code) where
         apart = canonical_no_repeats o.units none.1.0 none.1.1.0;
       })
   offer_move es input x p made right (proposes o t none is fresh) (inr h) = absurd h
-  offer_move es input x p made right (arrives q moment found f s is none foreign mine) (inl e) = absurd (cc (e))
+  offer_move es input x p made right (arrives q moment found f s is none foreign mine) (inl e) = apart e refl
   offer_move es input x p made right (arrives q moment found f s is none foreign mine) (inr h) = absurd h
-  offer_move es input x p made right (asks t q was own stood) (inl e) = absurd (cc (e))
+  offer_move es input x p made right (asks t q was own stood) (inl e) = apart e refl
   offer_move es input x p made right (asks t q was own stood) (inr h) = absurd h
   offer_move es input x p made right (bares n moment f cancelled none foreign) h = absurd h
   offer_move es input x p made right (concludes n moment q new f was own move) h = absurd (concluded_offers c q.id new p h)
   offer_move es input x p made right (finishes n moment q new f was foreign move none) h = absurd h
 
-  offers_sound : (es : List Entry) → Made scheme (Registry c) es → OffersRight scheme es → (p : Proposal) → In (message.Proposal p) (sends es) → IsSound scheme p.content
+  offers_sound : (es : List Entry) → Made scheme (Registry c) es → OffersRight scheme es → (p : ProposalMessage) → In (message.proposal p) (sends es) → IsSound scheme p.content
   offers_sound [] made right p h = absurd h
   offers_sound (e ∷ es) made right p h =
       let older : OffersRight scheme es = λ t k g. right t k (offered_later e es Itl t proposal.Checked k g) in
-      elim (In_cases (message.Proposal p) (sends es) (messages_of e.transitions) h) [
+      elim (In_cases (message.proposal p) (sends es) (messages_of e.transitions) h) [
         | inl old ↦ offers_sound es made.1 older p old
         | inr new ↦
-            let g = In_flat_map (λ (q : Transition). q.messages) (message.Proposal p) e.transitions new in
+            let g = In_flat_map (λ (q : Transition). q.messages) (message.proposal p) e.transitions new in
             offer_move es e.input g.0 p made.1 older (made_registry scheme c e es g.0 made g.1) g.2
       ]
 
 -- where each received message was sent, a registry offers each unit once, and of the kind that it was allotted with
-pub sound_offer : (scheme : Scheme) (f : Node → List Entry) → Causal scheme f → (c : Code) (p : Proposal) → In (message.Proposal p) (sends (f (Registry c))) → IsSound scheme p.content
+pub sound_offer : (scheme : Scheme) (f : Node → List Entry) → Causal scheme f → (c : Code) (p : ProposalMessage) → In (message.proposal p) (sends (f (Registry c))) → IsSound scheme p.content
 sound_offer scheme f causal c p h =
     offers_sound scheme c (f (Registry c)) (causal.made (Registry c))
     (λ t k got q i.

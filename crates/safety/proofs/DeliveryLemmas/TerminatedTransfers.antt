@@ -3,7 +3,7 @@
 -- that the log sent stays among what it sent, but what it looked at may have changed since. So the claim is
 -- carried along the events as an invariant of the log's live journal: an event leaves that journal as it is, cuts
 -- it off, or adds one input to it.
-use Rattle.std.proofs.Common.{◌≡◌, ℕ, List, [], ◌∷◌, ◌++◌, Bool, true, false, cond, Option, Some, None, ◌⊎◌, inl, inr, refl, sym, ap, subst, ◌∙◌, append_assoc, append-nil, take, drop, length, take-append-drop}
+use Rattle.std.proofs.Common.{◌≡◌, ℕ, List, [], ◌∷◌, ◌++◌, Bool, true, false, cond, Option, Some, None, ◌⊎◌, inl, inr, refl, sym, ap, subst, ◌∙◌, append_assoc, append-nil, take, drop, length, take-append-drop, Contains}
 use Rattle.std.specs.Prelude.{nat_le, option_and_then, slice_get}
 use Rattle.std.proofs.lemmas.Bool.{cases_Bool}
 use Rattle.units.proofs.Same.{node_of_same}
@@ -22,9 +22,9 @@ use Rattle.wire.specs.NotifiedStatuses.{notified_status}
 use Rattle.wire.specs.declared.input.Input.{Input}
 use Rattle.wire.specs.declared.input.Input.TheVariants.{Received}
 use Rattle.wire.specs.declared.message.Message.{Message}
-use Rattle.wire.specs.declared.message.Message.TheVariants as message
-use Rattle.wire.specs.declared.message.Notification.{Notification}
-use Rattle.wire.specs.declared.message.Proposal.{Proposal}
+use Rattle.protocol.proofs.MessageForms as message
+use Rattle.wire.specs.declared.message.Body.TheVariants as body
+use Rattle.protocol.proofs.MessageForms.{ProposalMessage, NotificationMessage, one_notified, has_body, apart}
 use Rattle.wire.specs.declared.notified.NotifiedStatus.TheVariants as notified
 use Rattle.scheme.specs.declared.registries.Scheme.{Scheme}
 use Rattle.protocol.specs.AtLog.{ledger}
@@ -33,7 +33,6 @@ use Rattle.protocol.specs.Claims.{TerminatesForEligibility, committed_of, live_o
 use Rattle.protocol.specs.Deciding.{Verdict, IsRecorded, IsRepeat, IsLate, IsRefused}
 use Rattle.protocol.specs.History.{Transition, Entry, transitions_of, newest, sends, messages_of}
 use Rattle.protocol.specs.Verdict.{verdict, history, transitions_made}
-use Rattle.wire.specs.Parties.{sender, receiver}
 use Rattle.protocol.specs.World.{World, Station, Turn, station, journal, put, stays, opening, rests, answered, take_input, commit, crash, restart, sent, at_node, is_order, posted, deliver, step, run}
 use Rattle.protocol.specs.declared.event.Outcome.TheVariants.{NotPossible}
 use Rattle.protocol.specs.declared.event.Posted.{Posted}
@@ -43,7 +42,6 @@ use Rattle.safety.proofs.DeliveryLemmas.FindingsInProposals.{only_eligibility}
 use Rattle.safety.proofs.MovesAndHistories.TransitionForms.{checked_message}
 use Rattle.protocol.proofs.Histories.{history_from_append}
 use Rattle.safety.proofs.MovesAndHistories.LongerHistories.{sends_append}
-use Rattle.safety.proofs.MovesAndHistories.NewestTransitions.{one_notified}
 use Rattle.units.proofs.Lists.Membership.{In, In_cases, In_flat_map, In_slice_get}
 use Rattle.safety.proofs.MovesAndHistories.TableMoves.{LogMove, checks, passes, cancels, forestalls, log_moves}
 use Rattle.safety.proofs.WorldLemmas.NodesWithStation.{AllPlaced, step_placed, opening_placed, live_unplaced, take_node, commit_node, crash_node, restart_node}
@@ -65,12 +63,12 @@ not_cancelled : (found : List ℕ) → notified.Cancelled ≡ notified.Terminate
 not_cancelled found e = cc (e)
 
 -- a notification of Terminated has codes of eligibility alone
-abbrev IsFair : Notification → Type 0
+abbrev IsFair : NotificationMessage → Type 0
 IsFair n = (found : List ℕ) (code : ℕ) → n.notified ≡ notified.Terminated found → In code found → (code ≡ initiator_not_eligible) ⊎ (code ≡ acquirer_not_eligible)
 
 -- one that the log tells of a cancellation
-cancels_fair : (a n : Notification) → a.notified ≡ notified.Cancelled → message.Notification a ≡ message.Notification n → IsFair n
-cancels_fair a n is e found code said i = absurd (not_cancelled found (sym is ∙ ap (λ (z : Notification). z.notified) (one_notified a n e) ∙ said))
+cancels_fair : (a n : NotificationMessage) → a.notified ≡ notified.Cancelled → message.notification a ≡ message.notification n → IsFair n
+cancels_fair a n is e found code said i = absurd (not_cancelled found (sym is ∙ ap (λ (z : NotificationMessage). z.notified) (one_notified a n e) ∙ said))
 
 -- the log passes no notification of Terminated on
 passed_on : {X : Type 0} (a told new : Status) → log_row (Stands a) (Notified told) ≡ Move new → told ≡ Terminated → X
@@ -85,25 +83,25 @@ passed_on a told new move is = elim (log_from a told new move) [
 
 -- what is received was sent
 abbrev WasSent : World → Input → Type 0
-WasSent w input = (m : Message) (moment : Moment) → input ≡ Received m moment → In m (sends (committed_of w (sender m)))
+WasSent w input = (m : Message) (moment : Moment) → input ≡ Received m moment → In m (sends (committed_of w m.from))
 
 module _ (w : World) (sound : Sound w) (placed : AllPlaced w) where
-  terminated_codes : (p : Proposal) (found : List ℕ) → found ≡ log_findings w.scheme (ledger w.scheme (live_of w Itl)) p.id.code p.content → In (message.Proposal p) (sends (live_of w (Registry p.id.code)))
-      → newest (transitions_of (live_of w Itl)) p.id ≡ None → (n : Notification) → In (message.Notification n) (checked_message p.id p.content found ∷ []) → IsFair n
-  terminated_codes p [] is came none n (inl e) codes code said i = absurd (cc (e))
+  terminated_codes : (p : ProposalMessage) (found : List ℕ) → found ≡ log_findings w.scheme (ledger w.scheme (live_of w Itl)) p.id.code p.content → In (message.proposal p) (sends (live_of w (Registry p.id.code)))
+      → newest (transitions_of (live_of w Itl)) p.id ≡ None → (n : NotificationMessage) → In (message.notification n) (checked_message p.id p.content found ∷ []) → IsFair n
+  terminated_codes p [] is came none n (inl e) codes code said i = apart e refl
   terminated_codes p [] is came none n (inr h) codes code said i = absurd h
   terminated_codes p (c ∷ cs) is came none n (inl e) codes code said i =
-      let same = one_list (c ∷ cs) codes (ap (λ (z : Notification). z.notified) (one_notified _ n e) ∙ said) in
+      let same = one_list (c ∷ cs) codes (ap (λ (z : NotificationMessage). z.notified) (one_notified _ n e) ∙ said) in
       only_eligibility w.scheme (live_of w) (live_causal w sound) (live_unplaced w placed) p.id.code p came none code (subst (In code) (sym same ∙ is) i)
   terminated_codes p (c ∷ cs) is came none n (inr h) codes code said i = absurd h
 
-  move_fair : (input : Input) (x : Transition) → WasSent w input → LogMove w.scheme (live_of w Itl) input x → (n : Notification) → In (message.Notification n) x.messages → IsFair n
+  move_fair : (input : Input) (x : Transition) → WasSent w input → LogMove w.scheme (live_of w Itl) input x → (n : NotificationMessage) → In (message.notification n) x.messages → IsFair n
   move_fair input x came (checks p moment found from status findings none member) n h =
-      let committed = came (message.Proposal p) moment refl in
-      let live = live_sends w p.from (message.Proposal p) committed in
-      terminated_codes p found findings (subst (λ z. In (message.Proposal p) (sends (live_of w z))) from live) none n h
+      let committed = came (message.proposal p) moment refl in
+      let live = live_sends w p.from (message.proposal p) committed in
+      terminated_codes p found findings (subst (λ z. In (message.proposal p) (sends (live_of w z))) from live) none n h
   move_fair input x came (passes k moment q held new old kept member right move) n (inl e) = λ found code said i.
-      passed_on q.new (notified_status k.notified) new move (ap notified_status (ap (λ (z : Notification). z.notified) (one_notified _ n e) ∙ said))
+      passed_on q.new (notified_status k.notified) new move (ap notified_status (ap (λ (z : NotificationMessage). z.notified) (one_notified _ n e) ∙ said))
   move_fair input x came (passes k moment q held new old kept member right move) n (inr h) = absurd h
   move_fair input x came (cancels given moment t q held why old kept was) n (inl e) = cancels_fair _ n refl e
   move_fair input x came (cancels given moment t q held why old kept was) n (inr (inl e)) = cancels_fair _ n refl e
@@ -111,11 +109,11 @@ module _ (w : World) (sound : Sound w) (placed : AllPlaced w) where
   move_fair input x came (forestalls r moment from member none) n (inl e) = cancels_fair _ n refl e
   move_fair input x came (forestalls r moment from member none) n (inr h) = absurd h
 
-  input_fair : (input : Input) → WasSent w input → (n : Notification) → In (message.Notification n) (messages_of (transitions_made (verdict w.scheme Itl (live_of w Itl) input))) → IsFair n
+  input_fair : (input : Input) → WasSent w input → (n : NotificationMessage) → In (message.notification n) (messages_of (transitions_made (verdict w.scheme Itl (live_of w Itl) input))) → IsFair n
   unfolding verdict
   input_fair input came n h =
       let xs = transitions_made (verdict w.scheme Itl (live_of w Itl) input) in
-      let g = In_flat_map (λ (x : Transition). x.messages) (message.Notification n) xs h in
+      let g = In_flat_map (λ (x : Transition). x.messages) (message.notification n) xs h in
       move_fair input g.0 came (log_moves w.scheme (live_of w Itl) input g.0 g.1) n g.2
 
 -- ---- what an event does to a live journal: it leaves it, cuts it off, or adds an input to it
@@ -169,17 +167,17 @@ restart_goes w s = cond_goes w s s.runs (rests s NotPossible) _ (same_goes w s s
 -- ---- what the log says in a world
 
 abbrev AllFair : List Entry → Type 0
-AllFair es = (n : Notification) → In (message.Notification n) (sends es) → IsFair n
+AllFair es = (n : NotificationMessage) → In (message.notification n) (sends es) → IsFair n
 
 module _ (w : World) (sound : Sound w) (placed : AllPlaced w) (old : AllFair (live_of w Itl)) where
   goes_fair : (xs ys : List Input) → whole (station w Itl) ≡ xs → Shorter xs ys ⊎ Longer w xs ys → AllFair (history w.scheme Itl ys)
   goes_fair xs ys is (inl r) n h =
-      old n (subst (λ zs. In (message.Notification n) (sends (history w.scheme Itl zs))) (sym r.1 ∙ sym is) (sends_append w.scheme Itl ys r.0 (message.Notification n) h))
+      old n (subst (λ zs. In (message.notification n) (sends (history w.scheme Itl zs))) (sym r.1 ∙ sym is) (sends_append w.scheme Itl ys r.0 (message.notification n) h))
   goes_fair xs ys is (inr r) n h =
       let whole_now = whole (station w Itl) in
       let longer : ys ≡ whole_now ++ r.0 ∷ [] = r.2 ∙ ap (λ zs. zs ++ r.0 ∷ []) (sym is) in
-      let later = subst (λ (es : List Entry). In (message.Notification n) (sends es)) (ap (history w.scheme Itl) longer ∙ history_from_append w.scheme Itl [] whole_now (r.0 ∷ [])) h in
-      elim (In_cases (message.Notification n) (sends (live_of w Itl)) (messages_of (transitions_made (verdict w.scheme Itl (live_of w Itl) r.0))) later) [
+      let later = subst (λ (es : List Entry). In (message.notification n) (sends es)) (ap (history w.scheme Itl) longer ∙ history_from_append w.scheme Itl [] whole_now (r.0 ∷ [])) h in
+      elim (In_cases (message.notification n) (sends (live_of w Itl)) (messages_of (transitions_made (verdict w.scheme Itl (live_of w Itl) r.0))) later) [
         | inl i ↦ old n i
         | inr i ↦ input_fair w sound placed r.0 r.1 n i
       ]
@@ -210,8 +208,8 @@ module _ (w : World) (sound : Sound w) (placed : AllPlaced w) (old : AllFair (li
   deliver_fair : (moment : Moment) (o : Option Posted) → ((p : Posted) → o ≡ Some p → In p w.bag) → AllFair (live_of (deliver w moment o).world Itl)
   deliver_fair moment None there = old
   deliver_fair moment (Some p) there =
-      take_fair (receiver p.message) (Received p.message moment)
-      (λ m at e. subst (λ z. In z (sends (committed_of w (sender z)))) (one_message p.message m moment at e) (sound.posted p (there p refl)))
+      take_fair p.message.to (Received p.message moment)
+      (λ m at e. subst (λ z. In z (sends (committed_of w z.from))) (one_message p.message m moment at e) (sound.posted p (there p refl)))
 
   ordered_fair : (n : Node) (i : Input) (b : Bool) → is_order w n i ≡ b → AllFair (live_of (cond b (at_node w (station w n) (take_input w.scheme i)) (stays w NotPossible)).world Itl)
   ordered_fair n i true order = take_fair n i (order_fair w n i order)
@@ -231,18 +229,23 @@ run_fair w [] sound placed old = old
 run_fair w (e ∷ es) sound placed old = run_fair (step w e).world es (step_sound w e sound) (step_placed w e placed) (step_fair w sound placed old e)
 
 opening_fair : (scheme : Scheme) → AllFair (live_of (opening scheme) Itl)
-opening_fair scheme n h = absurd (subst (λ zs. In (message.Notification n) (sends (history scheme Itl zs))) (no_journal scheme Itl) h)
+opening_fair scheme n h = absurd (subst (λ zs. In (message.notification n) (sends (history scheme Itl zs))) (no_journal scheme Itl) h)
 
 reached_fair : (scheme : Scheme) (events : List WorldEvent) → AllFair (live_of (reached scheme events) Itl)
 reached_fair scheme events = run_fair (opening scheme) events (opening_sound scheme) (opening_placed scheme) (opening_fair scheme)
 
+fair_message : (scheme : Scheme) (events : List WorldEvent) (m : Message) (found : List ℕ) (code : ℕ) → In m (sends (live_of (reached scheme events) Itl)) → m.body ≡ body.Notification (notified.Terminated found)
+    → Contains found code → (code ≡ initiator_not_eligible) ⊎ (code ≡ acquirer_not_eligible)
+fair_message scheme events m found code h said i =
+    let n : NotificationMessage = record { from = m.from; to = m.to; id = m.id; notified = notified.Terminated found } in
+    reached_fair scheme events n (subst (λ z. In z (sends (live_of (reached scheme events) Itl))) (has_body m (body.Notification (notified.Terminated found)) said) h) found code refl (In_contains found code i)
+
 -- ---- the law
 
 pub terminates_live : (scheme : Scheme) (events : List WorldEvent) → TerminatesForEligibility (live_of (reached scheme events))
-terminates_live scheme events n found code h said i =
-    reached_fair scheme events n (In_contains (sends (live_of (reached scheme events) Itl)) (message.Notification n) h) found code said (In_contains found code i)
+terminates_live scheme events m found code h said i = fair_message scheme events m found code (In_contains (sends (live_of (reached scheme events) Itl)) m h) said i
 
 pub terminates_committed : (scheme : Scheme) (events : List WorldEvent) → TerminatesForEligibility (committed_of (reached scheme events))
-terminates_committed scheme events n found code h said i =
+terminates_committed scheme events m found code h said i =
     let w = reached scheme events in
-    reached_fair scheme events n (live_sends w Itl (message.Notification n) (In_contains (sends (committed_of w Itl)) (message.Notification n) h)) found code said (In_contains found code i)
+    fair_message scheme events m found code (live_sends w Itl m (In_contains (sends (committed_of w Itl)) m h)) said i

@@ -3,7 +3,6 @@
 -- sender's history, and the table has a row for the message at whatever the log knows. Where the log already has
 -- an answer of the acquirer, the two answers are compared: no acquirer both accepts and rejects one transfer.
 use Rattle.protocol.specs.Checks.{log_findings}
-use Rattle.wire.specs.declared.message.Request.{Request}
 use Rattle.std.proofs.Common.{◌≡◌, List, true, false, not, Some, None, ◌⊎◌, inl, inr, refl, sym, ap, subst, ◌∙◌}
 use Rattle.std.proofs.lemmas.Bool.{cases_Bool}
 use Rattle.units.proofs.Same.{code_of_same}
@@ -22,13 +21,12 @@ use Rattle.status.specs.declared.status.Status.TheVariants.{Proposed, Checked, A
 use Rattle.wire.specs.NotifiedStatuses.{notified_status, notified_codes}
 use Rattle.wire.specs.declared.input.Input.TheVariants.{Received}
 use Rattle.wire.specs.declared.message.Message.{Message}
-use Rattle.wire.specs.declared.message.Message.TheVariants as message
-use Rattle.wire.specs.declared.message.Notification.{Notification}
-use Rattle.wire.specs.declared.message.Proposal.{Proposal}
+use Rattle.protocol.proofs.MessageForms as message
+use Rattle.protocol.proofs.MessageForms.{ProposalMessage, NotificationMessage, RequestMessage}
 use Rattle.wire.specs.declared.message.ProposalStatus.{ProposalStatus}
 use Rattle.wire.specs.declared.message.ProposalStatus.TheVariants as proposal
 use Rattle.scheme.specs.declared.registries.Scheme.{Scheme}
-use Rattle.protocol.specs.AtLog.{ledger, is_proposed, is_no_registry, is_not_acquirer, is_from_another, told, log_refusals, log_answer, log_verdict}
+use Rattle.protocol.specs.AtLog.{ledger, is_proposed, is_no_registry, is_not_acquirer, is_from_another, told, log_refusals, log_verdict}
 use Rattle.protocol.specs.Deciding.{content_in, known}
 use Rattle.protocol.specs.History.{Transition, Entry, transitions_of, newest, sends}
 use Rattle.protocol.specs.Registries.{has_member}
@@ -92,7 +90,7 @@ module _ (scheme : Scheme) (f : Node → List Entry) (causal : Causal scheme f) 
   -- ---- an offer
 
   -- the log knows the content that was offered
-  known_content : (c : Code) (p : Proposal) → In (message.Proposal p) (sends (f (Registry c))) → (x : Transition) (k : Content) → newest (transitions_of (f Itl)) p.id ≡ Some x → x.content ≡ Some k → x.content ≡ Some p.content
+  known_content : (c : Code) (p : ProposalMessage) → In (message.proposal p) (sends (f (Registry c))) → (x : Transition) (k : Content) → newest (transitions_of (f Itl)) p.id ≡ Some x → x.content ≡ Some k → x.content ≡ Some p.content
   known_content c p h x k e content =
       let mine = offered scheme c (f (Registry c)) (causal.made (Registry c)) p h in
       let code : p.id.code ≡ c = code_of_same p.id.code c mine.3 in
@@ -101,20 +99,20 @@ module _ (scheme : Scheme) (f : Node → List Entry) (causal : Causal scheme f) 
       let same : b.last ≡ mine.0 = one_some b.last mine.0 (sym there ∙ mine.1) in
       b.known ∙ sym b.there ∙ ap (λ (z : Transition). z.content) same ∙ mine.2
 
-  known_offer : (c : Code) (p : Proposal) → In (message.Proposal p) (sends (f (Registry c))) → (x : Transition) → newest (transitions_of (f Itl)) p.id ≡ Some x → (x.content ≡ None) ⊎ (x.content ≡ Some p.content)
+  known_offer : (c : Code) (p : ProposalMessage) → In (message.proposal p) (sends (f (Registry c))) → (x : Transition) → newest (transitions_of (f Itl)) p.id ≡ Some x → (x.content ≡ None) ⊎ (x.content ≡ Some p.content)
   known_offer c p h x e =
       elim (proposer_or_none scheme (f Itl) (causal.made Itl) p.id x e) [
         | inl b ↦ inl b.content
         | inr q ↦ inr (known_content c p h x q.content e q.is)
       ]
 
-  offer_welcome : (c : Code) (p : Proposal) (moment : Moment) → p.from ≡ Registry c → p.to ≡ Itl → p.status ≡ proposal.Proposed → same_code p.id.code c ≡ true → In (message.Proposal p) (sends (f (Registry c)))
-      → Welcome (log_verdict scheme (f Itl) (Received (message.Proposal p) moment))
+  offer_welcome : (c : Code) (p : ProposalMessage) (moment : Moment) → p.from ≡ Registry c → p.to ≡ Itl → p.status ≡ proposal.Proposed → same_code p.id.code c ≡ true → In (message.proposal p) (sends (f (Registry c)))
+      → Welcome (log_verdict scheme (f Itl) (Received (message.proposal p) moment))
   offer_welcome c p moment from to status own h =
-      welcome_refuse (log_refusals scheme (f Itl) (message.Proposal p)) (log_answer scheme (f Itl) moment.seconds (message.Proposal p)) (
+      welcome_refuse (log_refusals scheme (f Itl) (message.proposal p)) _ (
         right_node p.to Itl to,
         (
-          subst (λ (n : Node). is_no_registry scheme n ≡ false) (sym from) (sender_member c (message.Proposal p) h),
+          subst (λ (n : Node). is_no_registry scheme n ≡ false) (sym from) (sender_member c (message.proposal p) h),
           (
             right_node p.from (Registry p.id.code) (from ∙ ap (λ (z : Code). Registry z) (sym (code_of_same p.id.code c own))),
             (no_other (newest (transitions_of (f Itl)) p.id) p.content (known_offer c p h), (subst (λ (s : ProposalStatus). not (is_proposed s) ≡ false) (sym status) refl, tt)),
@@ -125,16 +123,16 @@ module _ (scheme : Scheme) (f : Node → List Entry) (causal : Causal scheme f) 
 
   -- ---- a notification
 
-  notified_welcome : (c : Code) (n : Notification) (moment : Moment) (x : Transition) (k : Content) → newest (transitions_of (f Itl)) n.id ≡ Some x → x.content ≡ Some k → n.from ≡ Registry c → n.to ≡ Itl
-      → In (message.Notification n) (sends (f (Registry c))) → is_from_another (Registry c) n.id x.content (notified_status n.notified) ≡ false
-      → (log_row (Stands x.new) (Notified (notified_status n.notified)) ≡ Refused → ⊥) → Welcome (log_verdict scheme (f Itl) (Received (message.Notification n) moment))
+  notified_welcome : (c : Code) (n : NotificationMessage) (moment : Moment) (x : Transition) (k : Content) → newest (transitions_of (f Itl)) n.id ≡ Some x → x.content ≡ Some k → n.from ≡ Registry c → n.to ≡ Itl
+      → In (message.notification n) (sends (f (Registry c))) → is_from_another (Registry c) n.id x.content (notified_status n.notified) ≡ false
+      → (log_row (Stands x.new) (Notified (notified_status n.notified)) ≡ Refused → ⊥) → Welcome (log_verdict scheme (f Itl) (Received (message.notification n) moment))
   notified_welcome c n moment x k last content from to h right row =
       let es = transitions_of (f Itl) in
       let s = notified_status n.notified in
-      welcome_refuse (log_refusals scheme (f Itl) (message.Notification n)) (log_answer scheme (f Itl) moment.seconds (message.Notification n)) (
+      welcome_refuse (log_refusals scheme (f Itl) (message.notification n)) _ (
         right_node n.to Itl to,
         (
-          subst (λ (m : Node). is_no_registry scheme m ≡ false) (sym from) (sender_member c (message.Notification n) h),
+          subst (λ (m : Node). is_no_registry scheme m ≡ false) (sym from) (sender_member c (message.notification n) h),
           (
             known_by_newest es n.id x last,
             (subst (λ o. is_from_another n.from n.id (content_in o) s ≡ false) (sym last) (subst (λ (m : Node). is_from_another m n.id x.content s ≡ false) (sym from) right), tt),
@@ -144,8 +142,8 @@ module _ (scheme : Scheme) (f : Node → List Entry) (causal : Causal scheme f) 
       (subst (λ o. Welcome (told scheme (f Itl) n.id o (notified_codes n.notified) moment.seconds (Notified s))) (sym last)
       (welcome_row scheme (f Itl) _ _ (subst (λ z. log_row z (Notified s) ≡ Refused → ⊥) (sym (known_status x k content)) row)))
 
-  completed_welcome : (c : Code) (n : Notification) (moment : Moment) → n.from ≡ Registry c → n.to ≡ Itl → notified_status n.notified ≡ Completed → same_code n.id.code c ≡ true
-      → In (message.Notification n) (sends (f (Registry c))) → Welcome (log_verdict scheme (f Itl) (Received (message.Notification n) moment))
+  completed_welcome : (c : Code) (n : NotificationMessage) (moment : Moment) → n.from ≡ Registry c → n.to ≡ Itl → notified_status n.notified ≡ Completed → same_code n.id.code c ≡ true
+      → In (message.notification n) (sends (f (Registry c))) → Welcome (log_verdict scheme (f Itl) (Received (message.notification n) moment))
   completed_welcome c n moment from to said own h =
       let es = f (Registry c) in
       let q = completed_sent scheme c es (causal.made (Registry c)) n h said in
@@ -158,20 +156,20 @@ module _ (scheme : Scheme) (f : Node → List Entry) (causal : Causal scheme f) 
       (subst (λ s. log_row (Stands a.0.new) (Notified s) ≡ Refused → ⊥) (sym said) (completed_row a.0.new a.2))
 
   -- no acquirer both accepts and rejects
-  not_both : (c : Code) (n m : Notification) → n.id ≡ m.id → notified_status n.notified ≡ Accepted → notified_status m.notified ≡ Rejected → In (message.Notification n) (sends (f (Registry c)))
-      → In (message.Notification m) (sends (f (Registry c))) → ⊥
+  not_both : (c : Code) (n m : NotificationMessage) → n.id ≡ m.id → notified_status n.notified ≡ Accepted → notified_status m.notified ≡ Rejected → In (message.notification n) (sends (f (Registry c)))
+      → In (message.notification m) (sends (f (Registry c))) → ⊥
   not_both c n m same yes_said no_said h i =
       let es = f (Registry c) in
       let a = accepted_sent scheme c es (causal.made (Registry c)) n h yes_said in
       let r = rejected_sent scheme c es (causal.made (Registry c)) m i no_said in
       taken_not_rejected r.0.new r.2 (subst IsTaken (ap (newest (transitions_of es)) same ∙ r.1) a.1)
 
-  answer_welcome : (c : Code) (n : Notification) (moment : Moment) (k : Content) → n.from ≡ Registry c → n.to ≡ Itl → (notified_status n.notified ≡ Accepted) ⊎ (notified_status n.notified ≡ Rejected)
-      → Offered (f (Registry c)) Itl n.id proposal.Checked k → k.acquirer ≡ c → In (message.Notification n) (sends (f (Registry c))) → Welcome (log_verdict scheme (f Itl) (Received (message.Notification n) moment))
+  answer_welcome : (c : Code) (n : NotificationMessage) (moment : Moment) (k : Content) → n.from ≡ Registry c → n.to ≡ Itl → (notified_status n.notified ≡ Accepted) ⊎ (notified_status n.notified ≡ Rejected)
+      → Offered (f (Registry c)) Itl n.id proposal.Checked k → k.acquirer ≡ c → In (message.notification n) (sends (f (Registry c))) → Welcome (log_verdict scheme (f Itl) (Received (message.notification n) moment))
   answer_welcome c n moment k from to which got here h =
       let log = f Itl in
       let o = log_has scheme f causal c n.id k got in
-      let p = passed_open scheme log (causal.made Itl) got.proposal (subst (λ z. In (message.Proposal got.proposal) (sends (f z))) got.sender (causal.sent (Registry c) (message.Proposal got.proposal) got.got)) in
+      let p = passed_open scheme log (causal.made Itl) got.proposal (subst (λ z. In (message.proposal got.proposal) (sends (f z))) got.sender (causal.sent (Registry c) (message.proposal got.proposal) got.got)) in
       let same : p.0 ≡ o.0 = one_some p.0 o.0 (sym (subst (λ z. newest (transitions_of log) z ≡ Some p.0) got.about p.1) ∙ o.1) in
       let id = newest_id (transitions_of log) n.id o.0 o.1 in
       let started : o.0.new ≡ Proposed → ⊥ = λ e. never_proposed scheme log (causal.made Itl) o.0 id.0 e in
@@ -184,25 +182,25 @@ module _ (scheme : Scheme) (f : Node → List Entry) (causal : Causal scheme f) 
             notified_welcome c n moment o.0 k o.1 o.2 from to h (subst (λ s. is_from_another (Registry c) n.id o.0.content s ≡ false) (sym e) right)
             (subst (λ s. log_row (Stands o.0.new) (Notified s) ≡ Refused → ⊥) (sym e) (accepted_row o.0.new started open_still (λ x.
             let g = refusal scheme log (causal.made Itl) n.id o.0 o.1 x in
-            not_both c n g.2.notification (sym g.2.about) e g.2.told h (subst (λ z. In (message.Notification g.2.notification) (sends (f (Registry z)))) (at_c g.0 g.1) (heard_sent scheme f causal Itl (Registry g.0.acquirer) n.id Rejected g.2)))))
+            not_both c n g.2.notification (sym g.2.about) e g.2.told h (subst (λ z. In (message.notification g.2.notification) (sends (f (Registry z)))) (at_c g.0 g.1) (heard_sent scheme f causal Itl (Registry g.0.acquirer) n.id Rejected g.2)))))
         | inr e ↦
             notified_welcome c n moment o.0 k o.1 o.2 from to h (subst (λ s. is_from_another (Registry c) n.id o.0.content s ≡ false) (sym e) right)
             (subst (λ s. log_row (Stands o.0.new) (Notified s) ≡ Refused → ⊥) (sym e) (rejected_row o.0.new started open_still (λ x.
             let g = log_backed scheme log (causal.made Itl) n.id o.0 o.1 x in
             not_both c g.heard.notification n g.heard.about g.heard.told e
-            (subst (λ z. In (message.Notification g.heard.notification) (sends (f (Registry z)))) (at_c g.content g.known) (heard_sent scheme f causal Itl (Registry g.content.acquirer) n.id Accepted g.heard)) h)))
+            (subst (λ z. In (message.notification g.heard.notification) (sends (f (Registry z)))) (at_c g.content g.known) (heard_sent scheme f causal Itl (Registry g.content.acquirer) n.id Accepted g.heard)) h)))
       ]
 
   -- ---- a request
 
-  request_welcome : (c : Code) (r : Request) (moment : Moment) → r.from ≡ Registry c → r.to ≡ Itl → same_code r.id.code c ≡ true → In (message.Request r) (sends (f (Registry c)))
-      → Welcome (log_verdict scheme (f Itl) (Received (message.Request r) moment))
+  request_welcome : (c : Code) (r : RequestMessage) (moment : Moment) → r.from ≡ Registry c → r.to ≡ Itl → same_code r.id.code c ≡ true → In (message.request r) (sends (f (Registry c)))
+      → Welcome (log_verdict scheme (f Itl) (Received (message.request r) moment))
   request_welcome c r moment from to own h =
       let last = newest (transitions_of (f Itl)) r.id in
-      welcome_refuse (log_refusals scheme (f Itl) (message.Request r)) (log_answer scheme (f Itl) moment.seconds (message.Request r)) (
+      welcome_refuse (log_refusals scheme (f Itl) (message.request r)) _ (
         right_node r.to Itl to,
         (
-          subst (λ (n : Node). is_no_registry scheme n ≡ false) (sym from) (sender_member c (message.Request r) h),
+          subst (λ (n : Node). is_no_registry scheme n ≡ false) (sym from) (sender_member c (message.request r) h),
           (right_node r.from (Registry r.id.code) (from ∙ ap (λ (z : Code). Registry z) (sym (code_of_same r.id.code c own))), tt),
         ),
       )

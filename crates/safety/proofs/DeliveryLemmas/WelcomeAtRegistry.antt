@@ -26,12 +26,11 @@ use Rattle.status.specs.declared.status.Status.TheVariants.{Proposed, Checked, A
 use Rattle.wire.specs.NotifiedStatuses.{notified_status}
 use Rattle.wire.specs.declared.input.Input.TheVariants.{Received}
 use Rattle.wire.specs.declared.message.Message.{Message}
-use Rattle.wire.specs.declared.message.Message.TheVariants as message
-use Rattle.wire.specs.declared.message.Notification.{Notification}
-use Rattle.wire.specs.declared.message.Proposal.{Proposal}
+use Rattle.protocol.proofs.MessageForms as message
+use Rattle.protocol.proofs.MessageForms.{ProposalMessage, NotificationMessage, Form, form, of_proposal, of_notification, of_request}
 use Rattle.wire.specs.declared.message.ProposalStatus.{ProposalStatus}
 use Rattle.scheme.specs.declared.registries.Scheme.{Scheme}
-use Rattle.protocol.specs.AtRegistry.{holding, in_role, unless_held, holds_some, is_checked, registry_refusals, registry_answer, registry_verdict}
+use Rattle.protocol.specs.AtRegistry.{holding, in_role, unless_held, holds_some, is_checked, registry_refusals, registry_verdict}
 use Rattle.protocol.specs.Deciding as decide
 use Rattle.protocol.specs.Deciding.{Verdict, content_in, by_row, known as known_as}
 use Rattle.protocol.specs.Effects.{acquirer_sends}
@@ -43,7 +42,6 @@ use Rattle.protocol.specs.History.{Transition, Entry, transitions_of, newest, is
 use Rattle.protocol.specs.Owner.{Owing}
 use Rattle.protocol.specs.Pieces.{Piece, pieces, repeats}
 use Rattle.protocol.specs.Registries.{has_member}
-use Rattle.wire.specs.Parties.{receiver}
 use Rattle.safety.proofs.AgreementOfNodes.InitiatorRecords.{begun, initiated}
 use Rattle.safety.proofs.AgreementOfNodes.CausalHistories.{Causal, heard_sent, log_said, past_transition}
 use Rattle.safety.proofs.AgreementOfNodes.CompletionsAgree.{log_has}
@@ -141,17 +139,17 @@ module _ (scheme : Scheme) (f : Node → List Entry) (causal : Causal scheme f) 
 
     -- ---- a proposal
 
-    offer_welcome : (p : Proposal) (moment : Moment) → In (message.Proposal p) (sends (f Itl)) → p.to ≡ Registry c → Welcome (registry_verdict scheme c here (Received (message.Proposal p) moment))
+    offer_welcome : (p : ProposalMessage) (moment : Moment) → In (message.proposal p) (sends (f Itl)) → p.to ≡ Registry c → Welcome (registry_verdict scheme c here (Received (message.proposal p) moment))
     offer_welcome p moment h to =
         let facts = passed_on scheme (f Itl) (causal.made Itl) p h in
         let o = log_offered scheme (f Itl) (causal.made Itl) p h in
         let mine : p.content.acquirer ≡ c = registry_code p.content.acquirer c (sym o.3 ∙ to) in
         let foreign : same_code p.id.code c ≡ false = other_code p.id.code c (λ e. codes_differ p.content.acquirer p.id.code facts.acquirer_other (mine ∙ sym e)) in
         let acquirer : same_code p.content.acquirer c ≡ true = subst (λ z. same_code p.content.acquirer z ≡ true) mine (same_code-refl p.content.acquirer) in
-        welcome_refuse (registry_refusals c here (message.Proposal p)) (registry_answer scheme c here moment.seconds (message.Proposal p)) (
+        welcome_refuse (registry_refusals c here (message.proposal p)) _ (
           right_node p.to (Registry c) to,
           (
-            right_node p.from Itl (sender_sends scheme Itl (f Itl) (causal.made Itl) (message.Proposal p) h),
+            right_node p.from Itl (sender_sends scheme Itl (f Itl) (causal.made Itl) (message.proposal p) h),
             (
               or_from (not (same_code p.content.acquirer c)) _ (not_from_true (same_code p.content.acquirer c) acquirer) (or_from (same_code p.id.code c) (repeats (pieces p.content.units)) foreign facts.apart),
               (
@@ -171,19 +169,19 @@ module _ (scheme : Scheme) (f : Node → List Entry) (causal : Causal scheme f) 
 
     -- ---- a notification
 
-    notified_welcome : (n : Notification) (moment : Moment) → In (message.Notification n) (sends (f Itl)) → n.to ≡ Registry c
+    notified_welcome : (n : NotificationMessage) (moment : Moment) → In (message.notification n) (sends (f Itl)) → n.to ≡ Registry c
         → (not (is_known (transitions_of here) n.id) && not (same_status (notified_status n.notified) Cancelled && not (same_code n.id.code c))) ≡ false
         → Welcome (in_role scheme c here n.id (newest (transitions_of here) n.id) moment.seconds (Notified (notified_status n.notified)))
-        → Welcome (registry_verdict scheme c here (Received (message.Notification n) moment))
+        → Welcome (registry_verdict scheme c here (Received (message.notification n) moment))
     notified_welcome n moment h to about w =
-        welcome_refuse (registry_refusals c here (message.Notification n)) (in_role scheme c here n.id (newest (transitions_of here) n.id) moment.seconds (Notified (notified_status n.notified)))
-        (right_node n.to (Registry c) to, (right_node n.from Itl (sender_sends scheme Itl (f Itl) (causal.made Itl) (message.Notification n) h), (about, tt)))
+        welcome_refuse (registry_refusals c here (message.notification n)) (in_role scheme c here n.id (newest (transitions_of here) n.id) moment.seconds (Notified (notified_status n.notified)))
+        (right_node n.to (Registry c) to, (right_node n.from Itl (sender_sends scheme Itl (f Itl) (causal.made Itl) (message.notification n) h), (about, tt)))
         w
 
     -- to the initiator
 
-    initiator_welcome : (n : Notification) (moment : Moment) → In (message.Notification n) (sends (f Itl)) → n.to ≡ Registry c → n.id.code ≡ c → (notified_status n.notified ≡ Completed → ⊥)
-        → Welcome (registry_verdict scheme c here (Received (message.Notification n) moment))
+    initiator_welcome : (n : NotificationMessage) (moment : Moment) → In (message.notification n) (sends (f Itl)) → n.to ≡ Registry c → n.id.code ≡ c → (notified_status n.notified ≡ Completed → ⊥)
+        → Welcome (registry_verdict scheme c here (Received (message.notification n) moment))
     initiator_welcome n moment h to code not_completed =
         let s = notified_status n.notified in
         let past = log_sent scheme (f Itl) (causal.made Itl) n h in
@@ -317,7 +315,7 @@ module _ (scheme : Scheme) (f : Node → List Entry) (causal : Causal scheme f) 
         go Checked row h = absurd h
         go Terminated row h = absurd h
 
-    acquirer_welcome : (n : Notification) (moment : Moment) → In (message.Notification n) (sends (f Itl)) → n.to ≡ Registry c → ToKnown (f Itl) n → Welcome (registry_verdict scheme c here (Received (message.Notification n) moment))
+    acquirer_welcome : (n : NotificationMessage) (moment : Moment) → In (message.notification n) (sends (f Itl)) → n.to ≡ Registry c → ToKnown (f Itl) n → Welcome (registry_verdict scheme c here (Received (message.notification n) moment))
     acquirer_welcome n moment h to g =
         let s = notified_status n.notified in
         let t = n.id in
@@ -339,7 +337,7 @@ module _ (scheme : Scheme) (f : Node → List Entry) (causal : Causal scheme f) 
               ] in
               let a = log_backed scheme (f Itl) (causal.made Itl) t l g.is (subst IsAgreed (sym done) tt) in
               let who : a.content.acquirer ≡ c = ap (λ (z : Content). z.acquirer) (one_some a.content k (sym a.known ∙ g.goes.known)) ∙ mine in
-              let accepted = subst (λ z. In (message.Notification a.heard.notification) (sends (f (Registry z)))) who (heard_sent scheme f causal Itl (Registry a.content.acquirer) t Accepted a.heard) in
+              let accepted = subst (λ z. In (message.notification a.heard.notification) (sends (f (Registry z)))) who (heard_sent scheme f causal Itl (Registry a.content.acquirer) t Accepted a.heard) in
               let taken = subst (λ z. IsTaken (newest (transitions_of here) z)) a.heard.about (accepted_sent scheme c here (causal.made (Registry c)) a.heard.notification accepted a.heard.told).1 in
               let x = taken_known (newest (transitions_of here) t) taken in
               notified_welcome n moment h to (and_left (not (is_known (transitions_of here) t)) _ (known_by_newest (transitions_of here) t x.0 x.1))
@@ -359,11 +357,14 @@ module _ (scheme : Scheme) (f : Node → List Entry) (causal : Causal scheme f) 
               (told_cancelled t l (newest (transitions_of here) t) moment.seconds foreign g.is done refl))
         ]
 
-    pub registry_welcome : (m : Message) (moment : Moment) → In m (sends (f Itl)) → (receiver m ≡ Registry c) → Welcome (registry_verdict scheme c here (Received m moment))
-    registry_welcome (message.Proposal p) moment h to = offer_welcome p moment h to
-    registry_welcome (message.Request r) moment h to = absurd (no_request scheme (f Itl) (causal.made Itl) r h)
-    registry_welcome (message.Notification n) moment h to =
+    welcome_as : (m : Message) → Form m → (moment : Moment) → In m (sends (f Itl)) → m.to ≡ Registry c → Welcome (registry_verdict scheme c here (Received m moment))
+    welcome_as m (of_proposal p) moment h to = offer_welcome p moment h to
+    welcome_as m (of_request r) moment h to = absurd (no_request scheme (f Itl) (causal.made Itl) r h)
+    welcome_as m (of_notification n) moment h to =
         elim (goes scheme (f Itl) (causal.made Itl) n h) [
           | inl g ↦ initiator_welcome n moment h to (registry_code n.id.code c (sym g.to ∙ to)) g.said
           | inr g ↦ acquirer_welcome n moment h to g
         ]
+
+    pub registry_welcome : (m : Message) (moment : Moment) → In m (sends (f Itl)) → m.to ≡ Registry c → Welcome (registry_verdict scheme c here (Received m moment))
+    registry_welcome m moment h to = welcome_as m (form m) moment h to

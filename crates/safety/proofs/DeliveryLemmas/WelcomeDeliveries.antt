@@ -10,7 +10,6 @@ use Rattle.protocol.specs.Claims.{DeliversWelcome, live_of, whole}
 use Rattle.protocol.specs.Deciding.{Verdict, IsRecorded, IsRepeat, IsLate, IsRefused}
 use Rattle.protocol.specs.History.{sends}
 use Rattle.protocol.specs.Verdict.{verdict, history}
-use Rattle.wire.specs.Parties.{sender, receiver}
 use Rattle.protocol.specs.World.{World, Station, station, journal, rests, answered, take_input, at_node, opening, run, deliver, step}
 use Rattle.protocol.specs.declared.event.Outcome.TheVariants.{NotPossible, Refused}
 use Rattle.protocol.specs.declared.event.Posted.{Posted}
@@ -32,29 +31,29 @@ refused_turn true s input (IsRefused c) code h = let same : c ≡ code = cc (h) 
 
 module _ (w : World) (sound : Sound w) (unplaced : Unplaced w.scheme (live_of w)) where
   -- a message of the bag was sent by the live journal of its sender
-  bag_sent : (index : ℕ) (p : Posted) → slice_get w.bag index ≡ Some p → In p.message (sends (live_of w (sender p.message)))
-  bag_sent index p e = live_sends w (sender p.message) p.message (sound.posted p (In_slice_get w.bag index p e))
+  bag_sent : (index : ℕ) (p : Posted) → slice_get w.bag index ≡ Some p → In p.message (sends (live_of w p.message.from))
+  bag_sent index p e = live_sends w p.message.from p.message (sound.posted p (In_slice_get w.bag index p e))
 
   -- ---- what is refused
 
-  delivered_here : (p : Posted) (moment : Moment) (code : ℕ) (s : Station) → In p.message (sends (live_of w (sender p.message))) → station w (receiver p.message) ≡ Some s
+  delivered_here : (p : Posted) (moment : Moment) (code : ℕ) (s : Station) → In p.message (sends (live_of w p.message.from)) → station w p.message.to ≡ Some s
       → (take_input w.scheme (Received p.message moment) s).outcome ≡ Refused code → code ≡ journal_full
   delivered_here p moment code s h is outcome =
-      let to = receiver p.message in
+      let to = p.message.to in
       let input = Received p.message moment in
       let here = refused_turn s.runs s input (verdict w.scheme s.node (history w.scheme s.node (journal s)) input) code outcome in
       let there = subst (λ z. verdict w.scheme z (history w.scheme z (journal s)) input ≡ IsRefused code) (found_at_node to w.stations s is) here in
       let live = subst (λ (o : Option Station). verdict w.scheme to (history w.scheme to (whole o)) input ≡ IsRefused code) (sym is) there in
-      welcome w.scheme (live_of w) (live_causal w sound) unplaced (sender p.message) to p.message moment refl refl h code live
+      welcome w.scheme (live_of w) (live_causal w sound) unplaced p.message.from to p.message moment refl refl h code live
 
-  delivered_to : (p : Posted) (moment : Moment) (code : ℕ) (o : Option Station) → In p.message (sends (live_of w (sender p.message))) → station w (receiver p.message) ≡ o
+  delivered_to : (p : Posted) (moment : Moment) (code : ℕ) (o : Option Station) → In p.message (sends (live_of w p.message.from)) → station w p.message.to ≡ o
       → (at_node w o (take_input w.scheme (Received p.message moment))).outcome ≡ Refused code → code ≡ journal_full
   delivered_to p moment code None h is outcome = absurd (cc (outcome))
   delivered_to p moment code (Some s) h is outcome = delivered_here p moment code s h is outcome
 
   delivered : (index : ℕ) (moment : Moment) (code : ℕ) (o : Option Posted) → slice_get w.bag index ≡ o → (deliver w moment o).outcome ≡ Refused code → code ≡ journal_full
   delivered index moment code None e outcome = absurd (cc (outcome))
-  delivered index moment code (Some p) e outcome = delivered_to p moment code (station w (receiver p.message)) (bag_sent index p e) refl outcome
+  delivered index moment code (Some p) e outcome = delivered_to p moment code (station w p.message.to) (bag_sent index p e) refl outcome
 
   sound_delivers : DeliversWelcome w
   unfolding step

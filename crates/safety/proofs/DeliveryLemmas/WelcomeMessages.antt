@@ -7,11 +7,10 @@ use Rattle.units.specs.declared.code.Node.TheVariants.{Itl, Registry}
 use Rattle.status.specs.declared.moment.Moment.{Moment}
 use Rattle.wire.specs.declared.input.Input.TheVariants.{Received}
 use Rattle.wire.specs.declared.message.Message.{Message}
-use Rattle.wire.specs.declared.message.Message.TheVariants as message
+use Rattle.protocol.proofs.MessageForms.{Form, form, of_proposal, of_notification, of_request}
 use Rattle.scheme.specs.declared.registries.Scheme.{Scheme}
 use Rattle.protocol.specs.History.{Entry, sends}
 use Rattle.protocol.specs.Verdict.{verdict}
-use Rattle.wire.specs.Parties.{sender, receiver}
 use Rattle.safety.proofs.AgreementOfNodes.CausalHistories.{Causal}
 use Rattle.safety.proofs.OneLog.LogSendings.{goes, no_request}
 use Rattle.safety.proofs.OneRegistry.RegistrySendings.{Says, offers, answers, completes, says, asks_log}
@@ -26,7 +25,7 @@ registry_not_log : (c : Code) → Registry c ≡ Itl → ⊥
 registry_not_log c e = cc (e)
 
 -- registries send to the log alone
-said_to_log : (scheme : Scheme) (c : Code) (es : List Entry) (m : Message) → Says scheme c es m → receiver m ≡ Itl
+said_to_log : (scheme : Scheme) (c : Code) (es : List Entry) (m : Message) → Says scheme c es m → m.to ≡ Itl
 said_to_log scheme c es m (offers p from to status own) = to
 said_to_log scheme c es m (answers n k from to which foreign got here) = to
 said_to_log scheme c es m (completes n from to said own) = to
@@ -34,18 +33,18 @@ said_to_log scheme c es m (asks_log r from to own) = to
 
 module _ (scheme : Scheme) (f : Node → List Entry) (causal : Causal scheme f) where
   -- the log sends nothing to itself
-  not_to_itself : (m : Message) → In m (sends (f Itl)) → receiver m ≡ Itl → ⊥
-  not_to_itself (message.Proposal p) h e = registry_not_log p.content.acquirer (sym (log_offered scheme (f Itl) (causal.made Itl) p h).3 ∙ e)
-  not_to_itself (message.Request r) h e = no_request scheme (f Itl) (causal.made Itl) r h
-  not_to_itself (message.Notification n) h e =
+  not_to_itself : (m : Message) → Form m → In m (sends (f Itl)) → m.to ≡ Itl → ⊥
+  not_to_itself m (of_proposal p) h e = registry_not_log p.content.acquirer (sym (log_offered scheme (f Itl) (causal.made Itl) p h).3 ∙ e)
+  not_to_itself m (of_request r) h e = no_request scheme (f Itl) (causal.made Itl) r h
+  not_to_itself m (of_notification n) h e =
       elim (goes scheme (f Itl) (causal.made Itl) n h) [
         | inl g ↦ registry_not_log n.id.code (sym g.to ∙ e)
         | inr g ↦ registry_not_log g.goes.content.acquirer (sym g.goes.to ∙ e)
       ]
 
-  pub welcome : Unplaced scheme f → (from to : Node) (m : Message) (moment : Moment) → sender m ≡ from → receiver m ≡ to → In m (sends (f from)) → Welcome (verdict scheme to (f to) (Received m moment))
+  pub welcome : Unplaced scheme f → (from to : Node) (m : Message) (moment : Moment) → m.from ≡ from → m.to ≡ to → In m (sends (f from)) → Welcome (verdict scheme to (f to) (Received m moment))
   unfolding verdict
-  welcome unplaced Itl Itl m moment a b h = absurd (not_to_itself m h b)
+  welcome unplaced Itl Itl m moment a b h = absurd (not_to_itself m (form m) h b)
   welcome unplaced Itl (Registry c) m moment a b h = registry_welcome scheme f causal unplaced c m moment h b
   welcome unplaced (Registry c) Itl m moment a b h = log_welcome scheme f causal unplaced c m moment h
   welcome unplaced (Registry c) (Registry d) m moment a b h =

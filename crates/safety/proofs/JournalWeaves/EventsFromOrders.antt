@@ -21,7 +21,6 @@ use Rattle.protocol.specs.History.{Transition, Entry, sends, is_acknowledged}
 use Rattle.protocol.specs.Registries.{is_node}
 use Rattle.protocol.specs.Verdict.{verdict, history}
 use Rattle.protocol.specs.Weave.{Projects, Placed, journals_of, WasSent, IsNext, InTurn, uncommitted}
-use Rattle.wire.specs.Parties.{sender, receiver}
 use Rattle.protocol.specs.World.{World, Station, opening, run, station, is_order, was_posted}
 use Rattle.protocol.specs.declared.event.Posted.{Posted}
 use Rattle.protocol.specs.declared.event.WorldEvent.{WorldEvent}
@@ -75,9 +74,9 @@ module _ (w : World) (quiet : Quiet w) where
   next_on n (Received m moment) xs node says sent =
       let to = sent.0 in
       let g =
-      delivers w quiet m moment xs (subst (λ z. is_node w.scheme z ≡ true) (sym to) node) (In_contains (sends (committed_of w (sender m))) m sent.1)
+      delivers w quiet m moment xs (subst (λ z. is_node w.scheme z ≡ true) (sym to) node) (In_contains (sends (committed_of w m.from)) m sent.1)
       (subst (λ z. verdict w.scheme z (committed_of w z) (Received m moment) ≡ IsRecorded xs) (sym to) says) in
-      let events : List WorldEvent = Post (sender m) g.0 ∷ Deliver (length w.bag) moment ∷ Commit (receiver m) 1 ∷ [] in
+      let events : List WorldEvent = Post m.from g.0 ∷ Deliver (length w.bag) moment ∷ Commit m.to 1 ∷ [] in
       (events, subst (λ z. Grown w events z (Received m moment)) to g.1)
   next_on (Registry c) (Ack key) xs node says sent = ack_on (Registry c) key xs node (λ bag h. h) says (ack_below w.scheme (committed_of w (Registry c)) key.value xs says)
   next_on Itl (Ack key) xs node says sent = ack_on Itl key xs node (λ bag h. h) says (ack_below w.scheme (committed_of w Itl) key.value xs says)

@@ -21,7 +21,6 @@ use Rattle.protocol.specs.History.{Transition, sends}
 use Rattle.protocol.specs.Registries.{is_node}
 use Rattle.protocol.specs.Verdict.{verdict, history}
 use Rattle.protocol.specs.Weave.{Projects, Placed, journals_of, WasSent, IsNext, InTurn, ArePrefixes, HasNext}
-use Rattle.wire.specs.Parties.{sender, receiver}
 use Rattle.protocol.specs.World.{World, Station, Turn, station, journal, put, stays, opening, rests, answered, take_input, commit, crash, restart, sent, at_node, is_order, posted, deliver, step, run}
 use Rattle.protocol.specs.declared.event.Outcome.TheVariants.{Done, NotPossible}
 use Rattle.protocol.specs.declared.event.Posted.{Posted}
@@ -40,12 +39,12 @@ use Rattle.safety.proofs.JournalWeaves.RecordOrders.{journals_here, journals_the
 
 -- a message is for that node
 abbrev Addressed : Node → Input → Type 0
-Addressed n (Received m moment) = receiver m ≡ n
+Addressed n (Received m moment) = m.to ≡ n
 Addressed n _ = Unit {0}
 
 -- every message among the inputs was sent by the journals
 abbrev EachSent : Scheme → (Node → List Input) → List Input → Type 0
-EachSent scheme journals xs = (m : Message) (moment : Moment) → In (Received m moment) xs → In m (sends (history scheme (sender m) (journals (sender m))))
+EachSent scheme journals xs = (m : Message) (moment : Moment) → In (Received m moment) xs → In m (sends (history scheme m.from (journals m.from)))
 
 -- the records that wait after the past were recorded each after the earlier ones
 abbrev Waiting : Scheme → Node → List Input → List Input → Type 0
@@ -59,7 +58,7 @@ module _ (scheme : Scheme) (n : Node) where
       (h.0, h.1, waiting_more (past ++ x ∷ []) is i xs h.2 (subst (λ zs. verdict scheme n (history scheme n zs) i ≡ IsRecorded xs) (sym (append_assoc past (x ∷ []) is)) e) a)
 
   was_sent : (journals : Node → List Input) (x : Input) (xs : List Input) → EachSent scheme journals (x ∷ xs) → Addressed n x → WasSent scheme journals n x
-  was_sent journals (Received m moment) xs sent a = (a, contains_in (sends (history scheme (sender m) (journals (sender m)))) m (sent m moment (inl refl)))
+  was_sent journals (Received m moment) xs sent a = (a, contains_in (sends (history scheme m.from (journals m.from))) m (sent m moment (inl refl)))
   was_sent journals (Propose o) xs sent a = tt
   was_sent journals (Request t) xs sent a = tt
   was_sent journals (OpenAccount account) xs sent a = tt
@@ -89,12 +88,12 @@ module _ (scheme : Scheme) (n : Node) where
       let r : Placed = record { node = n; input = x } in
       let next : IsNext scheme (journals_of order) r = (node, (waits.0.0, subst (λ zs. verdict scheme n (history scheme n zs) x ≡ IsRecorded waits.0.0) (sym e) waits.0.1), was_sent (journals_of order) x xs sent waits.1) in
       let later : EachSent scheme (journals_of (r ∷ order)) xs = λ m moment i.
-      elim (cases_Bool (same_node (sender m) n)) [
+      elim (cases_Bool (same_node m.from n)) [
         | inl y ↦
-            subst (λ zs. In m (sends (history scheme (sender m) zs)))
-            (sym (subst (λ z. journals_of (r ∷ order) z ≡ journals_of order z ++ x ∷ []) (sym (node_of_same (sender m) n y)) (journals_here r order)))
-            (sends_append scheme (sender m) (journals_of order (sender m)) (x ∷ []) m (sent m moment (inr i)))
-        | inr other ↦ subst (λ zs. In m (sends (history scheme (sender m) zs))) (sym (journals_there r order (sender m) other)) (sent m moment (inr i))
+            subst (λ zs. In m (sends (history scheme m.from zs)))
+            (sym (subst (λ z. journals_of (r ∷ order) z ≡ journals_of order z ++ x ∷ []) (sym (node_of_same m.from n y)) (journals_here r order)))
+            (sends_append scheme m.from (journals_of order m.from) (x ∷ []) m (sent m moment (inr i)))
+        | inr other ↦ subst (λ zs. In m (sends (history scheme m.from zs))) (sym (journals_there r order m.from other)) (sent m moment (inr i))
       ] in
       let more = commit_more xs ys (past ++ x ∷ []) (r ∷ order) node (next, turn) (journals_here r order ∙ ap (λ zs. zs ++ x ∷ []) e) waits.2 later in
       record {
@@ -197,7 +196,7 @@ module _ (w : World) (sound : Sound w) (o : Ordered w) (n : Node) (s : Station) 
   ordered_put t node k =
       let l =
       commit_more w.scheme n k.more k.rest s.committed o.order node o.turn (o.same n ∙ ap committed_part is) k.waited
-      (λ m moment i. subst (λ zs. In m (sends (history w.scheme (sender m) zs))) (sym (o.same (sender m))) (k.sent_each m moment i)) in
+      (λ m moment i. subst (λ zs. In m (sends (history w.scheme m.from zs))) (sym (o.same m.from)) (k.sent_each m moment i)) in
       let here : station (put w t) n ≡ Some t = at_put n w.stations s t is k.node in
       record {
         order = l.next;
@@ -231,8 +230,8 @@ module _ (w : World) (sound : Sound w) (all : AllPlaced w) (o : Ordered w) where
   ordered_deliver : (moment : Moment) (p : Option Posted) → Ordered (deliver w moment p).world
   ordered_deliver moment None = o
   ordered_deliver moment (Some p) =
-      ordered_at (receiver p.message) (station w (receiver p.message)) (take_input w.scheme (Received p.message moment)) refl
-      (λ s is. turned_take w sound o (receiver p.message) s is (Received p.message moment) refl)
+      ordered_at p.message.to (station w p.message.to) (take_input w.scheme (Received p.message moment)) refl
+      (λ s is. turned_take w sound o p.message.to s is (Received p.message moment) refl)
 
   order_addressed : (n : Node) (input : Input) → is_order w n input ≡ true → Addressed n input
   order_addressed Itl (Received m moment) h = absurd (cc (h))

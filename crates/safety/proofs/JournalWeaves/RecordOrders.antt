@@ -15,7 +15,6 @@ use Rattle.protocol.specs.Deciding.{IsRecorded}
 use Rattle.protocol.specs.History.{sends}
 use Rattle.protocol.specs.Verdict.{verdict, history}
 use Rattle.protocol.specs.Weave.{Placed, journals_of, WasSent, InTurn, ArePrefixes, HasNext}
-use Rattle.wire.specs.Parties.{sender}
 use Rattle.safety.proofs.MovesAndHistories.LongerHistories.{sends_append}
 use Rattle.units.proofs.Lists.Membership.{In}
 use Rattle.units.proofs.Lists.Positions.{In_contains, contains_in, left_empty}
@@ -32,9 +31,9 @@ journals_there r rs n other = cond-false (same_node n r.node) (journals_of rs n 
 pub sent_later : (scheme : Scheme) (a b : Node → List Input) → ArePrefixes a b → (n : Node) (input : Input) → WasSent scheme a n input → WasSent scheme b n input
 sent_later scheme a b on n (Received m moment) h = (
   h.0,
-  contains_in (sends (history scheme (sender m) (b (sender m)))) m
-      (subst (λ xs. In m (sends (history scheme (sender m) xs))) (sym (on (sender m)).1)
-      (sends_append scheme (sender m) (a (sender m)) (on (sender m)).0 m (In_contains (sends (history scheme (sender m) (a (sender m)))) m h.1))),
+  contains_in (sends (history scheme m.from (b m.from))) m
+      (subst (λ xs. In m (sends (history scheme m.from xs))) (sym (on m.from).1)
+      (sends_append scheme m.from (a m.from) (on m.from).0 m (In_contains (sends (history scheme m.from (a m.from))) m h.1))),
 )
 sent_later scheme a b on n (Propose o) h = tt
 sent_later scheme a b on n (Request t) h = tt

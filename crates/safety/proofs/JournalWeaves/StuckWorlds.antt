@@ -16,7 +16,6 @@ use Rattle.protocol.specs.History.{Transition, sends}
 use Rattle.protocol.specs.Registries.{is_node}
 use Rattle.protocol.specs.Verdict.{verdict, history}
 use Rattle.protocol.specs.Weave.{WasSent, IsQuiet, Gives, StuckIsFinal}
-use Rattle.wire.specs.Parties.{sender}
 use Rattle.protocol.specs.World.{World, Turn, Stepped, station, stays, take_input, at_node, is_order, was_posted, deliver, step}
 use Rattle.protocol.specs.declared.event.Outcome.TheVariants.{Recorded, NotPossible}
 use Rattle.protocol.specs.declared.event.Posted.{Posted}
@@ -65,9 +64,9 @@ module _ (w : World) (all : IsQuiet w) where
       → WasSent w.scheme (λ m. committed_part (station w m)) n input → GetsRecorded n input
   unfolding step verdict
   next_recorded n (Received m moment) xs node says sent =
-      let key = index_of (sends (committed_of w (sender m))) m (In_contains (sends (committed_of w (sender m))) m sent.1) in
-      let p : Posted = record { node = sender m; key = key.0; message = m } in
-      let index = index_of w.bag p (In_contains w.bag p (all.posted (sender m) key.0 m key.1)) in
+      let key = index_of (sends (committed_of w m.from)) m (In_contains (sends (committed_of w m.from)) m sent.1) in
+      let p : Posted = record { node = m.from; key = key.0; message = m } in
+      let index = index_of w.bag p (In_contains w.bag p (all.posted m.from key.0 m key.1)) in
       let r = node_records n (Received m moment) xs node says in (
         Deliver index.0 moment,
         (p, index.1, sent.0, refl),

@@ -19,7 +19,7 @@ use Rattle.status.specs.Id.{number_from}
 use Rattle.status.specs.declared.id.TransactionId.{TransactionId}
 use Rattle.wire.specs.declared.input.Input.{Input}
 use Rattle.wire.specs.declared.input.Input.TheVariants.{Propose, CleanUp, Received}
-use Rattle.wire.specs.declared.message.Message.TheVariants as message
+use Rattle.protocol.proofs.MessageForms as message
 use Rattle.wire.specs.declared.message.ProposalStatus.TheVariants as proposal
 use Rattle.wire.specs.declared.notified.NotifiedStatus.TheVariants as notified
 use Rattle.scheme.specs.Order.{AreFew, AreMembers}
@@ -87,13 +87,13 @@ nz_content = record { account = 1; acquirer = jp; to_account = 1; units = one_of
 
 -- before it proposes, NZ hears of an end that comes after its own proposal
 abbrev nz_hears : Input
-nz_hears = Received (message.Notification (record { from = Itl; to = nz_node; id = jp1; notified = notified.Cancelled })) first_of_may
+nz_hears = Received (message.notification (record { from = Itl; to = nz_node; id = jp1; notified = notified.Cancelled })) first_of_may
 
 abbrev log_hears_nz : Input
-log_hears_nz = Received (message.Proposal (record { from = nz_node; to = Itl; id = nz1; status = proposal.Proposed; content = nz_content })) first_of_may
+log_hears_nz = Received (message.proposal (record { from = nz_node; to = Itl; id = nz1; status = proposal.Proposed; content = nz_content })) first_of_may
 
 abbrev log_hears_jp : Input
-log_hears_jp = Received (message.Proposal (record { from = Registry jp; to = Itl; id = jp1; status = proposal.Proposed; content = jp_content })) first_of_may
+log_hears_jp = Received (message.proposal (record { from = Registry jp; to = Itl; id = jp1; status = proposal.Proposed; content = jp_content })) first_of_may
 
 abbrev of_jp : List Input
 of_jp = jp_asks ∷ []

@@ -17,10 +17,8 @@ use Rattle.status.specs.declared.status.Status.{Status}
 use Rattle.wire.specs.NotifiedStatuses.{notified_status}
 use Rattle.wire.specs.declared.input.Input.TheVariants.{Received}
 use Rattle.wire.specs.declared.message.Message.{Message}
-use Rattle.wire.specs.declared.message.Message.TheVariants as message
-use Rattle.wire.specs.declared.message.Notification.{Notification}
-use Rattle.wire.specs.declared.message.Proposal.{Proposal}
-use Rattle.wire.specs.declared.message.Request.{Request}
+use Rattle.protocol.proofs.MessageForms as message
+use Rattle.protocol.proofs.MessageForms.{ProposalMessage, NotificationMessage, RequestMessage}
 use Rattle.wire.specs.declared.message.ProposalStatus.{ProposalStatus}
 use Rattle.scheme.specs.declared.registries.Scheme.{Scheme}
 use Rattle.protocol.specs.History.{Transition, Entry, newest, stands}
@@ -40,29 +38,20 @@ Got (e ∷ es) m = ((moment : Moment) × (e.input ≡ Received m moment)) ⊎ Go
 
 -- a notification that was received: from whom, of which transaction, of which status
 pub record Heard (es : List Entry) (from : Node) (t : TransactionId) (s : Status) : Type 0 where
-  pub notification : Notification
-  pub got : Got es (message.Notification notification)
+  pub notification : NotificationMessage
+  pub got : Got es (message.notification notification)
   pub sender : notification.from ≡ from
   pub about : notification.id ≡ t
   pub told : notified_status notification.notified ≡ s
 
 -- a proposal that was received
 pub record Offered (es : List Entry) (from : Node) (t : TransactionId) (s : ProposalStatus) (k : Content) : Type 0 where
-  pub proposal : Proposal
-  pub got : Got es (message.Proposal proposal)
+  pub proposal : ProposalMessage
+  pub got : Got es (message.proposal proposal)
   pub sender : proposal.from ≡ from
   pub about : proposal.id ≡ t
   pub status : proposal.status ≡ s
   pub content : proposal.content ≡ k
-
-pub one_notified : (a b : Notification) → message.Notification a ≡ message.Notification b → a ≡ b
-one_notified a b e = cc (e)
-
-pub one_proposal : (a b : Proposal) → message.Proposal a ≡ message.Proposal b → a ≡ b
-one_proposal a b e = cc (e)
-
-pub one_request : (a b : Request) → message.Request a ≡ message.Request b → a ≡ b
-one_request a b e = cc (e)
 
 pub heard_later : (e : Entry) (es : List Entry) (from : Node) (t : TransactionId) (s : Status) → Heard es from t s → Heard (e ∷ es) from t s
 heard_later e es from t s h = record { notification = h.notification; got = inr h.got; sender = h.sender; about = h.about; told = h.told }

@@ -31,12 +31,10 @@ use Rattle.wire.specs.NotifiedStatuses.{notified_status, notified_codes}
 use Rattle.wire.specs.declared.input.Input.{Input}
 use Rattle.wire.specs.declared.input.Input.TheVariants.{Propose, Request, OpenAccount, CloseAccount, Ack, CleanUp, Eligible, Received}
 use Rattle.wire.specs.declared.message.Message.{Message}
-use Rattle.wire.specs.declared.message.Message.TheVariants as message
-use Rattle.wire.specs.declared.message.Notification.{Notification}
-use Rattle.wire.specs.declared.message.Proposal.{Proposal}
+use Rattle.protocol.proofs.MessageForms as message
+use Rattle.protocol.proofs.MessageForms.{ProposalMessage, NotificationMessage, RequestMessage as Asking, Form, form, of_proposal, of_notification, of_request}
 use Rattle.wire.specs.declared.message.ProposalStatus.{ProposalStatus}
 use Rattle.wire.specs.declared.message.ProposalStatus.TheVariants as proposal
-use Rattle.wire.specs.declared.message.Request.{Request as Asking}
 use Rattle.wire.specs.declared.notified.NotifiedStatus.{NotifiedStatus}
 use Rattle.wire.specs.declared.notified.NotifiedStatus.TheVariants as notified
 use Rattle.scheme.specs.declared.registries.Scheme.{Scheme}
@@ -45,7 +43,7 @@ use Rattle.protocol.specs.Checks.{Causes, propose_refusals, acquirer_findings, l
 use Rattle.protocol.specs.Deciding as decide
 use Rattle.protocol.specs.Deciding.{Verdict, IsRecorded, IsRepeat, IsRefused, refuse, recorded_if_room, known, content_in, moved_by, by_row, ack_refusals, acknowledge}
 use Rattle.protocol.specs.Effects.{notifies, requests, initiator_sends, log_sends, acquirer_sends}
-use Rattle.protocol.specs.AtRegistry.{holding, content_of, new_transfer_verdict, arrival, in_role, unless_held, holds_some, is_checked, request_refusals, request_column, registry_refusals, registry_answer, registry_message, open_refusals, close_refusals, registry_verdict}
+use Rattle.protocol.specs.AtRegistry.{holding, content_of, new_transfer_verdict, arrival, in_role, unless_held, holds_some, is_checked, request_refusals, request_column, registry_refusals, registry_message, open_refusals, close_refusals, registry_verdict}
 use Rattle.protocol.specs.AtLog as log
 use Rattle.protocol.specs.AtLog.{ledger, is_proposed, is_no_registry, is_from_another, log_refusals, log_answer, log_message, newest_of_each, is_old, put_transition, by_id, cleaned, expired, clean_up, same_bool, eligible_refusals, log_verdict}
 use Rattle.protocol.specs.Verdict.{transitions_made}
@@ -62,34 +60,34 @@ pub data RegistryMove (scheme : Scheme) (c : Code) (es : List Entry) : Input →
   proposes : (o : Order) (t : TransactionId) → NoneStands (propose_refusals scheme c (holding scheme c es) o) → id_at c (proposals es + 1) ≡ Some t
       → newest (transitions_of es) t ≡ None → RegistryMove scheme c es (Propose o) (proposed c t (content_of o))
   asks : (t : TransactionId) (x : Transition) → newest (transitions_of es) t ≡ Some x → same_code t.code c ≡ true → x.new ≡ Proposed → RegistryMove scheme c es (Request t) (asking c x)
-  arrives : (p : Proposal) (moment : Moment) (found : List ℕ) → p.from ≡ Itl → p.status ≡ proposal.Checked → found ≡ acquirer_findings scheme c (holding scheme c es) p.content
+  arrives : (p : ProposalMessage) (moment : Moment) (found : List ℕ) → p.from ≡ Itl → p.status ≡ proposal.Checked → found ≡ acquirer_findings scheme c (holding scheme c es) p.content
       → newest (transitions_of es) p.id ≡ None → same_code p.id.code c ≡ false → same_code p.content.acquirer c ≡ true
-      → RegistryMove scheme c es (Received (message.Proposal p) moment) (arrived c p.id p.content moment.seconds found)
-  bares : (n : Notification) (moment : Moment) → n.from ≡ Itl → notified_status n.notified ≡ Cancelled → newest (transitions_of es) n.id ≡ None → same_code n.id.code c ≡ false
-      → RegistryMove scheme c es (Received (message.Notification n) moment) (bare n.id moment.seconds)
-  concludes : (n : Notification) (moment : Moment) (x : Transition) (new : Status) → n.from ≡ Itl → newest (transitions_of es) n.id ≡ Some x → same_code n.id.code c ≡ true
+      → RegistryMove scheme c es (Received (message.proposal p) moment) (arrived c p.id p.content moment.seconds found)
+  bares : (n : NotificationMessage) (moment : Moment) → n.from ≡ Itl → notified_status n.notified ≡ Cancelled → newest (transitions_of es) n.id ≡ None → same_code n.id.code c ≡ false
+      → RegistryMove scheme c es (Received (message.notification n) moment) (bare n.id moment.seconds)
+  concludes : (n : NotificationMessage) (moment : Moment) (x : Transition) (new : Status) → n.from ≡ Itl → newest (transitions_of es) n.id ≡ Some x → same_code n.id.code c ≡ true
       → initiator_row (Stands x.new) (Notified (notified_status n.notified)) ≡ Move new
-      → RegistryMove scheme c es (Received (message.Notification n) moment) (moved x new moment.seconds (concluded_messages c x.id new))
-  finishes : (n : Notification) (moment : Moment) (x : Transition) (new : Status) → n.from ≡ Itl → newest (transitions_of es) n.id ≡ Some x → same_code n.id.code c ≡ false
+      → RegistryMove scheme c es (Received (message.notification n) moment) (moved x new moment.seconds (concluded_messages c x.id new))
+  finishes : (n : NotificationMessage) (moment : Moment) (x : Transition) (new : Status) → n.from ≡ Itl → newest (transitions_of es) n.id ≡ Some x → same_code n.id.code c ≡ false
       → acquirer_row (Stands x.new) (Notified (notified_status n.notified)) ≡ Move new → (same_status new Completed && holds_some scheme c (transitions_of es) x.content) ≡ false
-      → RegistryMove scheme c es (Received (message.Notification n) moment) (moved x new moment.seconds [])
+      → RegistryMove scheme c es (Received (message.notification n) moment) (moved x new moment.seconds [])
 
 -- an input that cancels the transaction while the log has it Checked
 pub data Withdraws : Input → TransactionId → Moment → Type 0 where
   cleans : (moment : Moment) (t : TransactionId) → Withdraws (CleanUp moment) t moment
-  requested : (r : Asking) (moment : Moment) → r.from ≡ Registry r.id.code → Withdraws (Received (message.Request r) moment) r.id moment
+  requested : (r : Asking) (moment : Moment) → r.from ≡ Registry r.id.code → Withdraws (Received (message.request r) moment) r.id moment
 
 pub data LogMove (scheme : Scheme) (es : List Entry) : Input → Transition → Type 0 where
-  checks : (p : Proposal) (moment : Moment) (found : List ℕ) → p.from ≡ Registry p.id.code → p.status ≡ proposal.Proposed → found ≡ log_findings scheme (ledger scheme es) p.id.code p.content
+  checks : (p : ProposalMessage) (moment : Moment) (found : List ℕ) → p.from ≡ Registry p.id.code → p.status ≡ proposal.Proposed → found ≡ log_findings scheme (ledger scheme es) p.id.code p.content
       → newest (transitions_of es) p.id ≡ None → is_no_registry scheme p.from ≡ false
-      → LogMove scheme es (Received (message.Proposal p) moment) (checked p.id p.content moment.seconds found)
-  passes : (n : Notification) (moment : Moment) (x : Transition) (k : Content) (new : Status) → newest (transitions_of es) n.id ≡ Some x → x.content ≡ Some k → is_no_registry scheme n.from ≡ false
+      → LogMove scheme es (Received (message.proposal p) moment) (checked p.id p.content moment.seconds found)
+  passes : (n : NotificationMessage) (moment : Moment) (x : Transition) (k : Content) (new : Status) → newest (transitions_of es) n.id ≡ Some x → x.content ≡ Some k → is_no_registry scheme n.from ≡ false
       → is_from_another n.from n.id x.content (notified_status n.notified) ≡ false → log_row (Stands x.new) (Notified (notified_status n.notified)) ≡ Move new
-      → LogMove scheme es (Received (message.Notification n) moment) (moved x new moment.seconds (notifies Itl (told_to x.id k new) x.id n.notified ∷ []))
+      → LogMove scheme es (Received (message.notification n) moment) (moved x new moment.seconds (notifies Itl (told_to x.id k new) x.id n.notified ∷ []))
   cancels : (given : Input) (moment : Moment) (t : TransactionId) (x : Transition) (k : Content) → Withdraws given t moment → newest (transitions_of es) t ≡ Some x → x.content ≡ Some k
       → x.new ≡ Checked → LogMove scheme es given (cancelled moment.seconds x k)
   forestalls : (r : Asking) (moment : Moment) → r.from ≡ Registry r.id.code → is_no_registry scheme r.from ≡ false → newest (transitions_of es) r.id ≡ None
-      → LogMove scheme es (Received (message.Request r) moment) (forestalled r.id moment.seconds)
+      → LogMove scheme es (Received (message.request r) moment) (forestalled r.id moment.seconds)
 
 pub refuse_made : (cs : Causes) (v : Verdict) (x : Transition) → In x (transitions_made (refuse cs v)) → NoneStands cs × In x (transitions_made v)
 refuse_made [] v x h = (tt, h)
@@ -165,22 +163,22 @@ module _ (scheme : Scheme) (c : Code) (es : List Entry) where
       let m = initiator_proposes (known last) g.0 g.1 in
       subst (λ y. RegistryMove scheme c es (Propose o) y) (ap to (sym m.1) ∙ g.2) (proposes o t none e (nothing_known last m.0))
 
-  arrival_made : (p : Proposal) (moment : Moment) (last : Option Transition) (found : List ℕ) (x : Transition) → p.from ≡ Itl → p.status ≡ proposal.Checked → newest (transitions_of es) p.id ≡ last
+  arrival_made : (p : ProposalMessage) (moment : Moment) (last : Option Transition) (found : List ℕ) (x : Transition) → p.from ≡ Itl → p.status ≡ proposal.Checked → newest (transitions_of es) p.id ≡ last
       → same_code p.id.code c ≡ false → same_code p.content.acquirer c ≡ true → found ≡ acquirer_findings scheme c (holding scheme c es) p.content
-      → In x (transitions_made (arrival scheme c es p.id last p.content moment.seconds found)) → RegistryMove scheme c es (Received (message.Proposal p) moment) x
+      → In x (transitions_made (arrival scheme c es p.id last p.content moment.seconds found)) → RegistryMove scheme c es (Received (message.proposal p) moment) x
   arrival_made p moment None [] x f s e a b is h =
-      subst (λ y. RegistryMove scheme c es (Received (message.Proposal p) moment) y) (only _ x (enters_made scheme es _ x h)) (arrives p moment [] f s is e a b)
+      subst (λ y. RegistryMove scheme c es (Received (message.proposal p) moment) y) (only _ x (enters_made scheme es _ x h)) (arrives p moment [] f s is e a b)
   arrival_made p moment None (y ∷ ys) x f s e a b is h =
-      subst (λ y. RegistryMove scheme c es (Received (message.Proposal p) moment) y) (only _ x (enters_made scheme es _ x h)) (arrives p moment (y ∷ ys) f s is e a b)
+      subst (λ y. RegistryMove scheme c es (Received (message.proposal p) moment) y) (only _ x (enters_made scheme es _ x h)) (arrives p moment (y ∷ ys) f s is e a b)
   arrival_made p moment (Some q) found x f s e a b is h =
       let input = decide.column_of_proposal (content_in (Some q)) found in
       let g = by_row_made scheme es (decide.moved p.id (Some p.content) moment.seconds (acquirer_sends c p.id found input)) (acquirer_row (known (Some q)) input) x h in
       absurd (acquirer_offered q found g.0 g.1)
 
   -- a notification to the initiator
-  conclude_made : (n : Notification) (moment : Moment) (last : Option Transition) (x : Transition) → n.from ≡ Itl → newest (transitions_of es) n.id ≡ last → same_code n.id.code c ≡ true
+  conclude_made : (n : NotificationMessage) (moment : Moment) (last : Option Transition) (x : Transition) → n.from ≡ Itl → newest (transitions_of es) n.id ≡ last → same_code n.id.code c ≡ true
       → In x (transitions_made (by_row scheme es (decide.moved n.id (content_in last) moment.seconds (initiator_sends c n.id (content_in last) (Notified (notified_status n.notified)))) (initiator_row (known last) (Notified (notified_status n.notified)))))
-      → RegistryMove scheme c es (Received (message.Notification n) moment) x
+      → RegistryMove scheme c es (Received (message.notification n) moment) x
   conclude_made n moment last x f e a h =
       let told = notified_status n.notified in
       let ms = initiator_sends c n.id (content_in last) (Notified told) in
@@ -192,14 +190,14 @@ module _ (scheme : Scheme) (c : Code) (es : List Entry) where
       let id : q.id ≡ n.id = of_newest (transitions_of es) n.id q (e ∙ r.is) in
       let content : q.content ≡ content_in last = sym (ap content_in r.is) in
       let sent : concluded_messages c q.id g.0 ≡ ms = ap (λ z. concluded_messages c z g.0) id ∙ sym (concluded_sends c n.id (content_in last) q.new told g.0 row) in
-      subst (λ y. RegistryMove scheme c es (Received (message.Notification n) moment) y)
+      subst (λ y. RegistryMove scheme c es (Received (message.notification n) moment) y)
       (same_moved q.id n.id q.content (content_in last) moment.seconds (concluded_messages c q.id g.0) ms g.0 id content sent ∙ g.2)
       (concludes n moment q g.0 f (e ∙ r.is) a row)
 
   -- a notification to the acquirer
-  finish_made : (n : Notification) (moment : Moment) (last : Option Transition) (x : Transition) → n.from ≡ Itl → newest (transitions_of es) n.id ≡ last → same_code n.id.code c ≡ false
+  finish_made : (n : NotificationMessage) (moment : Moment) (last : Option Transition) (x : Transition) → n.from ≡ Itl → newest (transitions_of es) n.id ≡ last → same_code n.id.code c ≡ false
       → In x (transitions_made (by_row scheme es (decide.moved n.id (content_in last) moment.seconds []) (unless_held (holds_some scheme c (transitions_of es) (content_in last)) (acquirer_row (known last) (Notified (notified_status n.notified))))))
-      → RegistryMove scheme c es (Received (message.Notification n) moment) x
+      → RegistryMove scheme c es (Received (message.notification n) moment) x
   finish_made n moment last x f e a h =
       let told = notified_status n.notified in
       let held = holds_some scheme c (transitions_of es) (content_in last) in
@@ -212,18 +210,18 @@ module _ (scheme : Scheme) (c : Code) (es : List Entry) where
             let row : acquirer_row (Stands q.new) (Notified told) ≡ Move g.0 = ap (λ z. acquirer_row z (Notified told)) (ap Stands r.new ∙ sym k.1) ∙ u.0 in
             let id : q.id ≡ n.id = of_newest (transitions_of es) n.id q (e ∙ r.is) in
             let content : q.content ≡ content_in last = sym (ap content_in r.is) in
-            subst (λ y. RegistryMove scheme c es (Received (message.Notification n) moment) y)
+            subst (λ y. RegistryMove scheme c es (Received (message.notification n) moment) y)
             (same_moved q.id n.id q.content (content_in last) moment.seconds [] [] g.0 id content refl ∙ g.2)
             (finishes n moment q g.0 f (e ∙ r.is) a row (subst (λ z. (same_status g.0 Completed && holds_some scheme c (transitions_of es) z) ≡ false) (sym content) u.1))
         | inr k ↦
             let none = nothing_known last k.0 in
-            subst (λ y. RegistryMove scheme c es (Received (message.Notification n) moment) y)
+            subst (λ y. RegistryMove scheme c es (Received (message.notification n) moment) y)
             (same_moved n.id n.id None (content_in last) moment.seconds [] [] Cancelled refl (sym (ap content_in none)) refl ∙ ap (decide.moved n.id (content_in last) moment.seconds []) (sym k.2) ∙ g.2)
             (bares n moment f k.1 (e ∙ none) a)
       ]
 
-  notified_made : (n : Notification) (moment : Moment) (last : Option Transition) (x : Transition) → n.from ≡ Itl → newest (transitions_of es) n.id ≡ last
-      → In x (transitions_made (in_role scheme c es n.id last moment.seconds (Notified (notified_status n.notified)))) → RegistryMove scheme c es (Received (message.Notification n) moment) x
+  notified_made : (n : NotificationMessage) (moment : Moment) (last : Option Transition) (x : Transition) → n.from ≡ Itl → newest (transitions_of es) n.id ≡ last
+      → In x (transitions_made (in_role scheme c es n.id last moment.seconds (Notified (notified_status n.notified)))) → RegistryMove scheme c es (Received (message.notification n) moment) x
   notified_made n moment last x f e h =
       elim (choice_made (same_code n.id.code c) _ _ x h) [
         | inl i ↦ conclude_made n moment last x f e i.0 i.1
@@ -268,18 +266,18 @@ module _ (scheme : Scheme) (c : Code) (es : List Entry) where
   checked_told proposal.Proposed e = absurd (cc)
   checked_told proposal.Checked e = refl
 
-  message_made : (m : Message) (moment : Moment) (x : Transition) → In x (transitions_made (registry_message scheme c es moment.seconds m)) → RegistryMove scheme c es (Received m moment) x
-  message_made (message.Proposal p) moment x h =
-      let g = refuse_made (registry_refusals c es (message.Proposal p)) (registry_answer scheme c es moment.seconds (message.Proposal p)) x h in
+  message_made : (m : Message) → Form m → (moment : Moment) (x : Transition) → In x (transitions_made (registry_message scheme c es moment.seconds m)) → RegistryMove scheme c es (Received m moment) x
+  message_made m (of_proposal p) moment x h =
+      let g = refuse_made (registry_refusals c es (message.proposal p)) _ x h in
       let from = node_of_same p.from Itl (not-false _ g.0.1.0) in
       let own = or_parts (not (same_code p.content.acquirer c)) _ g.0.1.1.0 in
       let foreign = or_parts (same_code p.id.code c) _ own.1 in
       arrival_made p moment (newest (transitions_of es) p.id) (acquirer_findings scheme c (holding scheme c es) p.content) x from (checked_told p.status g.0.1.1.1.1.0) refl foreign.0 (not-false _ own.0) refl g.1
-  message_made (message.Notification n) moment x h =
-      let g = refuse_made (registry_refusals c es (message.Notification n)) (registry_answer scheme c es moment.seconds (message.Notification n)) x h in
+  message_made m (of_notification n) moment x h =
+      let g = refuse_made (registry_refusals c es (message.notification n)) _ x h in
       notified_made n moment (newest (transitions_of es) n.id) x (node_of_same n.from Itl (not-false _ g.0.1.0)) refl g.1
-  message_made (message.Request r) moment x h =
-      let g = refuse_made (registry_refusals c es (message.Request r)) (registry_answer scheme c es moment.seconds (message.Request r)) x h in
+  message_made m (of_request r) moment x h =
+      let g = refuse_made (registry_refusals c es (message.request r)) _ x h in
       absurd (unasked r.id (newest (transitions_of es) r.id) moment.seconds x g.1)
 
   acknowledge_made : (key : ℕ) (x : Transition) → In x (transitions_made (acknowledge scheme es key)) → ⊥
@@ -307,7 +305,7 @@ module _ (scheme : Scheme) (c : Code) (es : List Entry) where
   registry_moves (Ack n) x h = absurd (acknowledge_made n.value x h)
   registry_moves (CleanUp t) x h = absurd h
   registry_moves (Eligible d may) x h = absurd h
-  registry_moves (Received m moment) x h = message_made m moment x h
+  registry_moves (Received m moment) x h = message_made m (form m) moment x h
 
 -- the newest transition of an identifier that some transition has
 pub newest_some : (xs : List Transition) (x : Transition) → In x xs → (y : Transition) × (newest xs x.id ≡ Some y)
@@ -321,21 +319,21 @@ newest_some (p ∷ ps) x (inr i) =
     ]
 
 module _ (scheme : Scheme) (es : List Entry) where
-  proposal_made : (p : Proposal) (moment : Moment) (last : Option Transition) (found : List ℕ) (x : Transition) → p.from ≡ Registry p.id.code → p.status ≡ proposal.Proposed → newest (transitions_of es) p.id ≡ last
+  proposal_made : (p : ProposalMessage) (moment : Moment) (last : Option Transition) (found : List ℕ) (x : Transition) → p.from ≡ Registry p.id.code → p.status ≡ proposal.Proposed → newest (transitions_of es) p.id ≡ last
       → is_no_registry scheme p.from ≡ false → found ≡ log_findings scheme (ledger scheme es) p.id.code p.content
-      → In x (transitions_made (log.checked scheme es p.id last p.content moment.seconds found)) → LogMove scheme es (Received (message.Proposal p) moment) x
+      → In x (transitions_made (log.checked scheme es p.id last p.content moment.seconds found)) → LogMove scheme es (Received (message.proposal p) moment) x
   proposal_made p moment None [] x f s e b is h =
-      subst (λ y. LogMove scheme es (Received (message.Proposal p) moment) y) (only _ x (enters_made scheme es _ x h)) (checks p moment [] f s is e b)
+      subst (λ y. LogMove scheme es (Received (message.proposal p) moment) y) (only _ x (enters_made scheme es _ x h)) (checks p moment [] f s is e b)
   proposal_made p moment None (y ∷ ys) x f s e b is h =
-      subst (λ y. LogMove scheme es (Received (message.Proposal p) moment) y) (only _ x (enters_made scheme es _ x h)) (checks p moment (y ∷ ys) f s is e b)
+      subst (λ y. LogMove scheme es (Received (message.proposal p) moment) y) (only _ x (enters_made scheme es _ x h)) (checks p moment (y ∷ ys) f s is e b)
   proposal_made p moment (Some q) found x f s e b is h =
       let input = decide.column_of_proposal (content_in (Some q)) found in
       let g = by_row_made scheme es (decide.moved p.id (Some p.content) moment.seconds (log_sends p.id (Some p.content) found input)) (log_row (known (Some q)) input) x h in
       absurd (log_offered q found g.0 g.1)
 
-  log_notified_made : (n : Notification) (moment : Moment) (last : Option Transition) (x : Transition) → newest (transitions_of es) n.id ≡ last → is_no_registry scheme n.from ≡ false
+  log_notified_made : (n : NotificationMessage) (moment : Moment) (last : Option Transition) (x : Transition) → newest (transitions_of es) n.id ≡ last → is_no_registry scheme n.from ≡ false
       → is_from_another n.from n.id (content_in last) (notified_status n.notified) ≡ false
-      → In x (transitions_made (log.told scheme es n.id last (notified_codes n.notified) moment.seconds (Notified (notified_status n.notified)))) → LogMove scheme es (Received (message.Notification n) moment) x
+      → In x (transitions_made (log.told scheme es n.id last (notified_codes n.notified) moment.seconds (Notified (notified_status n.notified)))) → LogMove scheme es (Received (message.notification n) moment) x
   log_notified_made n moment last x e b a h =
       let told = notified_status n.notified in
       let ms = log_sends n.id (content_in last) (notified_codes n.notified) (Notified told) in
@@ -349,7 +347,7 @@ module _ (scheme : Scheme) (es : List Entry) where
       let sent : notifies Itl (told_to q.id r.content g.0) q.id n.notified ∷ [] ≡ ms =
       sym (passed_sends q r.content n.notified g.0 row) ∙ ap (λ z. log_sends z (Some r.content) (notified_codes n.notified) (Notified told)) id
       ∙ ap (λ z. log_sends n.id z (notified_codes n.notified) (Notified told)) (sym r.known ∙ content) in
-      subst (λ y. LogMove scheme es (Received (message.Notification n) moment) y)
+      subst (λ y. LogMove scheme es (Received (message.notification n) moment) y)
       (same_moved q.id n.id q.content (content_in last) moment.seconds (notifies Itl (told_to q.id r.content g.0) q.id n.notified ∷ []) ms g.0 id content sent ∙ g.2)
       (passes n moment q r.content g.0 (e ∙ r.is) r.known b (subst (λ z. is_from_another n.from n.id z told ≡ false) (sym content) a) row)
 
@@ -359,7 +357,7 @@ module _ (scheme : Scheme) (es : List Entry) where
   cancelled_sends t q k id = ap (λ z. notifies Itl (Registry z.code) z notified.Cancelled ∷ notifies Itl (Registry k.acquirer) z notified.Cancelled ∷ []) id
 
   log_request_made : (r : Asking) (moment : Moment) (last : Option Transition) (x : Transition) → r.from ≡ Registry r.id.code → newest (transitions_of es) r.id ≡ last → is_no_registry scheme r.from ≡ false
-      → In x (transitions_made (log.told scheme es r.id last [] moment.seconds column.Request)) → LogMove scheme es (Received (message.Request r) moment) x
+      → In x (transitions_made (log.told scheme es r.id last [] moment.seconds column.Request)) → LogMove scheme es (Received (message.request r) moment) x
   log_request_made r moment last x f e b h =
       let ms = log_sends r.id (content_in last) [] column.Request in
       let to = decide.moved r.id (content_in last) moment.seconds ms in
@@ -369,7 +367,7 @@ module _ (scheme : Scheme) (es : List Entry) where
         | inl u ↦
             let none = nothing_known last u in
             let content : None ≡ content_in last = sym (ap content_in none) in
-            subst (λ y. LogMove scheme es (Received (message.Request r) moment) y)
+            subst (λ y. LogMove scheme es (Received (message.request r) moment) y)
             (same_moved r.id r.id None (content_in last) moment.seconds (log_sends r.id None [] column.Request) ms Cancelled refl content (ap (λ z. log_sends r.id z [] column.Request) content) ∙ ap to (sym k.1) ∙ g.2)
             (forestalls r moment f b (e ∙ none))
         | inr u ↦
@@ -378,25 +376,25 @@ module _ (scheme : Scheme) (es : List Entry) where
             let id : q.id ≡ r.id = of_newest (transitions_of es) r.id q (e ∙ s.is) in
             let content : q.content ≡ content_in last = sym (ap content_in s.is) in
             let sent = cancelled_sends r.id q s.content id ∙ ap (λ z. log_sends r.id z [] column.Request) (sym s.known ∙ content) in
-            subst (λ y. LogMove scheme es (Received (message.Request r) moment) y)
+            subst (λ y. LogMove scheme es (Received (message.request r) moment) y)
             (same_moved q.id r.id q.content (content_in last) moment.seconds _ ms Cancelled id content sent ∙ ap to (sym k.1) ∙ g.2)
-            (cancels (Received (message.Request r) moment) moment r.id q s.content (requested r moment f) (e ∙ s.is) s.known s.new)
+            (cancels (Received (message.request r) moment) moment r.id q s.content (requested r moment f) (e ∙ s.is) s.known s.new)
       ]
 
   proposed_told : (s : ProposalStatus) → not (is_proposed s) ≡ false → s ≡ proposal.Proposed
   proposed_told proposal.Proposed e = refl
   proposed_told proposal.Checked e = absurd (cc)
 
-  log_message_made : (m : Message) (moment : Moment) (x : Transition) → In x (transitions_made (log_message scheme es moment.seconds m)) → LogMove scheme es (Received m moment) x
-  log_message_made (message.Proposal p) moment x h =
-      let g = refuse_made (log_refusals scheme es (message.Proposal p)) (log_answer scheme es moment.seconds (message.Proposal p)) x h in
+  log_message_made : (m : Message) → Form m → (moment : Moment) (x : Transition) → In x (transitions_made (log_message scheme es moment.seconds m)) → LogMove scheme es (Received m moment) x
+  log_message_made m (of_proposal p) moment x h =
+      let g = refuse_made (log_refusals scheme es (message.proposal p)) _ x h in
       let own = node_of_same p.from (Registry p.id.code) (not-false _ g.0.1.1.0) in
       proposal_made p moment (newest (transitions_of es) p.id) (log_findings scheme (ledger scheme es) p.id.code p.content) x own (proposed_told p.status g.0.1.1.1.1.0) refl g.0.1.0 refl g.1
-  log_message_made (message.Notification n) moment x h =
-      let g = refuse_made (log_refusals scheme es (message.Notification n)) (log_answer scheme es moment.seconds (message.Notification n)) x h in
+  log_message_made m (of_notification n) moment x h =
+      let g = refuse_made (log_refusals scheme es (message.notification n)) _ x h in
       log_notified_made n moment (newest (transitions_of es) n.id) x refl g.0.1.0 g.0.1.1.1.0 g.1
-  log_message_made (message.Request r) moment x h =
-      let g = refuse_made (log_refusals scheme es (message.Request r)) (log_answer scheme es moment.seconds (message.Request r)) x h in
+  log_message_made m (of_request r) moment x h =
+      let g = refuse_made (log_refusals scheme es (message.request r)) _ x h in
       let own = node_of_same r.from (Registry r.id.code) (not-false _ g.0.1.1.0) in
       log_request_made r moment (newest (transitions_of es) r.id) x own refl g.0.1.0 g.1
 
@@ -480,7 +478,7 @@ module _ (scheme : Scheme) (es : List Entry) where
         | inl i ↦ absurd i.1
         | inr i ↦ absurd (enters_made scheme es [] x i.1)
       ]
-  log_moves (Received m moment) x h = log_message_made m moment x h
+  log_moves (Received m moment) x h = log_message_made m (form m) moment x h
   log_moves (Propose o) x h = absurd h
   log_moves (Request t) x h = absurd h
   log_moves (OpenAccount n) x h = absurd h

@@ -16,16 +16,14 @@ use Rattle.status.specs.declared.status.Status.TheVariants.{Checked, Accepted, R
 use Rattle.wire.specs.NotifiedStatuses.{notified_status}
 use Rattle.wire.specs.declared.input.Input.{Input}
 use Rattle.wire.specs.declared.input.Input.TheVariants.{Received}
-use Rattle.wire.specs.declared.message.Message.TheVariants as message
-use Rattle.wire.specs.declared.message.Notification.{Notification}
-use Rattle.wire.specs.declared.message.Proposal.{Proposal}
-use Rattle.wire.specs.declared.message.Request.{Request}
+use Rattle.protocol.proofs.MessageForms as message
+use Rattle.protocol.proofs.MessageForms.{ProposalMessage, NotificationMessage, RequestMessage, one_notified, one_proposal, apart, received, one_request}
 use Rattle.scheme.specs.declared.registries.Scheme.{Scheme}
 use Rattle.protocol.specs.AtLog.{ledger, is_no_registry, is_not_acquirer, is_from_another}
 use Rattle.protocol.specs.Checks.{log_findings}
 use Rattle.protocol.specs.History.{Transition, Entry, transitions_of, newest, sends, messages_of}
 use Rattle.safety.proofs.MovesAndHistories.TransitionForms.{checked_status, checked_message}
-use Rattle.safety.proofs.MovesAndHistories.NewestTransitions.{Made, Heard, heard_later, made_log, newest_id, newest_append, newest_in, one_notified}
+use Rattle.safety.proofs.MovesAndHistories.NewestTransitions.{Made, Heard, heard_later, made_log, newest_id, newest_append, newest_in}
 use Rattle.units.proofs.Lists.Membership.{In, In_cases, In_flat_map}
 use Rattle.units.proofs.Lists.OneValue.{one_some}
 use Rattle.safety.proofs.MovesAndHistories.TableMoves.{LogMove, checks, passes, cancels, forestalls, Withdraws, cleans, requested}
@@ -97,11 +95,11 @@ abbrev pub IsPast : Status → Option Transition → Type 0
 IsPast s None = ⊥
 IsPast s (Some x) = (x.new ≡ s) ⊎ ((s ≡ Accepted) × (x.new ≡ Completed))
 
-checked_notified : (t : TransactionId) (k : Content) (found : List ℕ) (n : Notification) → In (message.Notification n) (checked_message t k found ∷ [])
+checked_notified : (t : TransactionId) (k : Content) (found : List ℕ) (n : NotificationMessage) → In (message.notification n) (checked_message t k found ∷ [])
     → (t ≡ n.id) × (checked_status found ≡ notified_status n.notified) × (notified_status n.notified ≡ Terminated)
-checked_notified t k [] n (inl e) = absurd (cc (e))
+checked_notified t k [] n (inl e) = apart e refl
 checked_notified t k [] n (inr h) = absurd h
-checked_notified t k (c ∷ cs) n (inl e) = let s = one_notified _ n e in (ap (λ (z : Notification). z.id) s, ap (λ (z : Notification). notified_status z.notified) s, sym (ap (λ (z : Notification). notified_status z.notified) s))
+checked_notified t k (c ∷ cs) n (inl e) = let s = one_notified _ n e in (ap (λ (z : NotificationMessage). z.id) s, ap (λ (z : NotificationMessage). notified_status z.notified) s, sym (ap (λ (z : NotificationMessage). notified_status z.notified) s))
 checked_notified t k (c ∷ cs) n (inr h) = absurd h
 
 module _ (scheme : Scheme) where
@@ -117,7 +115,7 @@ module _ (scheme : Scheme) where
   new_told a told new (inl m) = m.1
   new_told a told new (inr m) = m.1 ∙ sym m.2
 
-  pub log_notified_move : (es : List Entry) (input : Input) (x : Transition) (n : Notification) → LogMove scheme es input x → In (message.Notification n) x.messages
+  pub log_notified_move : (es : List Entry) (input : Input) (x : Transition) (n : NotificationMessage) → LogMove scheme es input x → In (message.notification n) x.messages
       → (x.id ≡ n.id) × (x.new ≡ notified_status n.notified) × (notified_status n.notified ≡ Checked → ⊥)
   log_notified_move es input x n (checks p moment found f s is none member) h =
       let g = checked_notified p.id p.content found n h in (g.0, g.1, λ e. absurd (let y : Terminated ≡ Checked = sym g.2 ∙ e in cc (y)))
@@ -125,32 +123,32 @@ module _ (scheme : Scheme) where
   log_notified_move es input x n (passes m moment q held new old kept member right move) (inl h) =
       let s = one_notified _ n h in
       let from = log_from q.new (notified_status m.notified) new move in
-      let same : notified_status m.notified ≡ notified_status n.notified = ap (λ (z : Notification). notified_status z.notified) s in
-      (ap (λ (z : Notification). z.id) s, new_told q.new (notified_status m.notified) new from ∙ same, λ e. told_new q.new new (notified_status m.notified) (new_told q.new (notified_status m.notified) new from) from (same ∙ e))
+      let same : notified_status m.notified ≡ notified_status n.notified = ap (λ (z : NotificationMessage). notified_status z.notified) s in
+      (ap (λ (z : NotificationMessage). z.id) s, new_told q.new (notified_status m.notified) new from ∙ same, λ e. told_new q.new new (notified_status m.notified) (new_told q.new (notified_status m.notified) new from) from (same ∙ e))
   log_notified_move es input x n (cancels given moment t q held why old kept was) (inl e) =
       let s = one_notified _ n e in
-      (ap (λ (z : Notification). z.id) s, ap (λ (z : Notification). notified_status z.notified) s, λ c. let y : Cancelled ≡ Checked = ap (λ (z : Notification). notified_status z.notified) s ∙ c in absurd (cc (y)))
+      (ap (λ (z : NotificationMessage). z.id) s, ap (λ (z : NotificationMessage). notified_status z.notified) s, λ c. let y : Cancelled ≡ Checked = ap (λ (z : NotificationMessage). notified_status z.notified) s ∙ c in absurd (cc (y)))
   log_notified_move es input x n (cancels given moment t q held why old kept was) (inr (inl e)) =
       let s = one_notified _ n e in
-      (ap (λ (z : Notification). z.id) s, ap (λ (z : Notification). notified_status z.notified) s, λ c. let y : Cancelled ≡ Checked = ap (λ (z : Notification). notified_status z.notified) s ∙ c in absurd (cc (y)))
+      (ap (λ (z : NotificationMessage). z.id) s, ap (λ (z : NotificationMessage). notified_status z.notified) s, λ c. let y : Cancelled ≡ Checked = ap (λ (z : NotificationMessage). notified_status z.notified) s ∙ c in absurd (cc (y)))
   log_notified_move es input x n (cancels given moment t q held why old kept was) (inr (inr h)) = absurd h
   log_notified_move es input x n (forestalls r moment f member none) (inl e) =
       let s = one_notified _ n e in
-      (ap (λ (z : Notification). z.id) s, ap (λ (z : Notification). notified_status z.notified) s, λ c. let y : Cancelled ≡ Checked = ap (λ (z : Notification). notified_status z.notified) s ∙ c in absurd (cc (y)))
+      (ap (λ (z : NotificationMessage). z.id) s, ap (λ (z : NotificationMessage). notified_status z.notified) s, λ c. let y : Cancelled ≡ Checked = ap (λ (z : NotificationMessage). notified_status z.notified) s ∙ c in absurd (cc (y)))
   log_notified_move es input x n (forestalls r moment f member none) (inr h) = absurd h
 
   -- what cancels a transaction is no proposal and no notification, and a request cancels none that is not known
-  no_proposal : {X : Type 0} (given : Input) (t : TransactionId) (moment : Moment) (p : Proposal) (at_moment : Moment) → Withdraws given t moment → given ≡ Received (message.Proposal p) at_moment → X
+  no_proposal : {X : Type 0} (given : Input) (t : TransactionId) (moment : Moment) (p : ProposalMessage) (at_moment : Moment) → Withdraws given t moment → given ≡ Received (message.proposal p) at_moment → X
   no_proposal given t moment p at_moment (cleans _ _) e = absurd (cc (e))
-  no_proposal given t moment p at_moment (requested _ _ _) e = absurd (cc (e))
+  no_proposal given t moment p at_moment (requested _ _ _) e = apart (received e) refl
 
-  no_notification : {X : Type 0} (given : Input) (t : TransactionId) (moment : Moment) (n : Notification) (at_moment : Moment) → Withdraws given t moment → given ≡ Received (message.Notification n) at_moment → X
+  no_notification : {X : Type 0} (given : Input) (t : TransactionId) (moment : Moment) (n : NotificationMessage) (at_moment : Moment) → Withdraws given t moment → given ≡ Received (message.notification n) at_moment → X
   no_notification given t moment n at_moment (cleans _ _) e = absurd (cc (e))
-  no_notification given t moment n at_moment (requested _ _ _) e = absurd (cc (e))
+  no_notification given t moment n at_moment (requested _ _ _) e = apart (received e) refl
 
-  same_request : (given : Input) (t : TransactionId) (moment : Moment) (r : Request) (at_moment : Moment) → Withdraws given t moment → given ≡ Received (message.Request r) at_moment → t ≡ r.id
+  same_request : (given : Input) (t : TransactionId) (moment : Moment) (r : RequestMessage) (at_moment : Moment) → Withdraws given t moment → given ≡ Received (message.request r) at_moment → t ≡ r.id
   same_request given t moment r at_moment (cleans _ _) e = absurd (cc (e))
-  same_request given t moment r at_moment (requested q _ _) e = let a : q ≡ r = cc (e) in ap (λ (z : Request). z.id) a
+  same_request given t moment r at_moment (requested q _ _) e = ap (λ (z : RequestMessage). z.id) (one_request q r (received e))
 
   known_and_new : {X : Type 0} (es : List Entry) (t u : TransactionId) (q : Transition) → t ≡ u → newest (transitions_of es) t ≡ Some q → newest (transitions_of es) u ≡ None → X
   known_and_new es t u q same old none = absurd (let e = sym old ∙ ap (newest (transitions_of es)) same ∙ none in cc (e))
@@ -158,28 +156,28 @@ module _ (scheme : Scheme) where
   -- transitions of one input with one identifier have one status and one content
   pub log_pair : (es : List Entry) (i j : Input) (x y : Transition) → i ≡ j → x.id ≡ y.id → LogMove scheme es i x → LogMove scheme es j y → (x.new ≡ y.new) × (x.content ≡ y.content)
   log_pair es i j x y e same (checks p moment found f s is none member) (checks p' moment' found' f' s' is' none' member') =
-      let a : p ≡ p' = cc (e) in
-      let b = ap (λ (z : Proposal). log_findings scheme (ledger scheme es) z.id.code z.content) a in
-      (ap checked_status (is ∙ b ∙ sym is'), ap (λ (z : Proposal). Some z.content) a)
-  log_pair es i j x y e same (checks p moment found f s is none member) (passes n' moment' q' held' new' old' kept' member' right' move') = absurd (cc (e))
+      let a = one_proposal p p' (received e) in
+      let b = ap (λ (z : ProposalMessage). log_findings scheme (ledger scheme es) z.id.code z.content) a in
+      (ap checked_status (is ∙ b ∙ sym is'), ap (λ (z : ProposalMessage). Some z.content) a)
+  log_pair es i j x y e same (checks p moment found f s is none member) (passes n' moment' q' held' new' old' kept' member' right' move') = apart (received e) refl
   log_pair es i j x y e same (checks p moment found f s is none member) (cancels given' moment' t' q' held' why' old' kept' was') = no_proposal j t' moment' p moment why' (sym e)
-  log_pair es i j x y e same (checks p moment found f s is none member) (forestalls r' moment' f' member' none') = absurd (cc (e))
-  log_pair es i j x y e same (passes n moment q held new old kept member right move) (checks p' moment' found' f' s' is' none' member') = absurd (cc (e))
+  log_pair es i j x y e same (checks p moment found f s is none member) (forestalls r' moment' f' member' none') = apart (received e) refl
+  log_pair es i j x y e same (passes n moment q held new old kept member right move) (checks p' moment' found' f' s' is' none' member') = apart (received e) refl
   log_pair es i j x y e same (passes n moment q held new old kept member right move) (passes n' moment' q' held' new' old' kept' member' right' move') =
-      let a : n ≡ n' = cc (e) in
-      let b : Some q ≡ Some q' = sym old ∙ ap (λ (z : Notification). newest (transitions_of es) z.id) a ∙ old' in
+      let a = one_notified n n' (received e) in
+      let b : Some q ≡ Some q' = sym old ∙ ap (λ (z : NotificationMessage). newest (transitions_of es) z.id) a ∙ old' in
       let c : q ≡ q' = cc (b) in
-      let told = ap (λ (z : Notification). notified_status z.notified) a in
+      let told = ap (λ (z : NotificationMessage). notified_status z.notified) a in
       let here = new_told q.new (notified_status n.notified) new (log_from q.new (notified_status n.notified) new move) in
       let there = new_told q'.new (notified_status n'.notified) new' (log_from q'.new (notified_status n'.notified) new' move') in
       (here ∙ told ∙ sym there, ap (λ (z : Transition). z.content) c)
   log_pair es i j x y e same (passes n moment q held new old kept member right move) (cancels given' moment' t' q' held' why' old' kept' was') = no_notification j t' moment' n moment why' (sym e)
-  log_pair es i j x y e same (passes n moment q held new old kept member right move) (forestalls r' moment' f' member' none') = absurd (cc (e))
+  log_pair es i j x y e same (passes n moment q held new old kept member right move) (forestalls r' moment' f' member' none') = apart (received e) refl
   log_pair es i j x y e same (cancels given moment t q held why old kept was) (checks p' moment' found' f' s' is' none' member') = no_proposal i t moment p' moment' why e
   log_pair es i j x y e same (cancels given moment t q held why old kept was) (passes n' moment' q' held' new' old' kept' member' right' move') = no_notification i t moment n' moment' why e
   log_pair es i j x y e same (cancels given moment t q held why old kept was) (forestalls r' moment' f' member' none') = known_and_new es t r'.id q (same_request i t moment r' moment' why e) old none'
-  log_pair es i j x y e same (forestalls r moment f member none) (checks p' moment' found' f' s' is' none' member') = absurd (cc (e))
-  log_pair es i j x y e same (forestalls r moment f member none) (passes n' moment' q' held' new' old' kept' member' right' move') = absurd (cc (e))
+  log_pair es i j x y e same (forestalls r moment f member none) (checks p' moment' found' f' s' is' none' member') = apart (received e) refl
+  log_pair es i j x y e same (forestalls r moment f member none) (passes n' moment' q' held' new' old' kept' member' right' move') = apart (received e) refl
   log_pair es i j x y e same (forestalls r moment f member none) (cancels given' moment' t' q' held' why' old' kept' was') = known_and_new es t' r.id q' (same_request j t' moment' r moment why' (sym e)) old' none
   log_pair es i j x y e same (forestalls r moment f member none) (forestalls r' moment' f' member' none') = (refl, refl)
   log_pair es i j x y e same (cancels given moment t q held why old kept was) (cancels given' moment' t' q' held' why' old' kept' was') =
@@ -213,10 +211,10 @@ module _ (scheme : Scheme) where
         | inr e ↦ absurd (let y : Completed ≡ Checked = sym e.1 ∙ was in cc (y))
       ]
 
-  pub log_sent : (es : List Entry) → Made scheme Itl es → (n : Notification) → In (message.Notification n) (sends es) → IsPast (notified_status n.notified) (newest (transitions_of es) n.id) × (notified_status n.notified ≡ Checked → ⊥)
+  pub log_sent : (es : List Entry) → Made scheme Itl es → (n : NotificationMessage) → In (message.notification n) (sends es) → IsPast (notified_status n.notified) (newest (transitions_of es) n.id) × (notified_status n.notified ≡ Checked → ⊥)
   log_sent [] made n h = absurd h
   log_sent (e ∷ es) made n h =
-      elim (In_cases (message.Notification n) (sends es) (messages_of e.transitions) h) [
+      elim (In_cases (message.notification n) (sends es) (messages_of e.transitions) h) [
         | inl old ↦
             let p = log_sent es made.1 n old in
             let s = notified_status n.notified in (
@@ -227,7 +225,7 @@ module _ (scheme : Scheme) where
               p.1,
             )
         | inr new ↦
-            let g = In_flat_map (λ (q : Transition). q.messages) (message.Notification n) e.transitions new in
+            let g = In_flat_map (λ (q : Transition). q.messages) (message.notification n) e.transitions new in
             let move = made_log scheme e es g.0 made g.1 in
             let m = log_notified_move es e.input g.0 n move g.2 in
             let u = newest_in e.transitions (transitions_of es) g.0 n.id g.1 m.0 in (
@@ -239,26 +237,23 @@ module _ (scheme : Scheme) where
 -- ---- the content that the log passes on stays that of its transfer
 
 module _ (scheme : Scheme) where
-  log_offer_move : (es : List Entry) (input : Input) (x : Transition) (p : Proposal) → LogMove scheme es input x → In (message.Proposal p) x.messages
+  log_offer_move : (es : List Entry) (input : Input) (x : Transition) (p : ProposalMessage) → LogMove scheme es input x → In (message.proposal p) x.messages
       → (x.id ≡ p.id) × (x.content ≡ Some p.content) × (p.to ≡ Registry p.content.acquirer)
   log_offer_move es input x p (checks q moment found f s is none member) h = offer found h
     where
-      one : (a b : Proposal) → message.Proposal a ≡ message.Proposal b → a ≡ b
-      one a b e = cc (e)
-
-      offer : (g : List ℕ) → In (message.Proposal p) (checked_message q.id q.content g ∷ []) → (q.id ≡ p.id) × (Some q.content ≡ Some p.content) × (p.to ≡ Registry p.content.acquirer)
+      offer : (g : List ℕ) → In (message.proposal p) (checked_message q.id q.content g ∷ []) → (q.id ≡ p.id) × (Some q.content ≡ Some p.content) × (p.to ≡ Registry p.content.acquirer)
       offer [] (inl e) =
-          let s = one _ p e in
-          (ap (λ (z : Proposal). z.id) s, ap (λ (z : Proposal). Some z.content) s, sym (ap (λ (z : Proposal). z.to) s) ∙ ap (λ (z : Proposal). Registry z.content.acquirer) s)
+          let s = one_proposal _ p e in
+          (ap (λ (z : ProposalMessage). z.id) s, ap (λ (z : ProposalMessage). Some z.content) s, sym (ap (λ (z : ProposalMessage). z.to) s) ∙ ap (λ (z : ProposalMessage). Registry z.content.acquirer) s)
       offer [] (inr h) = absurd h
-      offer (c ∷ cs) (inl e) = absurd (cc (e))
+      offer (c ∷ cs) (inl e) = apart e refl
       offer (c ∷ cs) (inr h) = absurd h
-  log_offer_move es input x p (passes n moment q held new old kept member right move) (inl e) = absurd (cc (e))
+  log_offer_move es input x p (passes n moment q held new old kept member right move) (inl e) = apart e refl
   log_offer_move es input x p (passes n moment q held new old kept member right move) (inr h) = absurd h
-  log_offer_move es input x p (cancels given moment t q held why old kept was) (inl e) = absurd (cc (e))
-  log_offer_move es input x p (cancels given moment t q held why old kept was) (inr (inl e)) = absurd (cc (e))
+  log_offer_move es input x p (cancels given moment t q held why old kept was) (inl e) = apart e refl
+  log_offer_move es input x p (cancels given moment t q held why old kept was) (inr (inl e)) = apart e refl
   log_offer_move es input x p (cancels given moment t q held why old kept was) (inr (inr h)) = absurd h
-  log_offer_move es input x p (forestalls r moment f member none) (inl e) = absurd (cc (e))
+  log_offer_move es input x p (forestalls r moment f member none) (inl e) = apart e refl
   log_offer_move es input x p (forestalls r moment f member none) (inr h) = absurd h
 
   pub log_keeps_content : (es : List Entry) (input : Input) (x y : Transition) (k : Content) → LogMove scheme es input x → newest (transitions_of es) x.id ≡ Some y → y.content ≡ Some k → x.content ≡ Some k
@@ -275,11 +270,11 @@ module _ (scheme : Scheme) where
       let b : q ≡ y = cc (e) in
       ap (λ (z : Transition). z.content) b ∙ c
 
-  pub log_offered : (es : List Entry) → Made scheme Itl es → (p : Proposal) → In (message.Proposal p) (sends es)
+  pub log_offered : (es : List Entry) → Made scheme Itl es → (p : ProposalMessage) → In (message.proposal p) (sends es)
       → (x : Transition) × (newest (transitions_of es) p.id ≡ Some x) × (x.content ≡ Some p.content) × (p.to ≡ Registry p.content.acquirer)
   log_offered [] made p h = absurd h
   log_offered (e ∷ es) made p h =
-      elim (In_cases (message.Proposal p) (sends es) (messages_of e.transitions) h) [
+      elim (In_cases (message.proposal p) (sends es) (messages_of e.transitions) h) [
         | inl old ↦
             let o = log_offered es made.1 p old in
             elim (newest_append e.transitions (transitions_of es) p.id) [
@@ -292,7 +287,7 @@ module _ (scheme : Scheme) where
               )
             ]
         | inr new ↦
-            let g = In_flat_map (λ (q : Transition). q.messages) (message.Proposal p) e.transitions new in
+            let g = In_flat_map (λ (q : Transition). q.messages) (message.proposal p) e.transitions new in
             let move = made_log scheme e es g.0 made g.1 in
             let n = log_offer_move es e.input g.0 p move g.2 in
             let u = newest_in e.transitions (transitions_of es) g.0 p.id g.1 n.0 in

@@ -7,6 +7,7 @@ use Rattle.std.specs.Prelude.{nat_le, length, filter, flat_map}
 use Rattle.units.specs.RefusalCodes.{journal_full}
 use Rattle.units.specs.declared.code.Node.TheVariants.{Itl}
 use Rattle.status.specs.Rows.{log_row}
+use Rattle.status.specs.declared.id.TransactionId.{TransactionId}
 use Rattle.status.specs.declared.rows.Row.{Row}
 use Rattle.status.specs.declared.rows.Row.TheVariants.{Move, Repeat, Late, Refused}
 use Rattle.status.specs.declared.rows.RowInput.TheVariants.{Notified, Request}
@@ -15,8 +16,8 @@ use Rattle.status.specs.declared.status.Status.TheVariants.{Cancelled}
 use Rattle.wire.specs.NotifiedStatuses.{notified_status}
 use Rattle.wire.specs.declared.input.Input.{Input}
 use Rattle.wire.specs.declared.input.Input.TheVariants.{Propose, Request as Ask, OpenAccount, CloseAccount, Ack, CleanUp, Eligible, Received}
-use Rattle.wire.specs.declared.message.Message.{Message}
-use Rattle.wire.specs.declared.message.Message.TheVariants as message
+use Rattle.wire.specs.declared.message.Body.{Body}
+use Rattle.wire.specs.declared.message.Body.TheVariants as body
 use Rattle.scheme.specs.declared.registries.Scheme.{Scheme}
 use Rattle.protocol.specs.AtLog.{log_refusals, log_answer, newest_of_each, is_old, by_id, cleaned, expired, clean_up, same_bool, eligible_refusals, log_verdict}
 use Rattle.protocol.specs.Checks.{Causes, codes_of}
@@ -52,10 +53,10 @@ module _ (scheme : Scheme) (es : List Entry) where
   shape_row to Late = inl refl
   shape_row to Refused = inl refl
 
-  shape_answer : (m : Message) (moment : ℕ) → Single (made_of (log_answer scheme es moment m))
-  shape_answer (message.Proposal p) moment = shape_row _ (log_row (known (newest (transitions_of es) p.id)) _)
-  shape_answer (message.Notification n) moment = shape_row _ (log_row (known (newest (transitions_of es) n.id)) (Notified (notified_status n.notified)))
-  shape_answer (message.Request r) moment = shape_row _ (log_row (known (newest (transitions_of es) r.id)) Request)
+  shape_answer : (t : TransactionId) (b : Body) (moment : ℕ) → Single (made_of (log_answer scheme es moment t b))
+  shape_answer t (body.Proposal p) moment = shape_row _ (log_row (known (newest (transitions_of es) t)) _)
+  shape_answer t (body.Notification n) moment = shape_row _ (log_row (known (newest (transitions_of es) t)) (Notified (notified_status n)))
+  shape_answer t body.Request moment = shape_row _ (log_row (known (newest (transitions_of es) t)) Request)
 
   all_cleaned : (moment : ℕ) (qs : List Transition) → AllCancelled (flat_map (cleaned moment) qs)
   all_cleaned moment qs x i = let g = In_flat_map (cleaned moment) x qs i in sym (ap (λ (z : Transition). z.new) (cleaned_made scheme es moment g.0 x g.2).3)
@@ -78,7 +79,7 @@ module _ (scheme : Scheme) (es : List Entry) where
       inl
       (single_refuse (ack_refusals es n.value) (cond (is_acknowledged es n.value) IsRepeat (recorded_if_room scheme es []))
       (single_cond (is_acknowledged es n.value) IsRepeat (recorded_if_room scheme es []) (inl refl) (none_enter scheme es)))
-  shape (Received m t) = inl (single_refuse (log_refusals scheme es m) (log_answer scheme es t.seconds m) (shape_answer m t.seconds))
+  shape (Received m t) = inl (single_refuse (log_refusals scheme es m) (log_answer scheme es t.seconds m.id m.body) (shape_answer m.id m.body t.seconds))
   shape (Propose o) = inl (inl refl)
   shape (Ask t) = inl (inl refl)
   shape (OpenAccount n) = inl (inl refl)

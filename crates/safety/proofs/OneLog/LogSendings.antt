@@ -13,10 +13,8 @@ use Rattle.status.specs.declared.status.Status.{Status}
 use Rattle.status.specs.declared.status.Status.TheVariants.{Proposed, Checked, Accepted, Rejected, Terminated, Cancelled, Completed}
 use Rattle.wire.specs.NotifiedStatuses.{notified_status}
 use Rattle.wire.specs.declared.input.Input.{Input}
-use Rattle.wire.specs.declared.message.Message.TheVariants as message
-use Rattle.wire.specs.declared.message.Notification.{Notification}
-use Rattle.wire.specs.declared.message.Proposal.{Proposal}
-use Rattle.wire.specs.declared.message.Request.{Request}
+use Rattle.protocol.proofs.MessageForms as message
+use Rattle.protocol.proofs.MessageForms.{ProposalMessage, NotificationMessage, RequestMessage, one_notified, one_proposal, apart}
 use Rattle.wire.specs.declared.message.ProposalStatus.TheVariants as proposal
 use Rattle.scheme.specs.declared.registries.Scheme.{Scheme}
 use Rattle.protocol.specs.AtLog.{ledger, is_from_another}
@@ -25,7 +23,7 @@ use Rattle.protocol.specs.History.{Transition, Entry, transitions_of, newest, se
 use Rattle.protocol.specs.Pieces.{Piece, pieces, repeats}
 use Rattle.protocol.specs.Registries.{allotted, has_member}
 use Rattle.safety.proofs.MovesAndHistories.TransitionForms.{checked_status, checked_message, told_to}
-use Rattle.safety.proofs.MovesAndHistories.NewestTransitions.{Made, Heard, heard_later, made_log, newest_id, newest_append, newest_in, one_notified, one_proposal}
+use Rattle.safety.proofs.MovesAndHistories.NewestTransitions.{Made, Heard, heard_later, made_log, newest_id, newest_append, newest_in}
 use Rattle.safety.proofs.OneLog.LogInputs.{none_stand}
 use Rattle.units.proofs.Lists.Membership.{In, In_cases, In_flat_map}
 use Rattle.units.proofs.Lists.OneValue.{one_some}
@@ -38,26 +36,26 @@ abbrev pub is_of_other_kind : Scheme → Piece → Bool
 is_of_other_kind scheme p = has_other_kind (allotted scheme p.unit) p.kind
 
 -- a proposal that the log found nothing wrong with
-pub record Passed (scheme : Scheme) (p : Proposal) : Type 0 where
+pub record Passed (scheme : Scheme) (p : ProposalMessage) : Type 0 where
   pub status : p.status ≡ proposal.Checked
   pub apart : repeats (pieces p.content.units) ≡ false
   pub acquirer_other : same_code p.content.acquirer p.id.code ≡ false
   pub kinds : list_any (is_of_other_kind scheme) (pieces p.content.units) ≡ false
 
 -- a notification to the initiator
-pub record ToInitiator (n : Notification) : Type 0 where
+pub record ToInitiator (n : NotificationMessage) : Type 0 where
   pub said : notified_status n.notified ≡ Completed → ⊥
   pub to : n.to ≡ Registry n.id.code
 
 -- a notification to the acquirer of the content
-pub record ToAcquirer (n : Notification) (k : Option Content) : Type 0 where
+pub record ToAcquirer (n : NotificationMessage) (k : Option Content) : Type 0 where
   pub said : (notified_status n.notified ≡ Completed) ⊎ (notified_status n.notified ≡ Cancelled)
   pub content : Content
   pub known : k ≡ Some content
   pub to : n.to ≡ Registry content.acquirer
 
 -- a notification to the acquirer of the content that the log knows
-pub record ToKnown (es : List Entry) (n : Notification) : Type 0 where
+pub record ToKnown (es : List Entry) (n : NotificationMessage) : Type 0 where
   pub last : Transition
   pub is : newest (transitions_of es) n.id ≡ Some last
   pub goes : ToAcquirer n last.content
@@ -65,10 +63,10 @@ pub record ToKnown (es : List Entry) (n : Notification) : Type 0 where
 module _ (scheme : Scheme) where
   -- ---- proposals
 
-  passed_move : (es : List Entry) (input : Input) (x : Transition) (p : Proposal) → LogMove scheme es input x → In (message.Proposal p) x.messages → Passed scheme p × (x.id ≡ p.id) × (x.new ≡ Checked)
+  passed_move : (es : List Entry) (input : Input) (x : Transition) (p : ProposalMessage) → LogMove scheme es input x → In (message.proposal p) x.messages → Passed scheme p × (x.id ≡ p.id) × (x.new ≡ Checked)
   passed_move es input x p (checks q moment found f s is none member) h = offer found is h
     where
-      offer : (g : List ℕ) → g ≡ log_findings scheme (ledger scheme es) q.id.code q.content → In (message.Proposal p) (checked_message q.id q.content g ∷ [])
+      offer : (g : List ℕ) → g ≡ log_findings scheme (ledger scheme es) q.id.code q.content → In (message.proposal p) (checked_message q.id q.content g ∷ [])
           → Passed scheme p × (q.id ≡ p.id) × (checked_status g ≡ Checked)
       offer [] is (inl e) =
           let s = one_proposal _ p e in
@@ -79,27 +77,27 @@ module _ (scheme : Scheme) where
               acquirer_other = (or_parts (not (has_member scheme q.content.acquirer)) (same_code q.content.acquirer q.id.code) free.0).1;
               kinds = free.1.1.1.1.1.0;
             }),
-            ap (λ (z : Proposal). z.id) s,
+            ap (λ (z : ProposalMessage). z.id) s,
             refl,
           )
       offer [] is (inr h) = absurd h
-      offer (c ∷ cs) is (inl e) = absurd (cc (e))
+      offer (c ∷ cs) is (inl e) = apart e refl
       offer (c ∷ cs) is (inr h) = absurd h
-  passed_move es input x p (passes n moment q held new old kept member right move) (inl e) = absurd (cc (e))
+  passed_move es input x p (passes n moment q held new old kept member right move) (inl e) = apart e refl
   passed_move es input x p (passes n moment q held new old kept member right move) (inr h) = absurd h
-  passed_move es input x p (cancels given moment t q held why old kept was) (inl e) = absurd (cc (e))
-  passed_move es input x p (cancels given moment t q held why old kept was) (inr (inl e)) = absurd (cc (e))
+  passed_move es input x p (cancels given moment t q held why old kept was) (inl e) = apart e refl
+  passed_move es input x p (cancels given moment t q held why old kept was) (inr (inl e)) = apart e refl
   passed_move es input x p (cancels given moment t q held why old kept was) (inr (inr h)) = absurd h
-  passed_move es input x p (forestalls r moment f member none) (inl e) = absurd (cc (e))
+  passed_move es input x p (forestalls r moment f member none) (inl e) = apart e refl
   passed_move es input x p (forestalls r moment f member none) (inr h) = absurd h
 
-  pub passed_on : (es : List Entry) → Made scheme Itl es → (p : Proposal) → In (message.Proposal p) (sends es) → Passed scheme p
+  pub passed_on : (es : List Entry) → Made scheme Itl es → (p : ProposalMessage) → In (message.proposal p) (sends es) → Passed scheme p
   passed_on [] made p h = absurd h
   passed_on (e ∷ es) made p h =
-      elim (In_cases (message.Proposal p) (sends es) (messages_of e.transitions) h) [
+      elim (In_cases (message.proposal p) (sends es) (messages_of e.transitions) h) [
         | inl old ↦ passed_on es made.1 p old
         | inr new ↦
-            let g = In_flat_map (λ (q : Transition). q.messages) (message.Proposal p) e.transitions new in
+            let g = In_flat_map (λ (q : Transition). q.messages) (message.proposal p) e.transitions new in
             (passed_move es e.input g.0 p (made_log scheme e es g.0 made g.1) g.2).0
       ]
 
@@ -119,10 +117,10 @@ module _ (scheme : Scheme) where
   never_terminates es input x q (cancels given moment t p held why old kept was) h e = let y : Cancelled ≡ Terminated = e in cc (y)
 
   -- a transfer that was passed on is not terminated
-  pub passed_open : (es : List Entry) → Made scheme Itl es → (p : Proposal) → In (message.Proposal p) (sends es) → (x : Transition) × (newest (transitions_of es) p.id ≡ Some x) × (x.new ≡ Terminated → ⊥)
+  pub passed_open : (es : List Entry) → Made scheme Itl es → (p : ProposalMessage) → In (message.proposal p) (sends es) → (x : Transition) × (newest (transitions_of es) p.id ≡ Some x) × (x.new ≡ Terminated → ⊥)
   passed_open [] made p h = absurd h
   passed_open (e ∷ es) made p h =
-      elim (In_cases (message.Proposal p) (sends es) (messages_of e.transitions) h) [
+      elim (In_cases (message.proposal p) (sends es) (messages_of e.transitions) h) [
         | inl old ↦
             let o = passed_open es made.1 p old in
             elim (newest_append e.transitions (transitions_of es) p.id) [
@@ -130,7 +128,7 @@ module _ (scheme : Scheme) where
               | inr u ↦ (u.0, u.3, never_terminates es e.input u.0 o.0 (made_log scheme e es u.0 made u.1) (subst (λ z. newest (transitions_of es) z ≡ Some o.0) (sym u.2) o.1))
             ]
         | inr new ↦
-            let g = In_flat_map (λ (q : Transition). q.messages) (message.Proposal p) e.transitions new in
+            let g = In_flat_map (λ (q : Transition). q.messages) (message.proposal p) e.transitions new in
             let move = made_log scheme e es g.0 made g.1 in
             let n = passed_move es e.input g.0 p move g.2 in
             let u = newest_in e.transitions (transitions_of es) g.0 p.id g.1 n.1 in
@@ -140,7 +138,7 @@ module _ (scheme : Scheme) where
 
   -- ---- notifications
 
-  passed_to : (q : Transition) (new : Status) (n : Notification) → q.id ≡ n.id → new ≡ notified_status n.notified → (k : Content) → told_to q.id k new ≡ n.to → q.content ≡ Some k → ToInitiator n ⊎ ToAcquirer n q.content
+  passed_to : (q : Transition) (new : Status) (n : NotificationMessage) → q.id ≡ n.id → new ≡ notified_status n.notified → (k : Content) → told_to q.id k new ≡ n.to → q.content ≡ Some k → ToInitiator n ⊎ ToAcquirer n q.content
   passed_to q Completed n about said k to known = inr (record { said = inl (sym said); content = k; known = known; to = sym to })
   passed_to q Proposed n about said k to known = inl (record { said = λ e. let y : Proposed ≡ Completed = said ∙ e in cc (y); to = sym to ∙ ap (λ (z : TransactionId). Registry z.code) about })
   passed_to q Checked n about said k to known = inl (record { said = λ e. let y : Checked ≡ Completed = said ∙ e in cc (y); to = sym to ∙ ap (λ (z : TransactionId). Registry z.code) about })
@@ -149,18 +147,18 @@ module _ (scheme : Scheme) where
   passed_to q Terminated n about said k to known = inl (record { said = λ e. let y : Terminated ≡ Completed = said ∙ e in cc (y); to = sym to ∙ ap (λ (z : TransactionId). Registry z.code) about })
   passed_to q Cancelled n about said k to known = inl (record { said = λ e. let y : Cancelled ≡ Completed = said ∙ e in cc (y); to = sym to ∙ ap (λ (z : TransactionId). Registry z.code) about })
 
-  goes_move : (es : List Entry) (input : Input) (x : Transition) (n : Notification) → Made scheme Itl es → LogMove scheme es input x → In (message.Notification n) x.messages → ToInitiator n ⊎ ToAcquirer n x.content
+  goes_move : (es : List Entry) (input : Input) (x : Transition) (n : NotificationMessage) → Made scheme Itl es → LogMove scheme es input x → In (message.notification n) x.messages → ToInitiator n ⊎ ToAcquirer n x.content
   goes_move es input x n made (checks p moment found f s is none member) h = inl (go found h)
     where
-      go : (g : List ℕ) → In (message.Notification n) (checked_message p.id p.content g ∷ []) → ToInitiator n
-      go [] (inl e) = absurd (cc (e))
+      go : (g : List ℕ) → In (message.notification n) (checked_message p.id p.content g ∷ []) → ToInitiator n
+      go [] (inl e) = apart e refl
       go [] (inr h) = absurd h
       go (c ∷ cs) (inl e) = let s = one_notified _ n e in subst ToInitiator s (record { said = λ d. let y : Terminated ≡ Completed = d in cc (y); to = refl })
       go (c ∷ cs) (inr h) = absurd h
   goes_move es input x n made (passes m moment q held new old kept member right move) (inl e) =
       let s = one_notified _ n e in
       let g = log_notified_move scheme es input x n (passes m moment q held new old kept member right move) (inl e) in
-      passed_to q new n g.0 g.1 held (ap (λ (z : Notification). z.to) s) kept
+      passed_to q new n g.0 g.1 held (ap (λ (z : NotificationMessage). z.to) s) kept
   goes_move es input x n made (passes m moment q held new old kept member right move) (inr h) = absurd h
   goes_move es input x n made (cancels given moment t q held why old kept was) (inl e) =
       let s = one_notified _ n e in inl (subst ToInitiator s (record { said = λ d. let y : Cancelled ≡ Completed = d in cc (y); to = refl }))
@@ -173,10 +171,10 @@ module _ (scheme : Scheme) where
   goes_move es input x n made (forestalls r moment f member none) (inr h) = absurd h
 
   -- to whom the log's notifications go
-  pub goes : (es : List Entry) → Made scheme Itl es → (n : Notification) → In (message.Notification n) (sends es) → ToInitiator n ⊎ ToKnown es n
+  pub goes : (es : List Entry) → Made scheme Itl es → (n : NotificationMessage) → In (message.notification n) (sends es) → ToInitiator n ⊎ ToKnown es n
   goes [] made n h = absurd h
   goes (e ∷ es) made n h =
-      elim (In_cases (message.Notification n) (sends es) (messages_of e.transitions) h) [
+      elim (In_cases (message.notification n) (sends es) (messages_of e.transitions) h) [
         | inl old ↦
             elim (goes es made.1 n old) [
               | inl i ↦ inl i
@@ -189,7 +187,7 @@ module _ (scheme : Scheme) where
                   ]
             ]
         | inr new ↦
-            let g = In_flat_map (λ (q : Transition). q.messages) (message.Notification n) e.transitions new in
+            let g = In_flat_map (λ (q : Transition). q.messages) (message.notification n) e.transitions new in
             let move = made_log scheme e es g.0 made g.1 in
             let m = log_notified_move scheme es e.input g.0 n move g.2 in
             let u = newest_in e.transitions (transitions_of es) g.0 n.id g.1 m.0 in
@@ -206,28 +204,28 @@ module _ (scheme : Scheme) where
 
   -- ---- the log asks nobody for cancellation
 
-  request_move : (es : List Entry) (input : Input) (x : Transition) (r : Request) → LogMove scheme es input x → In (message.Request r) x.messages → ⊥
+  request_move : (es : List Entry) (input : Input) (x : Transition) (r : RequestMessage) → LogMove scheme es input x → In (message.request r) x.messages → ⊥
   request_move es input x r (checks p moment found f s is none member) h = go found h
     where
-      go : (g : List ℕ) → In (message.Request r) (checked_message p.id p.content g ∷ []) → ⊥
-      go [] (inl e) = cc (e)
+      go : (g : List ℕ) → In (message.request r) (checked_message p.id p.content g ∷ []) → ⊥
+      go [] (inl e) = apart e refl
       go [] (inr i) = i
-      go (c ∷ cs) (inl e) = cc (e)
+      go (c ∷ cs) (inl e) = apart e refl
       go (c ∷ cs) (inr i) = i
-  request_move es input x r (passes n moment q held new old kept member right move) (inl e) = cc (e)
+  request_move es input x r (passes n moment q held new old kept member right move) (inl e) = apart e refl
   request_move es input x r (passes n moment q held new old kept member right move) (inr h) = h
-  request_move es input x r (cancels given moment t q held why old kept was) (inl e) = cc (e)
-  request_move es input x r (cancels given moment t q held why old kept was) (inr (inl e)) = cc (e)
+  request_move es input x r (cancels given moment t q held why old kept was) (inl e) = apart e refl
+  request_move es input x r (cancels given moment t q held why old kept was) (inr (inl e)) = apart e refl
   request_move es input x r (cancels given moment t q held why old kept was) (inr (inr h)) = h
-  request_move es input x r (forestalls q moment f member none) (inl e) = cc (e)
+  request_move es input x r (forestalls q moment f member none) (inl e) = apart e refl
   request_move es input x r (forestalls q moment f member none) (inr h) = h
 
-  pub no_request : (es : List Entry) → Made scheme Itl es → (r : Request) → In (message.Request r) (sends es) → ⊥
+  pub no_request : (es : List Entry) → Made scheme Itl es → (r : RequestMessage) → In (message.request r) (sends es) → ⊥
   no_request [] made r h = h
   no_request (e ∷ es) made r h =
-      elim (In_cases (message.Request r) (sends es) (messages_of e.transitions) h) [
+      elim (In_cases (message.request r) (sends es) (messages_of e.transitions) h) [
         | inl old ↦ no_request es made.1 r old
-        | inr new ↦ let g = In_flat_map (λ (q : Transition). q.messages) (message.Request r) e.transitions new in request_move es e.input g.0 r (made_log scheme e es g.0 made g.1) g.2
+        | inr new ↦ let g = In_flat_map (λ (q : Transition). q.messages) (message.request r) e.transitions new in request_move es e.input g.0 r (made_log scheme e es g.0 made g.1) g.2
       ]
 
   -- ---- where the log stands Rejected, the acquirer of its content said so

@@ -1,6 +1,6 @@
 -- The proposals that a registry sent, whatever messages come to it: each is of a transaction of its own, no two are
 -- of the same one, and each transaction of its own is proposed. `offered` says what becomes of a proposal.
-use Rattle.std.proofs.Common.{◌≡◌, List, [], ◌∷◌, ◌++◌, true, Some, None, ◌⊎◌, inl, inr, refl, sym, ap, subst, ◌∙◌, map}
+use Rattle.std.proofs.Common.{◌≡◌, List, [], ◌∷◌, ◌++◌, true, Option, Some, None, ◌⊎◌, inl, inr, refl, sym, ap, subst, ◌∙◌, map}
 use Rattle.std.specs.List.{filter_map}
 use Rattle.std.proofs.lemmas.List.{map-append}
 use Rattle.std.proofs.lemmas.List.Elements.{filter_map-append}
@@ -13,11 +13,11 @@ use Rattle.status.specs.declared.status.Status.{Status}
 use Rattle.status.specs.declared.status.Status.TheVariants.{Proposed, Checked, Accepted, Rejected, Terminated, Cancelled, Completed}
 use Rattle.wire.specs.declared.input.Input.{Input}
 use Rattle.wire.specs.declared.message.Message.{Message}
-use Rattle.wire.specs.declared.message.Message.TheVariants as message
-use Rattle.wire.specs.declared.message.Proposal.{Proposal}
+use Rattle.protocol.proofs.MessageForms as message
+use Rattle.protocol.proofs.MessageForms.{ProposalMessage, Form, form, of_proposal, of_notification, of_request, apart, one_proposal}
 use Rattle.scheme.specs.declared.registries.Scheme.{Scheme}
 use Rattle.protocol.specs.History.{Transition, Entry, transitions_of, newest, sends, messages_of}
-use Rattle.protocol.specs.Table.{proposal_in, proposed}
+use Rattle.protocol.specs.Table.{ProposedTransfer, proposed, proposed_in}
 use Rattle.protocol.specs.Verdict.{history}
 use Rattle.units.proofs.Lists.Membership.{In, In_cases, In_left, In_map}
 use Rattle.units.proofs.Lists.NoRepeats.{NoRepeat, no_repeat_append}
@@ -30,26 +30,46 @@ use Rattle.safety.proofs.OneRegistry.TransactionEnds.{offered, own_about}
 use Rattle.safety.proofs.OneRegistry.UnitsCountedOnce.{made_single}
 use Rattle.safety.proofs.WayToRest.SentByTransitions.{transition_sends}
 
--- ---- the proposals among messages
+-- ---- the transfers that messages propose
 
-abbrev pub proposals_in : List Message → List Proposal
-proposals_in ms = filter_map proposal_in ms
+abbrev pub proposed_by : Message → Option ProposedTransfer
+proposed_by m = proposed_in m.id m.body
 
-pub In_proposals : (ms : List Message) (p : Proposal) → In p (proposals_in ms) → In (message.Proposal p) ms
-In_proposals [] p h = absurd h
-In_proposals (message.Proposal q ∷ ms) p (inl e) = inl (ap (λ z. message.Proposal z) e)
-In_proposals (message.Proposal q ∷ ms) p (inr h) = inr (In_proposals ms p h)
-In_proposals (message.Notification n ∷ ms) p h = inr (In_proposals ms p h)
-In_proposals (message.Request r ∷ ms) p h = inr (In_proposals ms p h)
+abbrev pub proposals_in : List Message → List ProposedTransfer
+proposals_in ms = filter_map proposed_by ms
 
-pub proposals_In : (ms : List Message) (p : Proposal) → In (message.Proposal p) ms → In p (proposals_in ms)
+abbrev pub transfer_in : ProposalMessage → ProposedTransfer
+transfer_in p = record { id = p.id; content = p.content }
+
+-- one of the messages proposes the transfer
+abbrev pub IsSent : List Message → ProposedTransfer → Type 0
+IsSent ms t = (p : ProposalMessage) × In (message.proposal p) ms × (transfer_in p ≡ t)
+
+sent_later : (m : Message) (ms : List Message) (t : ProposedTransfer) → IsSent ms t → IsSent (m ∷ ms) t
+sent_later m ms t s = (s.0, inr s.1, s.2)
+
+sent_next : (m : Message) → Form m → (ms : List Message) (t : ProposedTransfer) → (In t (proposals_in ms) → IsSent ms t) → In t (proposals_in (m ∷ ms)) → IsSent (m ∷ ms) t
+sent_next m (of_proposal p) ms t rest (inl e) = (p, inl refl, e)
+sent_next m (of_proposal p) ms t rest (inr h) = sent_later m ms t (rest h)
+sent_next m (of_notification n) ms t rest h = sent_later m ms t (rest h)
+sent_next m (of_request r) ms t rest h = sent_later m ms t (rest h)
+
+pub In_proposals : (ms : List Message) (t : ProposedTransfer) → In t (proposals_in ms) → IsSent ms t
+In_proposals [] t h = absurd h
+In_proposals (m ∷ ms) t h = sent_next m (form m) ms t (In_proposals ms t) h
+
+found_next : (m : Message) → Form m → (ms : List Message) (p : ProposalMessage) → (In (message.proposal p) ms → In (transfer_in p) (proposals_in ms)) → In (message.proposal p) (m ∷ ms)
+    → In (transfer_in p) (proposals_in (m ∷ ms))
+found_next m (of_proposal q) ms p rest (inl e) = inl (ap transfer_in (one_proposal q p e))
+found_next m (of_proposal q) ms p rest (inr h) = inr (rest h)
+found_next m (of_notification n) ms p rest (inl e) = apart e refl
+found_next m (of_notification n) ms p rest (inr h) = rest h
+found_next m (of_request r) ms p rest (inl e) = apart e refl
+found_next m (of_request r) ms p rest (inr h) = rest h
+
+pub proposals_In : (ms : List Message) (p : ProposalMessage) → In (message.proposal p) ms → In (transfer_in p) (proposals_in ms)
 proposals_In [] p h = absurd h
-proposals_In (message.Proposal q ∷ ms) p (inl e) = inl (cc (e))
-proposals_In (message.Proposal q ∷ ms) p (inr h) = inr (proposals_In ms p h)
-proposals_In (message.Notification n ∷ ms) p (inl e) = absurd (cc (e))
-proposals_In (message.Notification n ∷ ms) p (inr h) = proposals_In ms p h
-proposals_In (message.Request r ∷ ms) p (inl e) = absurd (cc (e))
-proposals_In (message.Request r ∷ ms) p (inr h) = proposals_In ms p h
+proposals_In (m ∷ ms) p h = found_next m (form m) ms p (proposals_In ms p) h
 
 concluded_none : (c : Code) (t : TransactionId) (new : Status) → proposals_in (concluded_messages c t new ++ []) ≡ []
 concluded_none c t Completed = refl
@@ -61,17 +81,17 @@ concluded_none c t Terminated = refl
 concluded_none c t Cancelled = refl
 
 -- the transactions of proposals
-abbrev pub ids : List Proposal → List TransactionId
+abbrev pub ids : List ProposedTransfer → List TransactionId
 ids ps = map (λ p. p.id) ps
 
 module _ (scheme : Scheme) (c : Code) where
   -- ---- a transaction of one's own was proposed
 
   abbrev pub IsProposed : List Entry → TransactionId → Type 0
-  IsProposed es t = (p : Proposal) × In (message.Proposal p) (sends es) × (p.id ≡ t)
+  IsProposed es t = (p : ProposalMessage) × In (message.proposal p) (sends es) × (p.id ≡ t)
 
   proposed_later : (e : Entry) (es : List Entry) (t : TransactionId) → IsProposed es t → IsProposed (e ∷ es) t
-  proposed_later e es t g = (g.0, In_left (message.Proposal g.0) (sends es) (messages_of e.transitions) g.1, g.2)
+  proposed_later e es t g = (g.0, In_left (message.proposal g.0) (sends es) (messages_of e.transitions) g.1, g.2)
 
   proposed_move : (e : Entry) (es : List Entry) (input : Input) (x : Transition) → RegistryMove scheme c es input x → In x e.transitions → same_code x.id.code c ≡ true
       → ((q : Transition) → In q (transitions_of es) → same_code q.id.code c ≡ true → IsProposed es q.id) → IsProposed (e ∷ es) x.id
@@ -92,12 +112,19 @@ module _ (scheme : Scheme) (c : Code) where
 
   -- ---- each proposal is of a transaction of one's own, and no two are of the same one
 
-  pub proposed_own : (es : List Entry) → Made scheme (Registry c) es → (p : Proposal) → In p (proposed es) → p.id.code ≡ c
-  proposed_own es made p h = code_of_same p.id.code c (offered scheme c es made p (In_proposals (sends es) p h)).3
+  -- what became of a transfer that was proposed, as `offered` says of its message
+  pub proposed_stands : (es : List Entry) → Made scheme (Registry c) es → (p : ProposedTransfer) → In p (proposed es)
+      → (x : Transition) × (newest (transitions_of es) p.id ≡ Some x) × (x.content ≡ Some p.content) × (same_code p.id.code c ≡ true)
+  proposed_stands es made p h =
+      let sent = In_proposals (sends es) p h in
+      subst (λ (z : ProposedTransfer). (x : Transition) × (newest (transitions_of es) z.id ≡ Some x) × (x.content ≡ Some z.content) × (same_code z.id.code c ≡ true)) sent.2 (offered scheme c es made sent.0 sent.1)
+
+  pub proposed_own : (es : List Entry) → Made scheme (Registry c) es → (p : ProposedTransfer) → In p (proposed es) → p.id.code ≡ c
+  proposed_own es made p h = code_of_same p.id.code c (proposed_stands es made p h).3
 
   -- one transition proposes nothing, or one new transaction
   new_proposals : (es : List Entry) (input : Input) (x : Transition) → RegistryMove scheme c es input x
-      → (proposals_in (messages_of (x ∷ [])) ≡ []) ⊎ ((p : Proposal) × (proposals_in (messages_of (x ∷ [])) ≡ p ∷ []) × (newest (transitions_of es) p.id ≡ None))
+      → (proposals_in (messages_of (x ∷ [])) ≡ []) ⊎ ((p : ProposedTransfer) × (proposals_in (messages_of (x ∷ [])) ≡ p ∷ []) × (newest (transitions_of es) p.id ≡ None))
   new_proposals es input x (proposes o t none is fresh) = inr (_, refl, fresh)
   new_proposals es input x (asks t q was mine stood) = inl refl
   new_proposals es input x (arrives p moment found f s is none foreign mine) = inl refl
@@ -106,15 +133,15 @@ module _ (scheme : Scheme) (c : Code) where
   new_proposals es input x (finishes n moment q new f was foreign move none) = inl refl
 
   -- proposals of transactions that weren't there
-  new_once : (es : List Entry) → Made scheme (Registry c) es → NoRepeat (ids (proposed es)) → (ps : List Proposal) → (ps ≡ []) ⊎ ((p : Proposal) × (ps ≡ p ∷ []) × (newest (transitions_of es) p.id ≡ None))
+  new_once : (es : List Entry) → Made scheme (Registry c) es → NoRepeat (ids (proposed es)) → (ps : List ProposedTransfer) → (ps ≡ []) ⊎ ((p : ProposedTransfer) × (ps ≡ p ∷ []) × (newest (transitions_of es) p.id ≡ None))
       → NoRepeat (ids (proposed es) ++ ids ps)
   new_once es made old ps (inl e) = no_repeat_append (ids (proposed es)) (ids ps) old (subst (λ z. NoRepeat (ids z)) (sym e) tt) (λ t i j. subst (λ z. In t (ids z)) e j)
   new_once es made old ps (inr g) =
       no_repeat_append (ids (proposed es)) (ids ps) old (subst (λ z. NoRepeat (ids z)) (sym g.1) ((λ h. h), tt))
       (λ t i j. elim (subst (λ z. In t (ids z)) g.1 j) [
         | inl e ↦
-            let p = In_map (λ (z : Proposal). z.id) t (proposed es) i in
-            let o = offered scheme c es made p.0 (In_proposals (sends es) p.0 p.1) in
+            let p = In_map (λ (z : ProposedTransfer). z.id) t (proposed es) i in
+            let o = proposed_stands es made p.0 p.1 in
             let was : newest (transitions_of es) g.0.id ≡ Some o.0 = subst (λ z. newest (transitions_of es) z ≡ Some o.0) (p.2 ∙ sym e) o.1 in
             let no = sym g.2 ∙ was in
             cc (no)
@@ -127,7 +154,7 @@ module _ (scheme : Scheme) (c : Code) where
         | inl z ↦ new_once es made.1 old (proposals_in (messages_of e.transitions)) (inl (ap (λ xs. proposals_in (messages_of xs)) z))
         | inr z ↦
             new_once es made.1 old (proposals_in (messages_of e.transitions))
-            (subst (λ xs. (proposals_in (messages_of xs) ≡ []) ⊎ ((p : Proposal) × (proposals_in (messages_of xs) ≡ p ∷ []) × (newest (transitions_of es) p.id ≡ None))) (sym z.1)
+            (subst (λ xs. (proposals_in (messages_of xs) ≡ []) ⊎ ((p : ProposedTransfer) × (proposals_in (messages_of xs) ≡ p ∷ []) × (newest (transitions_of es) p.id ≡ None))) (sym z.1)
             (new_proposals es e.input z.0 (made_registry scheme c e es z.0 made (subst (λ xs. In z.0 xs) (sym z.1) (inl refl)))))
       ]
 
@@ -135,12 +162,12 @@ module _ (scheme : Scheme) (c : Code) where
   proposed_once [] made = tt
   proposed_once (e ∷ es) made =
       subst NoRepeat
-      (sym (ap ids (filter_map-append proposal_in (sends es) (messages_of e.transitions)) ∙ map-append (λ (p : Proposal). p.id) (proposed es) (proposals_in (messages_of e.transitions))))
+      (sym (ap ids (filter_map-append proposed_by (sends es) (messages_of e.transitions)) ∙ map-append (λ (p : ProposedTransfer). p.id) (proposed es) (proposals_in (messages_of e.transitions))))
       (entry_once e es made (proposed_once es made.1))
 
   -- ---- the same of each journal
 
-  pub journal_proposed_own : (journal : List Input) (p : Proposal) → In p (proposed (history scheme (Registry c) journal)) → p.id.code ≡ c
+  pub journal_proposed_own : (journal : List Input) (p : ProposedTransfer) → In p (proposed (history scheme (Registry c) journal)) → p.id.code ≡ c
   journal_proposed_own journal p h = proposed_own (history scheme (Registry c) journal) (made_history scheme (Registry c) journal) p h
 
   pub journal_proposed_once : (journal : List Input) → NoRepeat (ids (proposed (history scheme (Registry c) journal)))

@@ -17,16 +17,15 @@ use Rattle.status.proofs.Ids.{id_at-code}
 use Rattle.wire.specs.NotifiedStatuses.{notified_status}
 use Rattle.wire.specs.declared.input.Input.{Input}
 use Rattle.wire.specs.declared.input.Input.TheVariants.{Received}
-use Rattle.wire.specs.declared.message.Message.TheVariants as message
-use Rattle.wire.specs.declared.message.Notification.{Notification}
-use Rattle.wire.specs.declared.message.Proposal.{Proposal}
+use Rattle.protocol.proofs.MessageForms as message
+use Rattle.protocol.proofs.MessageForms.{ProposalMessage, NotificationMessage, one_notified, apart, received, one_proposal}
 use Rattle.wire.specs.declared.message.ProposalStatus.TheVariants as proposal
 use Rattle.scheme.specs.declared.registries.Scheme.{Scheme}
 use Rattle.protocol.specs.AtRegistry.{holding}
 use Rattle.protocol.specs.Checks.{acquirer_findings}
 use Rattle.protocol.specs.History.{Transition, Entry, transitions_of, newest, sends, messages_of, proposals}
 use Rattle.safety.proofs.MovesAndHistories.TransitionForms.{arrived_status, arrived_notified, concluded_messages}
-use Rattle.safety.proofs.MovesAndHistories.NewestTransitions.{Made, Heard, Offered, heard_later, offered_later, made_registry, newest_id, newest_append, newest_in, one_notified}
+use Rattle.safety.proofs.MovesAndHistories.NewestTransitions.{Made, Heard, Offered, heard_later, offered_later, made_registry, newest_id, newest_append, newest_in}
 use Rattle.units.proofs.Lists.Membership.{In, In_cases, In_flat_map}
 use Rattle.units.proofs.Lists.OneValue.{clash}
 use Rattle.safety.proofs.MovesAndHistories.TableMoves.{RegistryMove, proposes, asks, arrives, bares, concludes, finishes}
@@ -58,8 +57,8 @@ abbrev pub IsTaken : Option Transition → Type 0
 IsTaken None = ⊥
 IsTaken (Some x) = (x.new ≡ Accepted) ⊎ ((x.new ≡ Completed) ⊎ (x.new ≡ Cancelled))
 
-pub concluded_notified : (c : Code) (u : TransactionId) (new : Status) (n : Notification) → In (message.Notification n) (concluded_messages c u new) → notified_status n.notified ≡ Completed
-concluded_notified c u Completed n (inl e) = let s = one_notified _ n e in sym (ap (λ (z : Notification). notified_status z.notified) s)
+pub concluded_notified : (c : Code) (u : TransactionId) (new : Status) (n : NotificationMessage) → In (message.notification n) (concluded_messages c u new) → notified_status n.notified ≡ Completed
+concluded_notified c u Completed n (inl e) = let s = one_notified _ n e in sym (ap (λ (z : NotificationMessage). notified_status z.notified) s)
 concluded_notified c u Completed n (inr h) = absurd h
 concluded_notified c u Proposed n h = absurd h
 concluded_notified c u Checked n h = absurd h
@@ -141,31 +140,31 @@ module _ (scheme : Scheme) (c : Code) where
 
   -- ---- an Accepted that was sent: who sent it took part as acquirer, and has not rejected
 
-  arrive_pair : (es : List Entry) (i : Input) (p : Proposal) (moment : Moment) (x : Transition) → i ≡ Received (message.Proposal p) moment → RegistryMove scheme c es i x
+  arrive_pair : (es : List Entry) (i : Input) (p : ProposalMessage) (moment : Moment) (x : Transition) → i ≡ Received (message.proposal p) moment → RegistryMove scheme c es i x
       → x.new ≡ arrived_status (acquirer_findings scheme c (holding scheme c es) p.content)
   arrive_pair es i p moment x e (proposes o u none is fresh) = absurd (cc (e))
   arrive_pair es i p moment x e (arrives p' moment' found f s is none foreign mine) =
-      let a : p' ≡ p = cc (e) in
-      ap arrived_status (is ∙ ap (λ (z : Proposal). acquirer_findings scheme c (holding scheme c es) z.content) a)
+      let a = one_proposal p' p (received e) in
+      ap arrived_status (is ∙ ap (λ (z : ProposalMessage). acquirer_findings scheme c (holding scheme c es) z.content) a)
   arrive_pair es i p moment x e (asks u q old own stood) = absurd (cc (e))
-  arrive_pair es i p moment x e (bares n moment' f was none foreign) = absurd (cc (e))
-  arrive_pair es i p moment x e (concludes n moment' q new f old own move) = absurd (cc (e))
-  arrive_pair es i p moment x e (finishes n moment' q new f old foreign move none) = absurd (cc (e))
+  arrive_pair es i p moment x e (bares n moment' f was none foreign) = apart (received e) refl
+  arrive_pair es i p moment x e (concludes n moment' q new f old own move) = apart (received e) refl
+  arrive_pair es i p moment x e (finishes n moment' q new f old foreign move none) = apart (received e) refl
 
-  accepted_move : (es : List Entry) (input : Input) (q : Transition) (n : Notification) → RegistryMove scheme c es input q → In (message.Notification n) q.messages → notified_status n.notified ≡ Accepted
+  accepted_move : (es : List Entry) (input : Input) (q : Transition) (n : NotificationMessage) → RegistryMove scheme c es input q → In (message.notification n) q.messages → notified_status n.notified ≡ Accepted
       → (q.id ≡ n.id) × (same_code n.id.code c ≡ false) × ((x : Transition) → RegistryMove scheme c es input x → x.id ≡ n.id → x.new ≡ Accepted)
-  accepted_move es input q n (proposes o u none is fresh) (inl e) said = absurd (cc (e))
+  accepted_move es input q n (proposes o u none is fresh) (inl e) said = apart e refl
   accepted_move es input q n (proposes o u none is fresh) (inr h) said = absurd h
   accepted_move es input q n (arrives p moment found f s is none foreign mine) (inl e) said =
       let m = one_notified _ n e in
-      let about = ap (λ (z : Notification). z.id) m in
-      let accepted : arrived_status found ≡ Accepted = sym (arrived_notified_status found) ∙ ap (λ (z : Notification). notified_status z.notified) m ∙ said in (
+      let about = ap (λ (z : NotificationMessage). z.id) m in
+      let accepted : arrived_status found ≡ Accepted = sym (arrived_notified_status found) ∙ ap (λ (z : NotificationMessage). notified_status z.notified) m ∙ said in (
         about,
         subst (λ (z : TransactionId). same_code z.code c ≡ false) about foreign,
-        λ x move same. arrive_pair es (Received (message.Proposal p) moment) p moment x refl move ∙ sym (ap arrived_status is) ∙ accepted,
+        λ x move same. arrive_pair es (Received (message.proposal p) moment) p moment x refl move ∙ sym (ap arrived_status is) ∙ accepted,
       )
   accepted_move es input q n (arrives p moment found f s is none foreign mine) (inr h) said = absurd h
-  accepted_move es input q n (asks u p old own stood) (inl e) said = absurd (cc (e))
+  accepted_move es input q n (asks u p old own stood) (inl e) said = apart e refl
   accepted_move es input q n (asks u p old own stood) (inr h) said = absurd h
   accepted_move es input q n (bares m moment f was none foreign) h said = absurd h
   accepted_move es input q n (concludes m moment p new f old own move) h said = let x : Completed ≡ Accepted = sym (concluded_notified c p.id new n h) ∙ said in absurd (cc (x))
@@ -186,11 +185,11 @@ module _ (scheme : Scheme) (c : Code) where
         | inr a ↦ inr (inr (m.1 ∙ a))
       ]
 
-  pub accepted_sent : (es : List Entry) → Made scheme (Registry c) es → (n : Notification) → In (message.Notification n) (sends es) → notified_status n.notified ≡ Accepted
+  pub accepted_sent : (es : List Entry) → Made scheme (Registry c) es → (n : NotificationMessage) → In (message.notification n) (sends es) → notified_status n.notified ≡ Accepted
       → (same_code n.id.code c ≡ false) × IsTaken (newest (transitions_of es) n.id)
   accepted_sent [] made n h said = absurd h
   accepted_sent (e ∷ es) made n h said =
-      elim (In_cases (message.Notification n) (sends es) (messages_of e.transitions) h) [
+      elim (In_cases (message.notification n) (sends es) (messages_of e.transitions) h) [
         | inl old ↦
             let p = accepted_sent es made.1 n old said in (
               p.0,
@@ -203,7 +202,7 @@ module _ (scheme : Scheme) (c : Code) where
               ],
             )
         | inr new ↦
-            let g = In_flat_map (λ (q : Transition). q.messages) (message.Notification n) e.transitions new in
+            let g = In_flat_map (λ (q : Transition). q.messages) (message.notification n) e.transitions new in
             let m = accepted_move es e.input g.0 n (made_registry scheme c e es g.0 made g.1) g.2 said in
             let u = newest_in e.transitions (transitions_of es) g.0 n.id g.1 m.0 in
             (m.1, subst IsTaken (sym u.3) (inl (m.2 u.0 (made_registry scheme c e es u.0 made u.1) u.2)))

@@ -14,16 +14,14 @@ use Rattle.status.specs.declared.status.Status.TheVariants.{Proposed, Checked, A
 use Rattle.wire.specs.NotifiedStatuses.{notified_status}
 use Rattle.wire.specs.declared.input.Input.{Input}
 use Rattle.wire.specs.declared.message.Message.{Message}
-use Rattle.wire.specs.declared.message.Message.TheVariants as message
-use Rattle.wire.specs.declared.message.Notification.{Notification}
-use Rattle.wire.specs.declared.message.Proposal.{Proposal}
-use Rattle.wire.specs.declared.message.Request.{Request}
+use Rattle.protocol.proofs.MessageForms as message
+use Rattle.protocol.proofs.MessageForms.{ProposalMessage, NotificationMessage, RequestMessage, one_notified, one_request, apart}
 use Rattle.wire.specs.declared.message.ProposalStatus.TheVariants as proposal
 use Rattle.scheme.specs.declared.registries.Scheme.{Scheme}
 use Rattle.protocol.specs.History.{Transition, Entry, transitions_of, newest, sends, messages_of, proposals}
 use Rattle.safety.proofs.MovesAndHistories.TransitionForms.{arrived_status, concluded_messages}
 use Rattle.safety.proofs.OneRegistry.TransactionEnds.{single_same, own_code, newest_own}
-use Rattle.safety.proofs.MovesAndHistories.NewestTransitions.{Made, Offered, offered_later, made_registry, newest_id, newest_append, newest_in, one_notified, one_request}
+use Rattle.safety.proofs.MovesAndHistories.NewestTransitions.{Made, Offered, offered_later, made_registry, newest_id, newest_append, newest_in}
 use Rattle.safety.proofs.OneRegistry.UnitsCountedOnce.{made_single}
 use Rattle.units.proofs.Lists.Membership.{In, In_cases, In_flat_map}
 use Rattle.units.proofs.Lists.OneValue.{clash}
@@ -39,11 +37,11 @@ module _ (scheme : Scheme) (c : Code) where
   -- ---- the kinds of message that a registry sends
 
   pub data Says (es : List Entry) : Message → Type 0 where
-    offers : (p : Proposal) → p.from ≡ Registry c → p.to ≡ Itl → p.status ≡ proposal.Proposed → same_code p.id.code c ≡ true → Says es (message.Proposal p)
-    answers : (n : Notification) (k : Content) → n.from ≡ Registry c → n.to ≡ Itl → (notified_status n.notified ≡ Accepted) ⊎ (notified_status n.notified ≡ Rejected) → same_code n.id.code c ≡ false
-        → Offered es Itl n.id proposal.Checked k → k.acquirer ≡ c → Says es (message.Notification n)
-    completes : (n : Notification) → n.from ≡ Registry c → n.to ≡ Itl → notified_status n.notified ≡ Completed → same_code n.id.code c ≡ true → Says es (message.Notification n)
-    asks_log : (r : Request) → r.from ≡ Registry c → r.to ≡ Itl → same_code r.id.code c ≡ true → Says es (message.Request r)
+    offers : (p : ProposalMessage) → p.from ≡ Registry c → p.to ≡ Itl → p.status ≡ proposal.Proposed → same_code p.id.code c ≡ true → Says es (message.proposal p)
+    answers : (n : NotificationMessage) (k : Content) → n.from ≡ Registry c → n.to ≡ Itl → (notified_status n.notified ≡ Accepted) ⊎ (notified_status n.notified ≡ Rejected) → same_code n.id.code c ≡ false
+        → Offered es Itl n.id proposal.Checked k → k.acquirer ≡ c → Says es (message.notification n)
+    completes : (n : NotificationMessage) → n.from ≡ Registry c → n.to ≡ Itl → notified_status n.notified ≡ Completed → same_code n.id.code c ≡ true → Says es (message.notification n)
+    asks_log : (r : RequestMessage) → r.from ≡ Registry c → r.to ≡ Itl → same_code r.id.code c ≡ true → Says es (message.request r)
 
   says_later : (e : Entry) (es : List Entry) (m : Message) → Says es m → Says (e ∷ es) m
   says_later e es m (offers p from to status own) = offers p from to status own
@@ -90,18 +88,18 @@ module _ (scheme : Scheme) (c : Code) where
 
   -- ---- who asked for cancellation had proposed
 
-  asked_move : (es : List Entry) (input : Input) (x : Transition) (r : Request) → RegistryMove scheme c es input x → In (message.Request r) x.messages → x.id ≡ r.id
-  asked_move es input x r (proposes o t none is fresh) (inl e) = absurd (cc (e))
+  asked_move : (es : List Entry) (input : Input) (x : Transition) (r : RequestMessage) → RegistryMove scheme c es input x → In (message.request r) x.messages → x.id ≡ r.id
+  asked_move es input x r (proposes o t none is fresh) (inl e) = apart e refl
   asked_move es input x r (proposes o t none is fresh) (inr h) = absurd h
-  asked_move es input x r (asks t q old own stood) (inl e) = let s = one_request _ r e in ap (λ (z : Request). z.id) s
+  asked_move es input x r (asks t q old own stood) (inl e) = let s = one_request _ r e in ap (λ (z : RequestMessage). z.id) s
   asked_move es input x r (asks t q old own stood) (inr h) = absurd h
-  asked_move es input x r (arrives p moment found f s is none foreign mine) (inl e) = absurd (cc (e))
+  asked_move es input x r (arrives p moment found f s is none foreign mine) (inl e) = apart e refl
   asked_move es input x r (arrives p moment found f s is none foreign mine) (inr h) = absurd h
   asked_move es input x r (bares n moment f cancelled none foreign) h = absurd h
   asked_move es input x r (concludes n moment q new f was mine move) h = absurd (none new h)
     where
-      none : (new : Status) → In (message.Request r) (concluded_messages c q.id new) → ⊥
-      none Completed (inl e) = cc (e)
+      none : (new : Status) → In (message.request r) (concluded_messages c q.id new) → ⊥
+      none Completed (inl e) = apart e refl
       none Completed (inr i) = i
       none Proposed i = i
       none Checked i = i
@@ -111,10 +109,10 @@ module _ (scheme : Scheme) (c : Code) where
       none Cancelled i = i
   asked_move es input x r (finishes n moment q new f was foreign move none) h = absurd h
 
-  pub asked_known : (es : List Entry) → Made scheme (Registry c) es → (r : Request) → In (message.Request r) (sends es) → (x : Transition) × (newest (transitions_of es) r.id ≡ Some x)
+  pub asked_known : (es : List Entry) → Made scheme (Registry c) es → (r : RequestMessage) → In (message.request r) (sends es) → (x : Transition) × (newest (transitions_of es) r.id ≡ Some x)
   asked_known [] made r h = absurd h
   asked_known (e ∷ es) made r h =
-      elim (In_cases (message.Request r) (sends es) (messages_of e.transitions) h) [
+      elim (In_cases (message.request r) (sends es) (messages_of e.transitions) h) [
         | inl old ↦
             let p = asked_known es made.1 r old in
             elim (newest_append e.transitions (transitions_of es) r.id) [
@@ -122,26 +120,26 @@ module _ (scheme : Scheme) (c : Code) where
               | inr u ↦ (u.0, u.3)
             ]
         | inr new ↦
-            let g = In_flat_map (λ (q : Transition). q.messages) (message.Request r) e.transitions new in
+            let g = In_flat_map (λ (q : Transition). q.messages) (message.request r) e.transitions new in
             let u = newest_in e.transitions (transitions_of es) g.0 r.id g.1 (asked_move es e.input g.0 r (made_registry scheme c e es g.0 made g.1) g.2) in
             (u.0, u.3)
       ]
 
   -- ---- a Rejected that was sent stands
 
-  rejected_move : (es : List Entry) (input : Input) (q : Transition) (n : Notification) → RegistryMove scheme c es input q → In (message.Notification n) q.messages → notified_status n.notified ≡ Rejected
+  rejected_move : (es : List Entry) (input : Input) (q : Transition) (n : NotificationMessage) → RegistryMove scheme c es input q → In (message.notification n) q.messages → notified_status n.notified ≡ Rejected
       → (q.id ≡ n.id) × (q.new ≡ Rejected) × (same_code n.id.code c ≡ false)
-  rejected_move es input q n (proposes o t none is fresh) (inl e) said = absurd (cc (e))
+  rejected_move es input q n (proposes o t none is fresh) (inl e) said = apart e refl
   rejected_move es input q n (proposes o t none is fresh) (inr h) said = absurd h
   rejected_move es input q n (arrives p moment found f s is none foreign mine) (inl e) said =
       let m = one_notified _ n e in
-      let about = ap (λ (z : Notification). z.id) m in (
+      let about = ap (λ (z : NotificationMessage). z.id) m in (
         about,
-        sym (arrived_notified_status found) ∙ ap (λ (z : Notification). notified_status z.notified) m ∙ said,
+        sym (arrived_notified_status found) ∙ ap (λ (z : NotificationMessage). notified_status z.notified) m ∙ said,
         subst (λ (z : TransactionId). same_code z.code c ≡ false) about foreign,
       )
   rejected_move es input q n (arrives p moment found f s is none foreign mine) (inr h) said = absurd h
-  rejected_move es input q n (asks t p old own stood) (inl e) said = absurd (cc (e))
+  rejected_move es input q n (asks t p old own stood) (inl e) said = apart e refl
   rejected_move es input q n (asks t p old own stood) (inr h) said = absurd h
   rejected_move es input q n (bares m moment f cancelled none foreign) h said = absurd h
   rejected_move es input q n (concludes m moment p new f was mine move) h said = let x : Completed ≡ Rejected = sym (concluded_notified c p.id new n h) ∙ said in absurd (cc (x))
@@ -160,11 +158,11 @@ module _ (scheme : Scheme) (c : Code) where
       let y : Accepted ≡ Rejected = sym (acquirer_from p.new (notified_status n.notified) new move).0 ∙ ap (λ (z : Transition). z.new) same ∙ was in
       cc (y)
 
-  pub rejected_sent : (es : List Entry) → Made scheme (Registry c) es → (n : Notification) → In (message.Notification n) (sends es) → notified_status n.notified ≡ Rejected
+  pub rejected_sent : (es : List Entry) → Made scheme (Registry c) es → (n : NotificationMessage) → In (message.notification n) (sends es) → notified_status n.notified ≡ Rejected
       → (x : Transition) × (newest (transitions_of es) n.id ≡ Some x) × (x.new ≡ Rejected) × (same_code n.id.code c ≡ false)
   rejected_sent [] made n h said = absurd h
   rejected_sent (e ∷ es) made n h said =
-      elim (In_cases (message.Notification n) (sends es) (messages_of e.transitions) h) [
+      elim (In_cases (message.notification n) (sends es) (messages_of e.transitions) h) [
         | inl old ↦
             let p = rejected_sent es made.1 n old said in
             elim (newest_append e.transitions (transitions_of es) n.id) [
@@ -174,7 +172,7 @@ module _ (scheme : Scheme) (c : Code) where
                   (subst (λ (z : TransactionId). same_code z.code c ≡ false) (sym u.2) p.3))
             ]
         | inr new ↦
-            let g = In_flat_map (λ (q : Transition). q.messages) (message.Notification n) e.transitions new in
+            let g = In_flat_map (λ (q : Transition). q.messages) (message.notification n) e.transitions new in
             let m = rejected_move es e.input g.0 n (made_registry scheme c e es g.0 made g.1) g.2 said in
             let u = newest_in e.transitions (transitions_of es) g.0 n.id g.1 m.0 in
             (u.0, u.3, ap (λ (z : Transition). z.new) (single_same e.transitions u.0 g.0 (made_single scheme c e es made) u.1 g.1) ∙ m.1, m.2)

@@ -26,10 +26,8 @@ use Rattle.status.specs.declared.status.Status.{Status}
 use Rattle.status.specs.declared.status.Status.TheVariants.{Proposed, Checked, Accepted, Rejected, Terminated, Cancelled, Completed}
 use Rattle.wire.specs.NotifiedStatuses.{notified_status}
 use Rattle.wire.specs.declared.input.Input.{Input}
-use Rattle.wire.specs.declared.message.Message.TheVariants as message
-use Rattle.wire.specs.declared.message.Notification.{Notification}
-use Rattle.wire.specs.declared.message.Proposal.{Proposal}
-use Rattle.wire.specs.declared.message.Request.{Request}
+use Rattle.protocol.proofs.MessageForms as message
+use Rattle.protocol.proofs.MessageForms.{ProposalMessage, NotificationMessage, RequestMessage, one_notified, one_proposal, apart}
 use Rattle.wire.specs.declared.message.ProposalStatus.TheVariants as proposal
 use Rattle.scheme.specs.declared.registries.Scheme.{Scheme}
 use Rattle.protocol.specs.Registries.{has_member}
@@ -40,7 +38,7 @@ use Rattle.protocol.specs.AtLog.{is_no_registry, is_from_another}
 use Rattle.safety.proofs.MovesAndHistories.TransitionForms.{arrived_status, concluded_messages, checked_status}
 use Rattle.units.proofs.Lists.SomePass.{list_any_not}
 use Rattle.protocol.proofs.CountsInLists.{number_none, count_no, count_yes}
-use Rattle.safety.proofs.MovesAndHistories.NewestTransitions.{Made, Got, Heard, Offered, heard_later, offered_later, made_registry, made_log, newest_append, newest_id, newest_in, one_notified, one_proposal}
+use Rattle.safety.proofs.MovesAndHistories.NewestTransitions.{Made, Got, Heard, Offered, heard_later, offered_later, made_registry, made_log, newest_append, newest_id, newest_in}
 use Rattle.safety.proofs.OneRegistry.UnitsCountedOnce.{made_single, Single}
 use Rattle.units.proofs.Lists.Membership.{In, In_cases, In_flat_map, In_left, In_right}
 use Rattle.units.proofs.Lists.OneValue.{one_some, clash}
@@ -55,8 +53,8 @@ arrived_open [] h = cc (h)
 arrived_open (n ∷ ns) h = cc (h)
 
 -- what an initiator sends where its transfer comes to stand so is that it completed
-concluded_completed : (c : Code) (u : TransactionId) (new : Status) (n : Notification) → In (message.Notification n) (concluded_messages c u new) → (u ≡ n.id) × (new ≡ Completed)
-concluded_completed c u Completed n (inl e) = let s = one_notified _ n e in (ap (λ (z : Notification). z.id) s, refl)
+concluded_completed : (c : Code) (u : TransactionId) (new : Status) (n : NotificationMessage) → In (message.notification n) (concluded_messages c u new) → (u ≡ n.id) × (new ≡ Completed)
+concluded_completed c u Completed n (inl e) = let s = one_notified _ n e in (ap (λ (z : NotificationMessage). z.id) s, refl)
 concluded_completed c u Completed n (inr h) = absurd h
 concluded_completed c u Proposed n h = absurd h
 concluded_completed c u Checked n h = absurd h
@@ -65,8 +63,8 @@ concluded_completed c u Rejected n h = absurd h
 concluded_completed c u Terminated n h = absurd h
 concluded_completed c u Cancelled n h = absurd h
 
-pub concluded_offers : (c : Code) (u : TransactionId) (new : Status) (p : Proposal) → In (message.Proposal p) (concluded_messages c u new) → ⊥
-concluded_offers c u Completed p (inl e) = cc (e)
+pub concluded_offers : (c : Code) (u : TransactionId) (new : Status) (p : ProposalMessage) → In (message.proposal p) (concluded_messages c u new) → ⊥
+concluded_offers c u Completed p (inl e) = apart e refl
 concluded_offers c u Completed p (inr h) = h
 concluded_offers c u Proposed p h = h
 concluded_offers c u Checked p h = h
@@ -220,19 +218,19 @@ module _ (scheme : Scheme) (c : Code) where
 
   -- ---- what was offered
 
-  offer_move : (es : List Entry) (input : Input) (x : Transition) (p : Proposal) → RegistryMove scheme c es input x → In (message.Proposal p) x.messages
+  offer_move : (es : List Entry) (input : Input) (x : Transition) (p : ProposalMessage) → RegistryMove scheme c es input x → In (message.proposal p) x.messages
       → (x.id ≡ p.id) × (x.content ≡ Some p.content) × (same_code p.id.code c ≡ true)
   offer_move es input x p (proposes o t none is fresh) (inl e) =
       let s = one_proposal _ p e in
-      let about : t ≡ p.id = ap (λ (z : Proposal). z.id) s in (
+      let about : t ≡ p.id = ap (λ (z : ProposalMessage). z.id) s in (
         about,
-        ap (λ (z : Proposal). Some z.content) s,
+        ap (λ (z : ProposalMessage). Some z.content) s,
         subst (λ (z : TransactionId). same_code z.code c ≡ true) about (own_code (proposals es + 1) t is),
       )
   offer_move es input x p (proposes o t none is fresh) (inr h) = absurd h
-  offer_move es input x p (arrives q moment found f s is none foreign mine) (inl e) = absurd (cc (e))
+  offer_move es input x p (arrives q moment found f s is none foreign mine) (inl e) = apart e refl
   offer_move es input x p (arrives q moment found f s is none foreign mine) (inr h) = absurd h
-  offer_move es input x p (asks t q was own stood) (inl e) = absurd (cc (e))
+  offer_move es input x p (asks t q was own stood) (inl e) = apart e refl
   offer_move es input x p (asks t q was own stood) (inr h) = absurd h
   offer_move es input x p (bares n moment f cancelled none foreign) h = absurd h
   offer_move es input x p (concludes n moment q new f was mine move) h = absurd (concluded_offers c q.id new p h)
@@ -248,11 +246,11 @@ module _ (scheme : Scheme) (c : Code) where
   own_keeps es input x y made (finishes n moment q new f was foreign move none) h own = clash (same_code n.id.code c) (own_about es n.id q was own) foreign
 
   -- what a registry proposed is the content of its transfer for good
-  pub offered : (es : List Entry) → Made scheme (Registry c) es → (p : Proposal) → In (message.Proposal p) (sends es)
+  pub offered : (es : List Entry) → Made scheme (Registry c) es → (p : ProposalMessage) → In (message.proposal p) (sends es)
       → (x : Transition) × (newest (transitions_of es) p.id ≡ Some x) × (x.content ≡ Some p.content) × (same_code p.id.code c ≡ true)
   offered [] made p h = absurd h
   offered (e ∷ es) made p h =
-      elim (In_cases (message.Proposal p) (sends es) (messages_of e.transitions) h) [
+      elim (In_cases (message.proposal p) (sends es) (messages_of e.transitions) h) [
         | inl old ↦
             let o = offered es made.1 p old in
             elim (newest_append e.transitions (transitions_of es) p.id) [
@@ -267,7 +265,7 @@ module _ (scheme : Scheme) (c : Code) where
               )
             ]
         | inr new ↦
-            let g = In_flat_map (λ (q : Transition). q.messages) (message.Proposal p) e.transitions new in
+            let g = In_flat_map (λ (q : Transition). q.messages) (message.proposal p) e.transitions new in
             let n = offer_move es e.input g.0 p (made_registry scheme c e es g.0 made g.1) g.2 in
             let u = newest_in e.transitions (transitions_of es) g.0 p.id g.1 n.0 in
             (u.0, u.3, ap (λ (z : Transition). z.content) (single_same e.transitions u.0 g.0 (made_single scheme c e es made) u.1 g.1) ∙ n.1, n.2)
@@ -275,15 +273,15 @@ module _ (scheme : Scheme) (c : Code) where
 
   -- ---- what was said to be completed
 
-  completed_move : (es : List Entry) (input : Input) (x : Transition) (n : Notification) → RegistryMove scheme c es input x → In (message.Notification n) x.messages → notified_status n.notified ≡ Completed
+  completed_move : (es : List Entry) (input : Input) (x : Transition) (n : NotificationMessage) → RegistryMove scheme c es input x → In (message.notification n) x.messages → notified_status n.notified ≡ Completed
       → (x.id ≡ n.id) × (x.new ≡ Completed) × (same_code n.id.code c ≡ true)
-  completed_move es input x n (proposes o t none is fresh) (inl e) said = absurd (cc (e))
+  completed_move es input x n (proposes o t none is fresh) (inl e) said = apart e refl
   completed_move es input x n (proposes o t none is fresh) (inr h) said = absurd h
   completed_move es input x n (arrives p moment found f s is none foreign mine) (inl e) said =
       let m = one_notified _ n e in
-      absurd (arrived_open found (sym (arrived_notified_status found) ∙ ap (λ (z : Notification). notified_status z.notified) m ∙ said))
+      absurd (arrived_open found (sym (arrived_notified_status found) ∙ ap (λ (z : NotificationMessage). notified_status z.notified) m ∙ said))
   completed_move es input x n (arrives p moment found f s is none foreign mine) (inr h) said = absurd h
-  completed_move es input x n (asks t q was own stood) (inl e) said = absurd (cc (e))
+  completed_move es input x n (asks t q was own stood) (inl e) said = apart e refl
   completed_move es input x n (asks t q was own stood) (inr h) said = absurd h
   completed_move es input x n (bares m moment f cancelled none foreign) h said = absurd h
   completed_move es input x n (concludes m moment q new f was mine move) h said =
@@ -292,14 +290,14 @@ module _ (scheme : Scheme) (c : Code) where
   completed_move es input x n (finishes m moment q new f was foreign move none) h said = absurd h
 
   -- a Completed that was sent was recorded
-  pub completed_sent : (es : List Entry) → Made scheme (Registry c) es → (n : Notification) → In (message.Notification n) (sends es) → notified_status n.notified ≡ Completed
+  pub completed_sent : (es : List Entry) → Made scheme (Registry c) es → (n : NotificationMessage) → In (message.notification n) (sends es) → notified_status n.notified ≡ Completed
       → (x : Transition) × In x (transitions_of es) × (x.id ≡ n.id) × (x.new ≡ Completed) × (same_code n.id.code c ≡ true)
   completed_sent [] made n h said = absurd h
   completed_sent (e ∷ es) made n h said =
-      elim (In_cases (message.Notification n) (sends es) (messages_of e.transitions) h) [
+      elim (In_cases (message.notification n) (sends es) (messages_of e.transitions) h) [
         | inl old ↦ let p = completed_sent es made.1 n old said in (p.0, In_right p.0 e.transitions (transitions_of es) p.1, p.2, p.3, p.4)
         | inr new ↦
-            let g = In_flat_map (λ (q : Transition). q.messages) (message.Notification n) e.transitions new in
+            let g = In_flat_map (λ (q : Transition). q.messages) (message.notification n) e.transitions new in
             let m = completed_move es e.input g.0 n (made_registry scheme c e es g.0 made g.1) g.2 said in
             (g.0, In_left g.0 e.transitions (transitions_of es) g.1, m.0, m.1, m.2)
       ]
@@ -370,8 +368,8 @@ pub record Proposer (scheme : Scheme) (es : List Entry) (t : TransactionId) (x :
 pub record Forestalled (es : List Entry) (t : TransactionId) (x : Transition) : Type 0 where
   pub new : x.new ≡ Cancelled
   pub content : x.content ≡ None
-  pub request : Request
-  pub got : Got es (message.Request request)
+  pub request : RequestMessage
+  pub got : Got es (message.request request)
   pub sender : request.from ≡ Registry t.code
   pub about : request.id ≡ t
 

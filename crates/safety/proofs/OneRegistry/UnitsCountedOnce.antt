@@ -31,7 +31,8 @@ use Rattle.wire.specs.NotifiedStatuses.{notified_status}
 use Rattle.wire.specs.declared.input.Input.{Input}
 use Rattle.wire.specs.declared.input.Input.TheVariants.{Propose, Request, OpenAccount, CloseAccount, Ack, CleanUp, Eligible, Received}
 use Rattle.wire.specs.declared.message.Message.{Message}
-use Rattle.wire.specs.declared.message.Message.TheVariants as message
+use Rattle.wire.specs.declared.message.Body.{Body}
+use Rattle.wire.specs.declared.message.Body.TheVariants as body
 use Rattle.scheme.specs.declared.registries.Scheme.{Scheme}
 use Rattle.protocol.specs.Pieces.{Piece, pieces}
 use Rattle.protocol.specs.Registries.{allotted}
@@ -100,10 +101,10 @@ module _ (scheme : Scheme) (c : Code) (es : List Entry) where
       single_cond (same_code t.code c) _ _ (single_row _ (initiator_row (known last) input))
       (single_row _ (unless_held (holds_some scheme c (transitions_of es) (content_in last)) (acquirer_row (known last) input)))
 
-  single_answer : (m : Message) (moment : ℕ) → Single (made_of (registry_answer scheme c es moment m))
-  single_answer (message.Proposal p) moment = single_row _ (acquirer_row (known (newest (transitions_of es) p.id)) _)
-  single_answer (message.Notification n) moment = single_in_role n.id (newest (transitions_of es) n.id) moment (column.Notified (notified_status n.notified))
-  single_answer (message.Request r) moment = single_in_role r.id (newest (transitions_of es) r.id) moment column.Request
+  single_answer : (t : TransactionId) (b : Body) (moment : ℕ) → Single (made_of (registry_answer scheme c es moment t b))
+  single_answer t (body.Proposal p) moment = single_row _ (acquirer_row (known (newest (transitions_of es) t)) _)
+  single_answer t (body.Notification n) moment = single_in_role t (newest (transitions_of es) t) moment (column.Notified (notified_status n))
+  single_answer t body.Request moment = single_in_role t (newest (transitions_of es) t) moment column.Request
 
   single_transitions : (input : Input) → Single (made_of (registry_verdict scheme c es input))
   single_transitions (Propose o) =
@@ -119,7 +120,7 @@ module _ (scheme : Scheme) (c : Code) (es : List Entry) where
       (single_cond (is_acknowledged es n.value) IsRepeat (recorded_if_room scheme es []) (inl refl) (none_enter scheme es))
   single_transitions (CleanUp t) = inl refl
   single_transitions (Eligible d may) = inl refl
-  single_transitions (Received m moment) = single_refuse (registry_refusals c es m) (registry_answer scheme c es moment.seconds m) (single_answer m moment.seconds)
+  single_transitions (Received m moment) = single_refuse (registry_refusals c es m) (registry_answer scheme c es moment.seconds m.id m.body) (single_answer m.id m.body moment.seconds)
 
 pub made_single : (scheme : Scheme) (c : Code) (e : Entry) (es : List Entry) → Made scheme (Registry c) (e ∷ es) → Single e.transitions
 unfolding verdict

@@ -17,12 +17,11 @@ use Rattle.units.specs.declared.code.Node.{Node}
 use Rattle.units.specs.declared.code.Node.TheVariants.{Registry}
 use Rattle.status.specs.declared.id.TransactionId.{TransactionId}
 use Rattle.status.specs.declared.status.Status.TheVariants.{Completed}
-use Rattle.wire.specs.declared.message.Proposal.{Proposal}
 use Rattle.scheme.specs.declared.members.SchemeRegistry.{SchemeRegistry}
 use Rattle.scheme.specs.declared.registries.Scheme.{Scheme}
 use Rattle.protocol.specs.Claims.{at_registry, is_received, live_of, owes, owed}
 use Rattle.protocol.specs.History.{Transition, Entry, newest, stands_at, is_status, has_serial, gives, sends}
-use Rattle.protocol.specs.Table.{due, is_due, proposed}
+use Rattle.protocol.specs.Table.{ProposedTransfer, due, is_due, proposed}
 use Rattle.protocol.specs.World.{opening, run}
 use Rattle.protocol.specs.declared.event.WorldEvent.{WorldEvent}
 use Rattle.units.proofs.Lists.Membership.{In, In_filter, filter_In, In_map, map_In}
@@ -31,7 +30,7 @@ use Rattle.units.proofs.Lists.OneValue.{one_some}
 use Rattle.protocol.proofs.CountsInLists.{number_append, picked, length_picked, In_picked, picked_In}
 use Rattle.safety.proofs.AgreementOfNodes.CompletionsAgree.{done_status, given, is_given, stood, completed_once}
 use Rattle.safety.proofs.MovesAndHistories.NewestTransitions.{Made, newest_id}
-use Rattle.safety.proofs.OneRegistry.ProposedTransfers.{ids, In_proposals, proposals_In, proposed_once, was_proposed}
+use Rattle.safety.proofs.OneRegistry.ProposedTransfers.{ids, proposals_In, proposed_once, proposed_stands, transfer_in, was_proposed}
 use Rattle.safety.proofs.OneRegistry.TransactionEnds.{offered, ends_last}
 use Rattle.safety.proofs.OwnersOfUnits.SumsOverRegistries.{over_same}
 use Rattle.safety.proofs.WorldLemmas.ReachedWorlds.{reached, reached_scheme, reached_live}
@@ -39,13 +38,13 @@ use Rattle.safety.proofs.WorldLemmas.ReachedWorlds.{reached, reached_scheme, rea
 -- ---- lists of proposals
 
 -- those that pass have no repeats where all have none
-filter_once : (test : Proposal → Bool) (ps : List Proposal) → NoRepeat (ids ps) → NoRepeat (ids (filter test ps))
+filter_once : (test : ProposedTransfer → Bool) (ps : List ProposedTransfer) → NoRepeat (ids ps) → NoRepeat (ids (filter test ps))
 filter_once test [] n = tt
 filter_once test (p ∷ ps) n =
     elim (cases_Bool (test p)) [
       | inl y ↦
           subst (λ z. NoRepeat (ids z)) (sym (cond-true (test p) (p ∷ filter test ps) (filter test ps) y))
-          ((λ i. let q = In_map (λ (z : Proposal). z.id) p.id (filter test ps) i in n.0 (subst (λ t. In t (ids ps)) q.2 (map_In (λ (z : Proposal). z.id) q.0 ps (In_filter test ps q.0 q.1).0))), filter_once test ps n.1)
+          ((λ i. let q = In_map (λ (z : ProposedTransfer). z.id) p.id (filter test ps) i in n.0 (subst (λ t. In t (ids ps)) q.2 (map_In (λ (z : ProposedTransfer). z.id) q.0 ps (In_filter test ps q.0 q.1).0))), filter_once test ps n.1)
       | inr f ↦ subst (λ z. NoRepeat (ids z)) (sym (cond-false (test p) (p ∷ filter test ps) (filter test ps) f)) (filter_once test ps n.1)
     ]
 
@@ -59,7 +58,7 @@ count_filter {X} p q (x ∷ xs) = go (q x) (count_filter p q xs) (sum_by-cons (�
     go true e s = let u = sum_by-cons (λ (z : X). cond {A = ℕ} (p z) 1 0) x (filter q xs) in omega arith
     go false e s = omega arith
 
-count_flat : (p : Proposal → Bool) (g : SchemeRegistry → List Proposal) (ms : List SchemeRegistry) → count_by p (flat_map g ms) ≡ sum_by (λ m. count_by p (g m)) ms
+count_flat : (p : ProposedTransfer → Bool) (g : SchemeRegistry → List ProposedTransfer) (ms : List SchemeRegistry) → count_by p (flat_map g ms) ≡ sum_by (λ m. count_by p (g m)) ms
 count_flat p g [] = refl
 count_flat p g (m ∷ ms) =
     let a = number_append p (g m) (flat_map g ms) in
@@ -71,21 +70,21 @@ count_flat p g (m ∷ ms) =
 
 module _ (scheme : Scheme) (f : Node → List Entry) (s : Serial) where
   -- the transfer is due and has the unit
-  abbrev is_due_with : Proposal → Bool
+  abbrev is_due_with : ProposedTransfer → Bool
   is_due_with p = is_due f p && have_unit p.content.units s
 
-  abbrev dues : Code → List Proposal
+  abbrev dues : Code → List ProposedTransfer
   dues c = filter is_due_with (proposed (f (Registry c)))
 
   -- a transfer that is due stands Completed with its content
   due_owes : (c : Code) → Made scheme (Registry c) (f (Registry c)) → (t : TransactionId) → In t (ids (dues c)) → In t (picked (owes f c s) (at_registry f c))
   due_owes c made t h =
-      let g = In_map (λ (z : Proposal). z.id) t (dues c) h in
+      let g = In_map (λ (z : ProposedTransfer). z.id) t (dues c) h in
       let p = g.0 in
       let i = In_filter is_due_with (proposed (f (Registry c))) p g.1 in
       let parts = and_parts (is_due f p) (have_unit p.content.units s) i.1 in
       let due = and_parts (stands_at (at_registry f p.id.code) p.id Completed) (not (is_received f p.id (Some p.content))) parts.0 in
-      let o = offered scheme c (f (Registry c)) made p (In_proposals (sends (f (Registry c))) p i.0) in
+      let o = proposed_stands scheme c (f (Registry c)) made p i.0 in
       let x = o.0 in
       let id = newest_id (at_registry f c) p.id x o.1 in
       let here : stands_at (at_registry f c) p.id Completed ≡ true = subst (λ z. stands_at (at_registry f z) p.id Completed ≡ true) (code_of_same p.id.code c o.3) due.0 in
@@ -117,15 +116,15 @@ module _ (scheme : Scheme) (f : Node → List Entry) (s : Serial) where
       let waits : not (is_received f p.id (Some p.content)) ≡ true =
       subst (λ z. not (is_received f z (Some p.content)) ≡ true) (sym q.2) (subst (λ k. not (is_received f x.id k) ≡ true) content parts.1) in
       let has : have_unit p.content.units s ≡ true = subst (λ k. has_serial k s ≡ true) content out.2 in
-      let is = and_from (is_due f p) (have_unit p.content.units s) (and_from (stands_at (at_registry f p.id.code) p.id Completed) (not (is_received f p.id (Some p.content))) stands_there waits) has in
+      let is = and_from (is_due f (transfer_in p)) (have_unit p.content.units s) (and_from (stands_at (at_registry f p.id.code) p.id Completed) (not (is_received f p.id (Some p.content))) stands_there waits) has in
       subst (λ z. In z (ids (dues c))) (q.2 ∙ g.3)
-      (map_In (λ (z : Proposal). z.id) p (dues c) (filter_In is_due_with p (proposed (f (Registry c))) (proposals_In (sends (f (Registry c))) p q.1) is))
+      (map_In (λ (z : ProposedTransfer). z.id) (transfer_in p) (dues c) (filter_In is_due_with (transfer_in p) (proposed (f (Registry c))) (proposals_In (sends (f (Registry c))) p q.1) is))
 
   pub due_as_owed : (c : Code) → Made scheme (Registry c) (f (Registry c)) → count_by is_due_with (proposed (f (Registry c))) ≡ count_by (owes f c s) (at_registry f c)
   due_as_owed c made =
       let once = filter_once is_due_with (proposed (f (Registry c))) (proposed_once scheme c (f (Registry c)) made) in
       let ends = completed_once scheme c (owes f c s) (λ x h. (given c s x (and_parts (gives c s x) (not (is_received f x.id x.content)) h).0).0) (f (Registry c)) made in
-      sym (length-filter is_due_with (proposed (f (Registry c)))) ∙ sym (length-map (dues c) (λ (z : Proposal). z.id)) ∙ same_length (ids (dues c)) (picked (owes f c s) (at_registry f c)) once ends (due_owes c made) (owes_due c made) ∙ length_picked (owes f c s) (at_registry f c)
+      sym (length-filter is_due_with (proposed (f (Registry c)))) ∙ sym (length-map (dues c) (λ (z : ProposedTransfer). z.id)) ∙ same_length (ids (dues c)) (picked (owes f c s) (at_registry f c)) once ends (due_owes c made) (owes_due c made) ∙ length_picked (owes f c s) (at_registry f c)
 
   -- ---- all registries
 
@@ -141,5 +140,5 @@ pub reached_debts : (scheme : Scheme) (events : List WorldEvent) (s : Serial) �
 reached_debts scheme events s =
     let w = reached scheme events in
     let f = live_of w in
-    ap (λ (z : Scheme). count_by (λ (p : Proposal). have_unit p.content.units s) (filter (is_due f) (flat_map (λ (m : SchemeRegistry). proposed (f (Registry m.code))) z.members))) (reached_scheme scheme events)
+    ap (λ (z : Scheme). count_by (λ (p : ProposedTransfer). have_unit p.content.units s) (filter (is_due f) (flat_map (λ (m : SchemeRegistry). proposed (f (Registry m.code))) z.members))) (reached_scheme scheme events)
     ∙ debts scheme f s (λ c. (reached_live scheme events).made (Registry c))

@@ -23,7 +23,7 @@ use Rattle.status.specs.declared.rows.Row.TheVariants.{Move}
 use Rattle.status.specs.declared.rows.RowInput.TheVariants.{Notified}
 use Rattle.status.specs.declared.status.Status.{Status}
 use Rattle.status.specs.declared.status.Status.TheVariants.{Proposed, Checked, Accepted, Rejected, Terminated, Cancelled, Completed}
-use Rattle.wire.specs.declared.message.Message.TheVariants as message
+use Rattle.protocol.proofs.MessageForms as message
 use Rattle.wire.specs.declared.message.ProposalStatus.TheVariants as proposal
 use Rattle.wire.specs.declared.notified.NotifiedStatus.TheVariants as notified
 use Rattle.scheme.specs.declared.registries.Scheme.{Scheme}
@@ -113,8 +113,8 @@ module _ (scheme : Scheme) (moment : Moment) (t : TransactionId) where
       let agrees = completed_agrees scheme (committed_of w) c (Registry t.code) t (stands_so (transitions_of (committed_of w (Registry t.code))) t x Completed s.is done) in
       let b = log_backed scheme (committed_of w Itl) (c.made Itl) t agrees.0 agrees.1 agrees.2 in
       let content : b.content ≡ k = one_some b.content k (sym b.known ∙ log_content scheme t w x k s agrees.0 agrees.1 (λ e. subst IsAgreed e agrees.2)) in
-      let said : In (message.Notification b.heard.notification) (sends (committed_of w (Registry k.acquirer))) =
-      subst (λ (z : Content). In (message.Notification b.heard.notification) (sends (committed_of w (Registry z.acquirer)))) content
+      let said : In (message.notification b.heard.notification) (sends (committed_of w (Registry k.acquirer))) =
+      subst (λ (z : Content). In (message.notification b.heard.notification) (sends (committed_of w (Registry z.acquirer)))) content
       (heard_sent scheme (committed_of w) c Itl (Registry b.content.acquirer) t Accepted b.heard) in
       let taken = accepted_sent scheme k.acquirer (committed_of w (Registry k.acquirer)) (c.made (Registry k.acquirer)) b.heard.notification said b.heard.told in
       let p = taken_at (newest (transitions_of (committed_of w (Registry k.acquirer))) t) (subst (λ z. IsTaken (newest (transitions_of (committed_of w (Registry k.acquirer))) z)) b.heard.about taken.1) in
@@ -158,7 +158,7 @@ module _ (scheme : Scheme) (moment : Moment) (t : TransactionId) where
           let r = refusal scheme (committed_of w Itl) (c.made Itl) t l log d in
           let content : r.0 ≡ k = one_some r.0 k (sym r.1 ∙ log_content scheme t w x k s l log (λ y. let z : Rejected ≡ Cancelled = sym d ∙ y in cc (z))) in
           let sent =
-          subst (λ (z : Content). In (message.Notification r.2.notification) (sends (committed_of w (Registry z.acquirer)))) content
+          subst (λ (z : Content). In (message.notification r.2.notification) (sends (committed_of w (Registry z.acquirer)))) content
           (heard_sent scheme (committed_of w) c Itl (Registry r.0.acquirer) t Rejected r.2) in
           let q = rejected_sent scheme k.acquirer (committed_of w (Registry k.acquirer)) (c.made (Registry k.acquirer)) r.2.notification sent r.2.told in
           let at_t : newest (transitions_of (committed_of w (Registry k.acquirer))) t ≡ Some q.0 = subst (λ z. newest (transitions_of (committed_of w (Registry k.acquirer))) z ≡ Some q.0) r.2.about q.1 in

@@ -20,7 +20,6 @@ use Rattle.protocol.specs.History.{Entry, Transition, newest, sends, transitions
 use Rattle.protocol.specs.Registries.{is_node}
 use Rattle.protocol.specs.Verdict.{history, transitions_made, verdict}
 use Rattle.protocol.specs.WayOut.{OnlyTransport}
-use Rattle.wire.specs.Parties.{receiver, sender}
 use Rattle.protocol.specs.World.{World, run, station}
 use Rattle.protocol.specs.declared.event.WorldEvent.{WorldEvent}
 use Rattle.protocol.specs.declared.event.WorldEvent.TheVariants.{Commit, Deliver, Post}
@@ -66,13 +65,13 @@ pub record Went (scheme : Scheme) (w : World) (t : TransactionId) (n : Node) (x 
   pub elsewhere : (m : Node) → same_node n m ≡ false → committed_of (run w events) m ≡ committed_of w m
   pub longer : (m : Node) → length (committed_of (run w events) m) ≤ length (committed_of w m) + cond (same_node n m) 1 0
 
-pub send : (scheme : Scheme) (w : World) → Calm scheme w → (m : Message) (moment : Moment) (t : TransactionId) (x : Transition) → is_node scheme (receiver m) ≡ true → In m (sends (committed_of w (sender m)))
-    → verdict scheme (receiver m) (committed_of w (receiver m)) (Received m moment) ≡ IsRecorded (x ∷ []) → x.id ≡ t → Went scheme w t (receiver m) x
+pub send : (scheme : Scheme) (w : World) → Calm scheme w → (m : Message) (moment : Moment) (t : TransactionId) (x : Transition) → is_node scheme m.to ≡ true → In m (sends (committed_of w m.from))
+    → verdict scheme m.to (committed_of w m.to) (Received m moment) ≡ IsRecorded (x ∷ []) → x.id ≡ t → Went scheme w t m.to x
 send scheme w calm m moment t x node sent says id =
-    let n = receiver m in
+    let n = m.to in
     let says_here : verdict w.scheme n (committed_of w n) (Received m moment) ≡ IsRecorded (x ∷ []) = subst (λ (z : Scheme). verdict z n (committed_of w n) (Received m moment) ≡ IsRecorded (x ∷ [])) (sym calm.same) says in
     let d = delivers w calm.quiet m moment (x ∷ []) (subst (λ (z : Scheme). is_node z n ≡ true) (sym calm.same) node) sent says_here in
-    let events : List WorldEvent = Post (sender m) d.0 ∷ Deliver (length w.bag) moment ∷ Commit (receiver m) 1 ∷ [] in
+    let events : List WorldEvent = Post m.from d.0 ∷ Deliver (length w.bag) moment ∷ Commit m.to 1 ∷ [] in
     let here = grown_entry w events n (Received m moment) d.1 (x ∷ []) says_here in
     let elsewhere = grown_elsewhere w events n (Received m moment) d.1 in
     record {

@@ -38,7 +38,6 @@ use Rattle.protocol.specs.Effects.{notifies, proposes, initiator_sends, log_send
 use Rattle.protocol.specs.History.{Entry, Transition, newest, sends, transitions_of}
 use Rattle.protocol.specs.Registries.{is_node}
 use Rattle.protocol.specs.Verdict.{verdict}
-use Rattle.wire.specs.Parties.{receiver, sender}
 use Rattle.protocol.specs.World.{World}
 use Rattle.safety.proofs.MovesAndHistories.TransitionForms.{arrived, concluded_messages, checked, told_to, moved}
 use Rattle.safety.proofs.AgreementOfNodes.CausalHistories.{Causal}
@@ -101,8 +100,8 @@ module _ (scheme : Scheme) (w : World) (calm : Calm scheme w) where
   unplaced n h = committed_unplaced w calm.quiet.placed n (subst (λ (z : Scheme). is_node z n ≡ false) (sym calm.same) h)
 
 module _ (scheme : Scheme) (moment : Moment) (w : World) (calm : Calm scheme w) where
-  heard : (m : Message) → In m (sends (committed_of w (sender m))) → Welcome (verdict scheme (receiver m) (committed_of w (receiver m)) (Received m moment))
-  heard m h = welcome scheme (committed_of w) (causal scheme w calm) (unplaced scheme w calm) (sender m) (receiver m) m moment refl refl h
+  heard : (m : Message) → In m (sends (committed_of w m.from)) → Welcome (verdict scheme m.to (committed_of w m.to) (Received m moment))
+  heard m h = welcome scheme (committed_of w) (causal scheme w calm) (unplaced scheme w calm) m.from m.to m moment refl refl h
 
   -- ---- at the log
 
@@ -113,7 +112,7 @@ module _ (scheme : Scheme) (moment : Moment) (w : World) (calm : Calm scheme w) 
   unfolding verdict
   log_takes_offer c t k h none room =
       let m : Message = proposes (Registry c) Itl t proposal.Proposed k in
-      unrefused (log_refusals scheme (committed_of w Itl) m) (log_answer scheme (committed_of w Itl) moment.seconds m) (heard m h) (refl, (refl, (refl, (refl, (refl, tt)))))
+      unrefused (log_refusals scheme (committed_of w Itl) m) (log_answer scheme (committed_of w Itl) moment.seconds m.id m.body) (heard m h) (refl, (refl, (refl, (refl, (refl, tt)))))
       ∙ ap (λ o. log.checked scheme (committed_of w Itl) t o k moment.seconds (log_findings scheme (ledger scheme (committed_of w Itl)) t.code k)) none
       ∙ checked_here scheme (committed_of w Itl) t k moment.seconds (log_findings scheme (ledger scheme (committed_of w Itl)) t.code k) room
 
@@ -123,7 +122,7 @@ module _ (scheme : Scheme) (moment : Moment) (w : World) (calm : Calm scheme w) 
   unfolding verdict
   log_takes_notified c t said l k new content h is move room =
       let m : Message = notifies (Registry c) Itl t said in
-      unrefused (log_refusals scheme (committed_of w Itl) m) (log_answer scheme (committed_of w Itl) moment.seconds m) (heard m h) (refl, (refl, (refl, (refl, tt))))
+      unrefused (log_refusals scheme (committed_of w Itl) m) (log_answer scheme (committed_of w Itl) moment.seconds m.id m.body) (heard m h) (refl, (refl, (refl, (refl, tt))))
       ∙ ap (λ o. log.told scheme (committed_of w Itl) t o (notified_codes said) moment.seconds (Notified (notified_status said))) is
       ∙ ap (by_row scheme (committed_of w Itl) (decide.moved t l.content moment.seconds (log_sends t l.content (notified_codes said) (Notified (notified_status said)))))
       (ap (λ z. log_row z (Notified (notified_status said))) (known_status l k content) ∙ move)
@@ -140,7 +139,7 @@ module _ (scheme : Scheme) (moment : Moment) (w : World) (calm : Calm scheme w) 
   unfolding verdict
   acquirer_takes_offer c t k h none room =
       let m : Message = proposes Itl (Registry c) t proposal.Checked k in
-      unrefused (registry_refusals c (committed_of w (Registry c)) m) (registry_answer scheme c (committed_of w (Registry c)) moment.seconds m) (heard m h) (refl, (refl, (refl, (refl, (refl, tt)))))
+      unrefused (registry_refusals c (committed_of w (Registry c)) m) (registry_answer scheme c (committed_of w (Registry c)) moment.seconds m.id m.body) (heard m h) (refl, (refl, (refl, (refl, (refl, tt)))))
       ∙ ap (λ o. arrival scheme c (committed_of w (Registry c)) t o k moment.seconds (acquirer_findings scheme c (holding scheme c (committed_of w (Registry c))) k)) none
       ∙ arrived_here scheme c (committed_of w (Registry c)) t k moment.seconds (acquirer_findings scheme c (holding scheme c (committed_of w (Registry c))) k) room
 
@@ -152,7 +151,7 @@ module _ (scheme : Scheme) (moment : Moment) (w : World) (calm : Calm scheme w) 
   notified_open c t said x h is =
       let m : Message = notifies Itl (Registry c) t said in
       let e =
-      unrefused (registry_refusals c (committed_of w (Registry c)) m) (registry_answer scheme c (committed_of w (Registry c)) moment.seconds m) (heard m h) (refl, (refl, (refl, tt)))
+      unrefused (registry_refusals c (committed_of w (Registry c)) m) (registry_answer scheme c (committed_of w (Registry c)) moment.seconds m.id m.body) (heard m h) (refl, (refl, (refl, tt)))
       ∙ ap (λ o. in_role scheme c (committed_of w (Registry c)) t o moment.seconds (Notified (notified_status said))) is in
       (e, subst Welcome e (heard m h))
 

@@ -11,7 +11,6 @@ use Rattle.scheme.specs.declared.registries.Scheme.{Scheme}
 use Rattle.protocol.specs.Claims.{committed_part}
 use Rattle.protocol.specs.Deciding.{Verdict, IsRecorded, IsRepeat, IsLate, IsRefused}
 use Rattle.protocol.specs.Verdict.{verdict, history}
-use Rattle.wire.specs.Parties.{receiver}
 use Rattle.protocol.specs.World.{World, Station, Turn, Stepped, station, journal, put, stays, rests, answered, take_input, commit, crash, restart, sent, at_node, is_order, posted, deliver, step}
 use Rattle.protocol.specs.declared.event.Outcome.TheVariants.{NotPossible}
 use Rattle.protocol.specs.declared.event.Posted.{Posted}
@@ -98,7 +97,7 @@ take_commits w n i = turn_commits w n (station w n) (take_input w.scheme i) refl
 
 deliver_commits : (w : World) (moment : Moment) (o : Option Posted) → Commits w (deliver w moment o).world
 deliver_commits w moment None = none_commits w w (λ m. refl)
-deliver_commits w moment (Some p) = take_commits w (receiver p.message) (Received p.message moment)
+deliver_commits w moment (Some p) = take_commits w p.message.to (Received p.message moment)
 
 pub step_commits : (w : World) (e : WorldEvent) → Commits w (step w e).world
 unfolding step

@@ -19,7 +19,6 @@ use Rattle.protocol.specs.Deciding.{Verdict, IsRecorded, IsRepeat, IsLate, IsRef
 use Rattle.protocol.specs.History.{Entry}
 use Rattle.protocol.specs.Registries.{is_node}
 use Rattle.protocol.specs.Verdict.{verdict, history}
-use Rattle.wire.specs.Parties.{receiver}
 use Rattle.protocol.specs.World.{World, Station, Turn, Stepped, station, journal, put, stays, opening, opening_station, rests, answered, take_input, commit, crash, restart, sent, at_node, is_order, posted, deliver, step, run}
 use Rattle.protocol.specs.declared.event.Outcome.TheVariants.{NotPossible}
 use Rattle.protocol.specs.declared.event.Posted.{Posted}
@@ -82,7 +81,7 @@ cond_stations w false x y h i = i
 
 deliver_stations : (w : World) (moment : Moment) (o : Option Posted) → SameStations w (deliver w moment o).world
 deliver_stations w moment None m = refl
-deliver_stations w moment (Some p) m = turn_stations w (receiver p.message) (station w (receiver p.message)) (take_input w.scheme (Received p.message moment)) refl (take_node w.scheme (Received p.message moment)) m
+deliver_stations w moment (Some p) m = turn_stations w p.message.to (station w p.message.to) (take_input w.scheme (Received p.message moment)) refl (take_node w.scheme (Received p.message moment)) m
 
 step_stations : (w : World) (e : WorldEvent) → SameStations w (step w e).world
 unfolding step

@@ -21,7 +21,6 @@ use Rattle.protocol.specs.Deciding.{IsRecorded}
 use Rattle.protocol.specs.History.{Transition, sends}
 use Rattle.protocol.specs.Registries.{is_node}
 use Rattle.protocol.specs.Verdict.{verdict, history}
-use Rattle.wire.specs.Parties.{sender, receiver}
 use Rattle.protocol.specs.World.{World, Station, Turn, Stepped, opening, opening_station, station, journal, put, stays, rests, answered, take_input, commit, sent, at_node, is_order, posted, deliver, step, run}
 use Rattle.protocol.specs.declared.event.Outcome.TheVariants.{NotPossible}
 use Rattle.protocol.specs.declared.event.Posted.{Posted}
@@ -135,7 +134,7 @@ post_step w n s key m is runs there =
     ap (option_and_then (sent w.scheme key)) is ∙ cond-true s.runs (slice_get (sends (history w.scheme s.node s.committed)) key) None runs ∙ here in
     ap (λ o. (posted w n key o).world) found
 
-deliver_step : (w : World) (p : Posted) (moment : Moment) (n : Node) → receiver p.message ≡ n
+deliver_step : (w : World) (p : Posted) (moment : Moment) (n : Node) → p.message.to ≡ n
     → (step (record w { bag = w.bag ++ p ∷ [] }) (Deliver (length w.bag) moment)).world
     ≡ (at_node (record w { bag = w.bag ++ p ∷ [] }) (station w n) (take_input w.scheme (Received p.message moment))).world
 unfolding step
@@ -154,18 +153,18 @@ sending w n m i = go (station w n) refl
     go (Some s) e = (s, refl)
 
 -- a message that was sent can be posted, delivered and committed
-pub delivers : (w : World) → Quiet w → (m : Message) (moment : Moment) (xs : List Transition) → is_node w.scheme (receiver m) ≡ true → In m (sends (committed_of w (sender m)))
-    → verdict w.scheme (receiver m) (committed_of w (receiver m)) (Received m moment) ≡ IsRecorded xs
-    → (key : ℕ) × Grown w (Post (sender m) key ∷ Deliver (length w.bag) moment ∷ Commit (receiver m) 1 ∷ []) (receiver m) (Received m moment)
+pub delivers : (w : World) → Quiet w → (m : Message) (moment : Moment) (xs : List Transition) → is_node w.scheme m.to ≡ true → In m (sends (committed_of w m.from))
+    → verdict w.scheme m.to (committed_of w m.to) (Received m moment) ≡ IsRecorded xs
+    → (key : ℕ) × Grown w (Post m.from key ∷ Deliver (length w.bag) moment ∷ Commit m.to 1 ∷ []) m.to (Received m moment)
 delivers w quiet m moment xs node sent says =
-    let n = receiver m in
-    let from = sending w (sender m) m sent in
-    let key = index_of (sends (committed_of w (sender m))) m sent in
+    let n = m.to in
+    let from = sending w m.from m sent in
+    let key = index_of (sends (committed_of w m.from)) m sent in
     let to = there w quiet n node in
-    let p : Posted = record { node = sender m; key = key.0; message = m } in (
+    let p : Posted = record { node = m.from; key = key.0; message = m } in (
       key.0,
-      bag_on w (Post (sender m) key.0) (w.bag ++ p ∷ []) (Deliver (length w.bag) moment ∷ Commit n 1 ∷ []) n (Received m moment)
-          (post_step w (sender m) from.0 key.0 m from.1 (quiet.idle (sender m) from.0 from.1).0 key.1)
+      bag_on w (Post m.from key.0) (w.bag ++ p ∷ []) (Deliver (length w.bag) moment ∷ Commit n 1 ∷ []) n (Received m moment)
+          (post_step w m.from from.0 key.0 m from.1 (quiet.idle m.from from.0 from.1).0 key.1)
           (record_on (record w { bag = w.bag ++ p ∷ [] }) n to.0 (Received m moment) xs (Deliver (length w.bag) moment) to.1 (quiet.idle n to.0 to.1)
           (subst (λ o. verdict w.scheme n (history w.scheme n (committed_part o)) (Received m moment) ≡ IsRecorded xs) to.1 says) (deliver_step w p moment n refl)),
     )

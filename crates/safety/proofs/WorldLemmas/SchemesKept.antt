@@ -9,7 +9,6 @@ use Rattle.protocol.specs.declared.event.Outcome.TheVariants.{NotPossible}
 use Rattle.protocol.specs.declared.event.Posted.{Posted}
 use Rattle.protocol.specs.declared.event.WorldEvent.{WorldEvent}
 use Rattle.protocol.specs.declared.event.WorldEvent.TheVariants.{Take, Commit, Post, Deliver, Crash, Restart}
-use Rattle.wire.specs.Parties.{receiver}
 use Rattle.protocol.specs.World.{World, Station, Turn, Stepped, station, stays, take_input, commit, crash, restart, sent, at_node, is_order, posted, deliver, step, run}
 
 at_node_scheme : (w : World) (o : Option Station) (f : Station → Turn) → (at_node w o f).world.scheme ≡ w.scheme
@@ -26,7 +25,7 @@ posted_scheme w n key (Some m) = refl
 
 deliver_scheme : (w : World) (moment : Moment) (o : Option Posted) → (deliver w moment o).world.scheme ≡ w.scheme
 deliver_scheme w moment None = refl
-deliver_scheme w moment (Some p) = at_node_scheme w (station w (receiver p.message)) (take_input w.scheme (Received p.message moment))
+deliver_scheme w moment (Some p) = at_node_scheme w (station w p.message.to) (take_input w.scheme (Received p.message moment))
 
 pub step_scheme : (w : World) (e : WorldEvent) → (step w e).world.scheme ≡ w.scheme
 unfolding step

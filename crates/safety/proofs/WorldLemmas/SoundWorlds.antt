@@ -21,7 +21,6 @@ use Rattle.protocol.specs.Claims.{committed_of, live_of, committed_part, whole}
 use Rattle.protocol.specs.Deciding.{Verdict, IsRecorded, IsRepeat, IsLate, IsRefused}
 use Rattle.protocol.specs.History.{sends}
 use Rattle.protocol.specs.Verdict.{verdict, history}
-use Rattle.wire.specs.Parties.{sender, receiver}
 use Rattle.protocol.specs.World.{World, Station, Turn, station, journal, put, stays, opening, opening_station, rests, answered, take_input, commit, crash, restart, sent, at_node, is_order, posted, deliver, step, run}
 use Rattle.protocol.specs.declared.event.Outcome.TheVariants.{Done, NotPossible}
 use Rattle.protocol.specs.declared.event.Posted.{Posted}
@@ -36,22 +35,22 @@ use Rattle.safety.proofs.MovesAndHistories.MessageSenders.{sender_sends}
 use Rattle.safety.proofs.WorldLemmas.StationsAfterPut.{at, found_at_node, at_put, at_elsewhere}
 
 pub record Sound (w : World) : Type 0 where
-  pub posted : (p : Posted) → In p w.bag → In p.message (sends (committed_of w (sender p.message)))
-  pub caused : (n : Node) (m : Message) → Got (live_of w n) m → In m (sends (committed_of w (sender m)))
+  pub posted : (p : Posted) → In p w.bag → In p.message (sends (committed_of w p.message.from))
+  pub caused : (n : Node) (m : Message) → Got (live_of w n) m → In m (sends (committed_of w m.from))
 
 -- what a turn of a station keeps: it commits more and takes nothing back, and what it has received was sent
 pub record Keeps (w : World) (s : Station) (t : Station) : Type 0 where
   pub node : t.node ≡ s.node
   pub more : List Input
   pub grown : t.committed ≡ s.committed ++ more
-  pub caused : (m : Message) → Got (history w.scheme s.node (journal t)) m → In m (sends (committed_of w (sender m)))
+  pub caused : (m : Message) → Got (history w.scheme s.node (journal t)) m → In m (sends (committed_of w m.from))
 
 module _ (w : World) (sound : Sound w) (n : Node) (s : Station) (is : station w n ≡ Some s) where
   own : s.node ≡ n
   own = found_at_node n w.stations s is
 
   -- what the station received was sent
-  own_caused : (m : Message) → Got (history w.scheme s.node (journal s)) m → In m (sends (committed_of w (sender m)))
+  own_caused : (m : Message) → Got (history w.scheme s.node (journal s)) m → In m (sends (committed_of w m.from))
   own_caused m g =
       sound.caused n m (subst (λ o. Got (history w.scheme n (whole o)) m) (sym is) (subst (λ z. Got (history w.scheme z (journal s)) m) own g))
 
@@ -62,7 +61,7 @@ module _ (w : World) (sound : Sound w) (n : Node) (s : Station) (is : station w 
   keeps_if true t k = k
   keeps_if false t k = still
 
-  keeps_answered : (i : Input) (v : Verdict) → ((m : Message) (moment : Moment) → i ≡ Received m moment → In m (sends (committed_of w (sender m)))) → Keeps w s (answered s i v).station
+  keeps_answered : (i : Input) (v : Verdict) → ((m : Message) (moment : Moment) → i ≡ Received m moment → In m (sends (committed_of w m.from))) → Keeps w s (answered s i v).station
   keeps_answered i (IsRecorded xs) fair = record {
     node = refl;
     more = [];
@@ -77,7 +76,7 @@ module _ (w : World) (sound : Sound w) (n : Node) (s : Station) (is : station w 
   keeps_answered i IsLate fair = still
   keeps_answered i (IsRefused code) fair = still
 
-  keeps_take : (i : Input) → ((m : Message) (moment : Moment) → i ≡ Received m moment → In m (sends (committed_of w (sender m)))) → Keeps w s (take_input w.scheme i s).station
+  keeps_take : (i : Input) → ((m : Message) (moment : Moment) → i ≡ Received m moment → In m (sends (committed_of w m.from))) → Keeps w s (take_input w.scheme i s).station
   keeps_take i fair = keeps_if s.runs (answered s i (verdict w.scheme s.node (history w.scheme s.node (journal s)) i)) (keeps_answered i (verdict w.scheme s.node (history w.scheme s.node (journal s)) i) fair)
 
   keeps_commit : (count : ℕ) → Keeps w s (commit count s).station
@@ -135,15 +134,15 @@ module _ (w : World) (sound : Sound w) (n : Node) (s : Station) (is : station w 
 
   sound_put : (t : Station) → Keeps w s t → Sound (put w t)
   sound_put t k = record {
-    posted = λ p i. committed_after t k (sender p.message) p.message (sound.posted p i);
+    posted = λ p i. committed_after t k p.message.from p.message (sound.posted p i);
     caused = λ m x g.
         elim (cases_Bool (same_node n m)) [
           | inl y ↦
               let same : n ≡ m = node_of_same n m y in
               let after : station (put w t) m ≡ Some t = subst (λ z. station (put w t) z ≡ Some t) same (at_put n w.stations s t is (k.node ∙ own)) in
               let here : Got (history w.scheme m (journal t)) x = subst (λ o. Got (history w.scheme m (whole o)) x) after g in
-              committed_after t k (sender x) x (k.caused x (subst (λ z. Got (history w.scheme z (journal t)) x) (sym same ∙ sym own) here))
-          | inr d ↦ committed_after t k (sender x) x (sound.caused m x (subst (λ o. Got (history w.scheme m (whole o)) x) (at_elsewhere n m w.stations t (k.node ∙ own) d) g))
+              committed_after t k x.from x (k.caused x (subst (λ z. Got (history w.scheme z (journal t)) x) (sym same ∙ sym own) here))
+          | inr d ↦ committed_after t k x.from x (sound.caused m x (subst (λ o. Got (history w.scheme m (whole o)) x) (at_elsewhere n m w.stations t (k.node ∙ own) d) g))
         ];
   }
 
@@ -153,7 +152,7 @@ sound_at w sound n None f is keeps = sound
 sound_at w sound n (Some s) f is keeps = sound_put w sound n s is (f s).station (keeps s is)
 
 -- an order is no message
-pub order_fair : (w : World) (n : Node) (i : Input) → is_order w n i ≡ true → (m : Message) (moment : Moment) → i ≡ Received m moment → In m (sends (committed_of w (sender m)))
+pub order_fair : (w : World) (n : Node) (i : Input) → is_order w n i ≡ true → (m : Message) (moment : Moment) → i ≡ Received m moment → In m (sends (committed_of w m.from))
 order_fair w n i order m moment e = absurd (never n (subst (λ z. is_order w n z ≡ true) e order))
   where
     never : (k : Node) → is_order w k (Received m moment) ≡ true → ⊥
@@ -161,7 +160,7 @@ order_fair w n i order m moment e = absurd (never n (subst (λ z. is_order w n z
     never (Registry c) h = cc (h)
 
 -- a message of a committed record goes into the bag
-sound_posted : (w : World) → Sound w → (n : Node) (key : ℕ) (o : Option Message) → ((m : Message) → o ≡ Some m → In m (sends (committed_of w (sender m)))) → Sound (posted w n key o).world
+sound_posted : (w : World) → Sound w → (n : Node) (key : ℕ) (o : Option Message) → ((m : Message) → o ≡ Some m → In m (sends (committed_of w m.from))) → Sound (posted w n key o).world
 sound_posted w sound n key None fair = sound
 sound_posted w sound n key (Some m) fair = record {
   posted = λ p i.
@@ -172,17 +171,17 @@ sound_posted w sound n key (Some m) fair = record {
   caused = sound.caused;
 }
   where
-    only : (p : Posted) → In p (record { node = n; key = key; message = m } ∷ []) → In p.message (sends (committed_of w (sender p.message)))
-    only p (inl e) = subst (λ (z : Posted). In z.message (sends (committed_of w (sender z.message)))) e (fair m refl)
+    only : (p : Posted) → In p (record { node = n; key = key; message = m } ∷ []) → In p.message (sends (committed_of w p.message.from))
+    only p (inl e) = subst (λ (z : Posted). In z.message (sends (committed_of w z.message.from))) e (fair m refl)
     only p (inr h) = absurd h
 
-sent_fair : (w : World) (n : Node) (key : ℕ) (o : Option Station) → station w n ≡ o → (m : Message) → option_and_then (sent w.scheme key) o ≡ Some m → In m (sends (committed_of w (sender m)))
+sent_fair : (w : World) (n : Node) (key : ℕ) (o : Option Station) → station w n ≡ o → (m : Message) → option_and_then (sent w.scheme key) o ≡ Some m → In m (sends (committed_of w m.from))
 sent_fair w n key None is m e = absurd (cc (e))
 sent_fair w n key (Some s) is m e =
     let node : s.node ≡ n = found_at_node n w.stations s is in
     let got = found s.runs e in
     let member : In m (sends (history w.scheme s.node s.committed)) = In_slice_get (sends (history w.scheme s.node s.committed)) key m got in
-    let from : sender m ≡ s.node = sender_sends w.scheme s.node (history w.scheme s.node s.committed) (made_history w.scheme s.node s.committed) m member in
+    let from : m.from ≡ s.node = sender_sends w.scheme s.node (history w.scheme s.node s.committed) (made_history w.scheme s.node s.committed) m member in
     let there : In m (sends (committed_of w n)) = subst (λ o. In m (sends (history w.scheme n (committed_part o)))) (sym is) (subst (λ z. In m (sends (history w.scheme z s.committed))) node member) in
     subst (λ z. In m (sends (committed_of w z))) (sym (from ∙ node)) there
   where
@@ -193,11 +192,11 @@ sent_fair w n key (Some s) is m e =
 deliver_sound : (w : World) → Sound w → (moment : Moment) (o : Option Posted) → ((p : Posted) → o ≡ Some p → In p w.bag) → Sound (deliver w moment o).world
 deliver_sound w sound moment None there = sound
 deliver_sound w sound moment (Some p) there =
-    sound_at w sound (receiver p.message) (station w (receiver p.message)) (take_input w.scheme (Received p.message moment)) refl
-    (λ s is. keeps_take w sound (receiver p.message) s is (Received p.message moment) (fair p (sound.posted p (there p refl))))
+    sound_at w sound p.message.to (station w p.message.to) (take_input w.scheme (Received p.message moment)) refl
+    (λ s is. keeps_take w sound p.message.to s is (Received p.message moment) (fair p (sound.posted p (there p refl))))
   where
-    fair : (p : Posted) → In p.message (sends (committed_of w (sender p.message))) → (m : Message) (at : Moment) → Received p.message moment ≡ Received m at → In m (sends (committed_of w (sender m)))
-    fair p h m at e = let same : p.message ≡ m = cc (e) in subst (λ z. In z (sends (committed_of w (sender z)))) same h
+    fair : (p : Posted) → In p.message (sends (committed_of w p.message.from)) → (m : Message) (at : Moment) → Received p.message moment ≡ Received m at → In m (sends (committed_of w m.from))
+    fair p h m at e = let same : p.message ≡ m = cc (e) in subst (λ z. In z (sends (committed_of w z.from))) same h
 
 pub step_sound : (w : World) (e : WorldEvent) → Sound w → Sound (step w e).world
 unfolding step
@@ -267,7 +266,7 @@ live_got w n m h = go (station w n) h
 pub live_causal : (w : World) → Sound w → Causal w.scheme (live_of w)
 live_causal w sound = record {
   made = λ n. made_history w.scheme n (whole (station w n));
-  sent = λ n m g. live_sends w (sender m) m (sound.caused n m g);
+  sent = λ n m g. live_sends w m.from m (sound.caused n m g);
 }
 
 pub committed_causal : (w : World) → Sound w → Causal w.scheme (committed_of w)

@@ -1,4 +1,4 @@
-use Rattle.std.proofs.Common.{rules, append_assoc}
+use Rattle.std.proofs.Common.{append_assoc}
 use Rattle.chart.proofs.table.push_over.Goals as goal
 
 pub returns : goal.returns

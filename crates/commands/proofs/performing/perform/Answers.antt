@@ -1,7 +1,7 @@
 use Rattle.std.proofs.Common.{ℕ, List, subst, sym}
 use Rattle.std.specs.Prelude.{string_bytes}
 use Rattle.command_faults.specs.declared.fault.OpFault.{OpFault}
-use Rattle.run.proofs.Written.{if_err}
+use Rattle.audit.proofs.Reporting.{if_err}
 use Rattle.commands.specs.Commands.{FailsToAuditFolder, FailsToRunFolder, FailsToShowNode}
 use Rattle.commands.proofs.performing.perform.Goals as goal
 

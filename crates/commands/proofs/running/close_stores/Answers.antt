@@ -3,8 +3,8 @@ use Rattle.std.proofs.lemmas.List.{length-map}
 use Rattle.std.proofs.lemmas.List.Elements.{All-push}
 use Rattle.desk.specs.Keeping.{StoredView}
 use Rattle.command_faults.specs.Faults.{of_store}
-use Rattle.run.specs.Ended.{stored_in}
-use Rattle.run.proofs.Written.{on_ok}
+use Rattle.audit.specs.Ended.{stored_in}
+use Rattle.audit.proofs.Reporting.{on_ok}
 use Rattle.commands.specs.Commands.{AreClosed}
 use Rattle.commands.proofs.Closing.{all_done, at_next, one_done, part_done}
 use Rattle.commands.proofs.running.close_stores.Goals as goal

@@ -3,9 +3,10 @@ use Rattle.std.specs.Prelude.{All}
 use Rattle.std.proofs.lemmas.Result.{err_from_is_err_and}
 use Rattle.desk.specs.Keeping.{StoredView}
 use Rattle.desk.specs.Views.{opened_with}
-use Rattle.run.specs.Ended.{stored_in}
+use Rattle.audit.specs.Ended.{stored_in}
 use Rattle.run.specs.Runs.{FailsToRun, HaveEnded, IsLoadedAmong}
-use Rattle.run.proofs.Written.{both_ok, if_err, keeps_same}
+use Rattle.audit.proofs.Reporting.{if_err, keeps_same}
+use Rattle.run.proofs.Written.{both_ok}
 use Rattle.commands.proofs.running.run_connected.Goals as goal
 
 pub returns-in_err-nodes-clause-err : goal.returns-in_err-nodes-clause-err

@@ -1,6 +1,6 @@
 use Rattle.std.proofs.Common.{inl, inr}
-use Rattle.run.specs.Ended.{stored_in}
-use Rattle.run.proofs.Written.{if_err, on_ok}
+use Rattle.audit.specs.Ended.{stored_in}
+use Rattle.audit.proofs.Reporting.{if_err, on_ok}
 use Rattle.commands.proofs.running.run_loaded.Goals as goal
 
 pub returns-in-Ok-clause-ok : goal.returns-in-Ok-clause-ok

@@ -6,7 +6,7 @@ use Rattle.std.proofs.lemmas.Result.{on_ok_weaker}
 use Rattle.units.specs.declared.block.Block.{Block}
 use Rattle.checks.specs.declared.register.UnderWay.{UnderWay}
 use Rattle.protocol.specs.History.{has_serial}
-use Rattle.log_core.proofs.LabelledBlocks.{one_label}
+use Rattle.safety.proofs.ListLemmas.LabelledBlocks.{one_label}
 use Rattle.log_core.proofs.register.begin.Goals as goal
 
 pub set_all-requires-clause-apart : goal.set_all-requires-clause-apart

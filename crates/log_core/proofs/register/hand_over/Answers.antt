@@ -5,7 +5,7 @@ use Rattle.std.proofs.lemmas.Result.{on_ok_weaker}
 use Rattle.units.specs.declared.block.Block.{Block}
 use Rattle.checks.specs.declared.register.BookEntry.{BookEntry}
 use Rattle.log_core.specs.Effects.{handed_over}
-use Rattle.log_core.proofs.LabelledBlocks.{one_label}
+use Rattle.safety.proofs.ListLemmas.LabelledBlocks.{one_label}
 use Rattle.log_core.proofs.register.hand_over.Goals as goal
 
 pub set_all-requires-clause-apart : goal.set_all-requires-clause-apart

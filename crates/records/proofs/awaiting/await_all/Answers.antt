@@ -1,9 +1,8 @@
-use Rattle.std.proofs.Common.{◌≡◌, ◌+◌, ◌&&◌, Bool, true, not, cond, take, ap, sym, ◌∙◌, is_eq, arith}
+use Rattle.std.proofs.Common.{◌≡◌, ◌&&◌, Bool, true, not, cond, take, ap, sym, ◌∙◌, is_eq, arith}
 use Rattle.std.specs.List.{list_any}
 use Rattle.std.specs.BTreeSet.{contains}
-use Rattle.records.specs.Awaiting.{among, unacknowledged_cmp, unacknowledged_of}
+use Rattle.records.specs.Awaiting.{among, unacknowledged_cmp}
 use Rattle.records.specs.declared.unacknowledged.Unacknowledged.{Unacknowledged}
-use Rattle.units.specs.declared.code.Node.{Node}
 use Rattle.records.proofs.AwaitingMessages.{await_more, undone, on_ok, on_err}
 use Rattle.records.proofs.awaiting.await_all.Goals as goal
 
@@ -20,4 +19,4 @@ loop-i-preserved c = λ q.
     await_more c.args.start c.loop-i.i c.args.messages.now c.index-messages-i.result q (contains unacknowledged_cmp c.args.unacknowledged.now q) (contains unacknowledged_cmp c.loop-i.unacknowledged q) (contains unacknowledged_cmp c.insert.new.self q)
     (omega arith) c.index-messages-i.is (c.loop-i.invariant q)
     ((on_ok c.insert.result (sym c.is_err.ensures.value ∙ c.if-is_err.false) c.insert.ensures.updates).0 q
-    ∙ ap (λ (p : Unacknowledged). cond (is_eq (unacknowledged_cmp p q)) true (contains unacknowledged_cmp c.loop-i.unacknowledged q)) (c.unacknowledged_of.ensures ∙ ap (λ (n : Node). unacknowledged_of n (c.args.start + c.loop-i.i)) c.receiver.ensures))
+    ∙ ap (λ (p : Unacknowledged). cond (is_eq (unacknowledged_cmp p q)) true (contains unacknowledged_cmp c.loop-i.unacknowledged q)) c.unacknowledged_of.ensures)

@@ -19,8 +19,8 @@ loop-rest-preserved-in_ok-tell g c =
     let line = c.in_ok-event.ensures.ok in
     told_more _ _ _ _ _ _ _ line.0 _ _ c.in_ok-event.event c.loop-rest.invariant line.1 line.2 line.3 (c.in_ok-tell.ensures c.args.scheme.now)
 
-pub loop-rest-preserved-in_ok-tell-5 : goal.loop-rest-preserved-in_ok-tell-5
-loop-rest-preserved-in_ok-tell-5 g c =
+pub loop-rest-preserved-in_ok-tell-3 : goal.loop-rest-preserved-in_ok-tell-3
+loop-rest-preserved-in_ok-tell-3 g c =
     let line = c.in_ok-event.ensures.ok in
     told_more _ _ _ _ _ _ _ line.0 _ _ c.in_ok-event.event c.loop-rest.invariant line.1 line.2 line.3 (c.in_ok-tell.ensures c.args.scheme.now)
 

@@ -6,7 +6,7 @@ use Rattle.std.proofs.lemmas.List.Elements.{All-nil, All-push}
 use Rattle.std.proofs.lemmas.Result.{err_from_is_err_and}
 use Rattle.desk.specs.Views.{SeatView}
 use Rattle.sessions.specs.Orders.{HasOnly}
-use Rattle.run.specs.Ended.{stored_in}
+use Rattle.audit.specs.Ended.{stored_in}
 use Rattle.run.specs.Runs.{EndsWell}
 use Rattle.run.proofs.Collected.{gathered_more, rest_more, such_left}
 use Rattle.run.proofs.Wired.{all_handed, handed_on, part_of_part}

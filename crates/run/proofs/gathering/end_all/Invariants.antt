@@ -1,7 +1,7 @@
 use Rattle.std.proofs.Common.{◌≡◌, ◌+◌, ◌++◌, drop, length, map}
 use Rattle.std.specs.Prelude.{All}
 use Rattle.sessions.specs.Orders.{AreAll, HasOnly}
-use Rattle.run.specs.Ended.{seats_in, stored_in}
+use Rattle.audit.specs.Ended.{seats_in, stored_in}
 use Rattle.run.specs.Gathered.{AreGatheredTo}
 use Rattle.run.specs.Runs.{EndsWell}
 use Rattle.run.proofs.gathering.end_all.Given as goal

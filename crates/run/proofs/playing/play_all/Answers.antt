@@ -1,5 +1,6 @@
 use Rattle.std.proofs.Common.{◌∙◌, ◌<◌, length, refl, arith}
-use Rattle.run.proofs.HeardLines.{found_at, heard_next}
+use Rattle.audit.proofs.Settling.{found_at}
+use Rattle.run.proofs.HeardLines.{heard_next}
 use Rattle.run.proofs.Ordering.{orders_next, played_none}
 use Rattle.run.proofs.playing.play_all.Goals as goal
 

@@ -1,6 +1,6 @@
 use Rattle.std.proofs.Common.{◌≡◌, ◌∙◌, string_bytes, sym, ap, subst}
 use Rattle.run.specs.Answers.{answer_lines}
-use Rattle.run.specs.Ended.{states_in, stored_in}
+use Rattle.audit.specs.Ended.{states_in, stored_in}
 use Rattle.run.specs.Runs.{IsRunReport}
 use Rattle.run.proofs.Written.{fails_in_report, fails_late}
 use Rattle.run.proofs.running.write_run.Goals as goal

@@ -1,4 +1,4 @@
-use Rattle.std.proofs.Common.{ℕ, List, [], sym, ap, ◌∙◌}
+use Rattle.std.proofs.Common.{ℕ, List, [], sym, ◌∙◌}
 use Rattle.std.specs.BTreeMap as tree
 use Rattle.std.specs.Option.{option_map_or}
 use Rattle.status.specs.Id.{id_cmp}
@@ -13,5 +13,5 @@ returns-clause-none c =
     if_none c.find_number.result
     (λ none.
     not_numbered numbers c.args.world.now.bag c.args.message.now c.as_slice.result.now c.requires
-    (ap numbers (sym c.transaction.ensures) ∙ mapped _ c.in_ok-found.found.now c.in_ok-found.ensures.value (λ v. v.items) ∙ sym c.as_slice.ensures.value) none)
+    (mapped _ c.in_ok-found.found.now c.in_ok-found.ensures.value (λ v. v.items) ∙ sym c.as_slice.ensures.value) none)
     c.find_number.ensures.none

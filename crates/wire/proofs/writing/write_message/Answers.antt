@@ -1,18 +1,12 @@
-use Rattle.std.proofs.Common.{◌≡◌, ◌++◌, sym, subst}
-use Rattle.std.specs.Prelude.{OnOk}
-use Rattle.wire.specs.Messages.{message_data}
-use Rattle.wire.specs.Writing.{data_tokens}
-use Rattle.wire.specs.declared.message.Message.{Message}
+use Rattle.std.proofs.Common.{[], ◌∷◌, ◌++◌, ap, ◌∙◌}
+use Rattle.json.specs.Token.{end_object}
+use Rattle.wire.specs.Messages.{message_fields}
+use Rattle.wire.specs.Writing.{after_fields}
+use Rattle.wire.proofs.Written.{object_written, then_ok}
 use Rattle.wire.proofs.writing.write_message.Goals as goal
 
-pub returns-in-Proposal-clause-tokens : goal.returns-in-Proposal-clause-tokens
-returns-in-Proposal-clause-tokens c =
-    subst (λ (m : Message). OnOk c.write_proposal.result (c.write_proposal.new.out ≡ c.args.out.now ++ data_tokens (message_data m))) (sym c.in-Proposal.is) c.write_proposal.ensures.tokens
-
-pub returns-in-Notification-clause-tokens : goal.returns-in-Notification-clause-tokens
-returns-in-Notification-clause-tokens c =
-    subst (λ (m : Message). OnOk c.write_notification.result (c.write_notification.new.out ≡ c.args.out.now ++ data_tokens (message_data m))) (sym c.in-Notification.is) c.write_notification.ensures.tokens
-
-pub returns-in-Request-clause-tokens : goal.returns-in-Request-clause-tokens
-returns-in-Request-clause-tokens c =
-    subst (λ (m : Message). OnOk c.write_request.result (c.write_request.new.out ≡ c.args.out.now ++ data_tokens (message_data m))) (sym c.in-Request.is) c.write_request.ensures
+pub returns-clause-tokens : goal.returns-clause-tokens
+returns-clause-tokens c =
+    let all = message_fields c.args.message.now in
+    let fields = c.in_ok-put_message.ensures.fields ∙ ap (λ ts. after_fields ts all) c.in_ok-begin_object.ensures in
+    then_ok c.end_object.result (λ ended. ended ∙ ap (λ ts. ts ++ end_object ∷ []) fields ∙ object_written c.args.out.now all) c.end_object.ensures

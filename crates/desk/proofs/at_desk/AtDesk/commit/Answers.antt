@@ -1,6 +1,3 @@
-use Rattle.std.proofs.Common.{subst, sym}
-use Rattle.stores.specs.declared.fault.StoreFault.{StoreFault}
-use Rattle.desk.specs.Keeping.{IsAtDesk}
 use Rattle.desk.proofs.AtDesks.{at_committed}
 use Rattle.desk.proofs.at_desk.AtDesk.commit.Goals as goal
 

@@ -1,8 +1,6 @@
 use Rattle.std.proofs.Common.{inr, sym, ap, ◌∙◌}
 use Rattle.units.specs.declared.code.Node.TheVariants.{Itl}
-use Rattle.protocol.specs.AtLog.{log_refusals}
 use Rattle.protocol.specs.Verdict.{history}
-use Rattle.checks.specs.Refusing.{first_of}
 use Rattle.log_core.specs.Taking.{verdict_by_rules}
 use Rattle.log_core.proofs.DecidedMessages.{refused}
 use Rattle.log_core.proofs.TakenInputs.{are_same, takes_refused}
@@ -22,16 +20,16 @@ pub check-requires-clause-welcome : goal.check-requires-clause-welcome
 check-requires-clause-welcome c =
     let s = c.args.self.now.scheme in
     let es = history s Itl c.args.self.now.records.inputs in
-    ap (λ m. first_of (log_refusals s es m)) (sym c.in-Proposal.is) ∙ sym (c.message_refusal.ensures es c.requires.kept.kept.transfers) ∙ c.in_default.is
+    sym (c.message_refusal.ensures es c.requires.kept.kept.transfers) ∙ c.in_default.is
 
 pub take_notification-requires-clause-welcome : goal.take_notification-requires-clause-welcome
 take_notification-requires-clause-welcome c =
     let s = c.args.self.now.scheme in
     let es = history s Itl c.args.self.now.records.inputs in
-    ap (λ m. first_of (log_refusals s es m)) (sym c.in-Notification.is) ∙ sym (c.message_refusal.ensures es c.requires.kept.kept.transfers) ∙ c.in_default.is
+    sym (c.message_refusal.ensures es c.requires.kept.kept.transfers) ∙ c.in_default.is
 
 pub withdraw-requires-clause-welcome : goal.withdraw-requires-clause-welcome
 withdraw-requires-clause-welcome c =
     let s = c.args.self.now.scheme in
     let es = history s Itl c.args.self.now.records.inputs in
-    ap (λ m. first_of (log_refusals s es m)) (sym c.in-Request.is) ∙ sym (c.message_refusal.ensures es c.requires.kept.kept.transfers) ∙ c.in_default.is
+    sym (c.message_refusal.ensures es c.requires.kept.kept.transfers) ∙ c.in_default.is

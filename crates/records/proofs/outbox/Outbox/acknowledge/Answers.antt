@@ -1,10 +1,9 @@
 use Rattle.std.proofs.Common.{◌<◌, ◌++◌, ◌∷◌, [], false, cond, List, Some, length, ap, sym, subst, ◌∙◌, is_eq, arith}
 use Rattle.std.specs.BTreeSet.{contains}
-use Rattle.records.specs.Awaiting.{unacknowledged_cmp, unacknowledged_of}
+use Rattle.records.specs.Awaiting.{unacknowledged_cmp}
 use Rattle.records.specs.Sending.{messages, Sent, Acknowledges}
 use Rattle.records.specs.declared.unacknowledged.Unacknowledged.{Unacknowledged}
 use Rattle.records.specs.declared.record.Record.{Record}
-use Rattle.units.specs.declared.code.Node.{Node}
 use Rattle.records.proofs.KeptTables.{next_acknowledges, some_at, Next}
 use Rattle.records.proofs.Sendings.{all_messages}
 use Rattle.records.specs.Kept.{sent_in}
@@ -25,7 +24,7 @@ next c =
     (c.len.ensures ∙ c.self.inside.messages.ok.0)
     (some_at c.self.inside.messages.items c.args.key c.index.result.now here c.index.ensures)
     (λ q. c.remove.ensures.updates.0 q
-    ∙ ap (λ (p : Unacknowledged). cond (is_eq (unacknowledged_cmp p q)) false (contains unacknowledged_cmp c.self.inside.unacknowledged q)) (c.unacknowledged_of.ensures ∙ ap (λ (n : Node). unacknowledged_of n c.args.key) c.receiver-peer.ensures))
+    ∙ ap (λ (p : Unacknowledged). cond (is_eq (unacknowledged_cmp p q)) false (contains unacknowledged_cmp c.self.inside.unacknowledged q)) c.unacknowledged_of.ensures)
 
 pub invariant_of-self-2 : goal.invariant_of-self-2
 invariant_of-self-2 c = (next c).kept

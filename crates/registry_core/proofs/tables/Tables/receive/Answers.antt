@@ -1,6 +1,8 @@
 use Rattle.std.proofs.Common.{inr, sym, ap, ◌∙◌}
 use Rattle.units.specs.declared.code.Node.TheVariants.{Registry}
 use Rattle.wire.specs.declared.input.Input.TheVariants.{Received}
+use Rattle.wire.specs.declared.message.Body.TheVariants.{Request}
+use Rattle.protocol.proofs.MessageForms.{has_body, request_with}
 use Rattle.protocol.specs.Verdict.{history}
 use Rattle.checks.specs.Refusing.{first_of}
 use Rattle.protocol.specs.AtRegistry.{registry_refusals}
@@ -21,9 +23,6 @@ returns-in-Some c =
     takes_refused s k was was i (record { code = c.in-Some.refused }) kept (are_same was)
     (inr (ap (verdict_by_rules s k was) c.requires.input.1 ∙ message_refused s k was kept c.args.message.now c.requires.input.0 c.in-Some.refused (sym first ∙ c.in-Some.is)))
 
-pub arrive-requires-clause-input : goal.arrive-requires-clause-input
-arrive-requires-clause-input c = (c.requires.input.0, c.requires.input.1 ∙ ap (λ m. Received m c.requires.input.0) c.in-Proposal.is)
-
 pub arrive-requires-clause-welcome : goal.arrive-requires-clause-welcome
 arrive-requires-clause-welcome c =
     let s = c.args.self.now.scheme in
@@ -33,10 +32,7 @@ arrive-requires-clause-welcome c =
     let kept = c.requires.kept in
     let es = history s (Registry k) was.records.inputs in
     let first = c.message_refusal.ensures es kept.kept.own kept.kept.foreign in
-    ap (λ m. first_of (registry_refusals k es m)) (sym c.in-Proposal.is) ∙ sym first ∙ c.in_default.is
-
-pub take_notification-requires-clause-input : goal.take_notification-requires-clause-input
-take_notification-requires-clause-input c = (c.requires.input.0, c.requires.input.1 ∙ ap (λ m. Received m c.requires.input.0) c.in-Notification.is)
+    sym first ∙ c.in_default.is
 
 pub take_notification-requires-clause-welcome : goal.take_notification-requires-clause-welcome
 take_notification-requires-clause-welcome c =
@@ -47,7 +43,7 @@ take_notification-requires-clause-welcome c =
     let kept = c.requires.kept in
     let es = history s (Registry k) was.records.inputs in
     let first = c.message_refusal.ensures es kept.kept.own kept.kept.foreign in
-    ap (λ m. first_of (registry_refusals k es m)) (sym c.in-Notification.is) ∙ sym first ∙ c.in_default.is
+    sym first ∙ c.in_default.is
 
 pub returns-in-Request : goal.returns-in-Request
 returns-in-Request c =
@@ -58,5 +54,7 @@ returns-in-Request c =
     let kept = c.requires.kept in
     let es = history s (Registry k) was.records.inputs in
     let first = c.message_refusal.ensures es kept.kept.own kept.kept.foreign in
-    takes_refused s k was was i (record { code = 46 }) kept (are_same was) (inr (ap (verdict_by_rules s k was) (c.requires.input.1 ∙ ap (λ m. Received m c.requires.input.0) c.in-Request.is)
-    ∙ request_refused s k was kept c.in-Request.field-0 c.requires.input.0 (ap (λ m. first_of (registry_refusals k es m)) (sym c.in-Request.is) ∙ sym first ∙ c.in_default.is)))
+    let m = c.args.message.now in
+    let asks = has_body m Request c.in-Request.is in
+    takes_refused s k was was i (record { code = 46 }) kept (are_same was) (inr (ap (verdict_by_rules s k was) (c.requires.input.1 ∙ ap (λ m. Received m c.requires.input.0) asks)
+    ∙ request_refused s k was kept (request_with m) c.requires.input.0 (ap (λ m. first_of (registry_refusals k es m)) (sym asks) ∙ sym first ∙ c.in_default.is)))

@@ -1,4 +1,4 @@
-use Rattle.std.proofs.Common.{Ok, refl, sym, ap, ◌∙◌}
+use Rattle.std.proofs.Common.{Ok, refl, ap, ◌∙◌}
 use Rattle.registry_core.specs.declared.effect.RegistryEffect.TheVariants.{Ask}
 use Rattle.registry_core.proofs.RolesDecide.{moves_so, request_sent, requested, takes_failed, takes_stale}
 use Rattle.registry_core.proofs.tables.Tables.request.Goals as goal

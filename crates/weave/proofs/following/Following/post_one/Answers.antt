@@ -31,5 +31,5 @@ pub returns : goal.returns
 returns c =
     let f : Following = c.args.self.now in
     let went = post_goes f.world c.apply_post.new.world c.args.node c.args.key (subst (λ (z : Outcome). came c.apply_post.new.world z ≡ step f.world (Post c.args.node c.args.key)) c.in-Done.is c.in_ok-apply_post.ensures) in
-    posts_by f _ c.args.node c.args.key went.0 c.in-Some.posted.now c.transaction-id.result c.receiver-receiver.result c.bag.result.now went.1 went.2 c.bag.ensures c.in-Some.ensures c.transaction-id.ensures c.receiver-receiver.ensures
+    posts_by f _ c.args.node c.args.key went.0 c.in-Some.posted.now c.in-Some.posted.now.message.id c.in-Some.posted.now.message.to c.bag.result.now went.1 went.2 c.bag.ensures c.in-Some.ensures refl refl
     c.in_ok-add_number.ensures (c.push_reserved.ensures.items ∙ ap (λ (xs : List WorldEvent). xs ++ Post c.args.node c.args.key ∷ []) c.in_ok-reserve.ensures.items) refl c.in_ok-push.ensures.items

@@ -14,7 +14,6 @@ returns-in-Some-clause-ok c =
     let some = ap (λ l. option_map (λ (p : Posted). p.message) (slice_get l c.args.index)) (sym bag) ∙ sym c.message_at.ensures ∙ sym c.in_ok-message.ensures ∙ c.in-Some.is in
     IfOk-weaker c.take-taken.result _ _
     (λ o e. e
-    ∙ ap (λ n. at_node c.args.self.now (station c.args.self.now n) (take_input c.args.self.now.scheme (Received c.in-Some.message c.args.moment))) c.receiver-node.ensures
     ∙ sym (delivered c.args.self.now c.args.moment (slice_get c.args.self.now.bag c.args.index) c.in-Some.message some))
     c.take-taken.ensures.ok
 

@@ -1,26 +1,32 @@
-//! The table of a run with threads, from its states and from what its threads were told.
+//! The nodes that a run leaves: each is settled, and the table is that of a run that leads to their records.
 ghost use Rattle.std.specs.Prelude.{◌≡◌, ◌<◌, [], ℕ, All, List, length, map, IfErr, IfOk, OnOk, string_bytes};
 ghost use Rattle.std.specs.Io.KnownBytes.{Appends};
 ghost use Rattle.protocol.specs.Registries.{nodes};
 ghost use Rattle.desk.specs.Settling.{IsSettled};
 ghost use Rattle.desk.specs.Views.{committed_records};
-ghost use Rattle.run.specs.Ended.{seats_in, states_in};
-ghost use Rattle.run.specs.Runs.{FailsToReport, IsReported, IsTableFault};
-ghost use Rattle.run.specs.Settled.{AreSettled, FailsToSettle, FailsToSettleAt};
+ghost use Rattle.audit.specs.Ended.{seats_in, states_in};
+ghost use Rattle.audit.specs.Reported.{FailsToReport, IsReported, IsTableFault};
+ghost use Rattle.audit.specs.Settled.{AreSettled, FailsToSettle, FailsToSettleAt};
 ghost use Rattle.world.specs.Cores.{journal_of, node_of, scheme_of};
 
-use crate::gathering::EndedNode;
-use audit::table_of_cores;
+use crate::auditing::table_of_cores;
 use command_faults::{OpFault, write_out};
-use desk::stores::NodeStore;
-use desk::{Seat, State, Unsettled, settle_with};
+use desk::{Seat, State, Stored, Unsettled, settle_with};
 use protocol::scheme::Scheme;
 use protocol::{NodeCore, nodes_of};
 use std::alloc::Global;
 use std::io::Write;
+use stores::NodeStore;
 use units::Node;
 use weave::{Nobody, Watch};
 use world::Core;
+
+/// A node after a run: its state with its store, and the seats of all that its desk told something.
+#[derive(Drop)]
+pub struct EndedNode<S: NodeStore> {
+    pub stored: Stored<Core, S>,
+    pub seats: Vec<Seat>,
+}
 
 /// Settles a node under the scheme. Returns its core, with the committed records.
 fn settle_node(
@@ -110,8 +116,13 @@ fn settle_all<S: NodeStore, P: Watch>(
     }
 }
 
-/// The table, where all nodes are settled. Tells of the records as they are settled and woven.
-pub(crate) fn report_of<S: NodeStore, P: Watch>(
+/// Settles the nodes and finds a run that leads to their committed records, as `report_run` does, and returns the table
+/// of the world that it leads to. Tells of the records as they are settled and woven.
+///
+/// # Errors
+///
+/// Fails with `Unsettled`, `Stuck` and `NoMemory` as `report_run` does.
+pub fn table_of_ended<S: NodeStore, P: Watch>(
     alloc: Global,
     scheme: &Scheme,
     ended: &[EndedNode<S>],
@@ -159,7 +170,7 @@ pub fn report_run<S: NodeStore, W: Write>(
         (λ e. FailsToReport e scheme.now (states_in ended.now) (seats_in ended.now) (W.contents writer.old)
         (W.contents writer.new)) }
 {
-    match report_of(alloc, scheme, ended, &mut Nobody) {
+    match table_of_ended(alloc, scheme, ended, &mut Nobody) {
         Ok(table) => write_out(writer, table.as_str()),
         Err(fault) => Err(fault),
     }

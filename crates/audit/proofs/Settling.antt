@@ -3,6 +3,7 @@ use Rattle.std.proofs.Common.{◌≡◌, ◌∙◌, ◌<◌, ◌+◌, ◌++◌, 
 use Rattle.std.specs.Prelude.{slice_get}
 use Rattle.std.proofs.lemmas.Bool.{cases_lt}
 use Rattle.std.proofs.lemmas.List.{map-append, take_more}
+use Rattle.std.proofs.lemmas.Option.{slice_get-get_or}
 use Rattle.units.specs.declared.code.Node.{Node}
 use Rattle.protocol.specs.Scheme.{Scheme}
 use Rattle.units.proofs.Lists.OneValue.{one_some}
@@ -16,11 +17,14 @@ use Rattle.command_faults.specs.declared.fault.OpFault.{OpFault}
 use Rattle.command_faults.specs.declared.fault.OpFault.TheVariants.{Input, Read, Write, Store, Stuck, Unsettled, NoMemory}
 use Rattle.weave.proofs.Lists.{image_at}
 use Rattle.audit.specs.Audits.{FailsToWeave}
-use Rattle.run.specs.Runs.{IsTableFault, committed_by_all}
-use Rattle.run.specs.Settled.{AreSettled, AreSettledTo, FailsToSettle, FailsToSettleAt}
+use Rattle.audit.specs.Reported.{IsTableFault, committed_by_all}
+use Rattle.audit.specs.Settled.{AreSettled, AreSettledTo, FailsToSettle, FailsToSettleAt}
 
 same_at : {X : Type 0} (xs : List X) (k at : ℕ) (x y : X) → k ≡ at → slice_get xs at ≡ Some x → slice_get xs k ≡ Some y → x ≡ y
 same_at xs k at x y same is_x is_y = one_some x y (sym is_x ∙ ap (slice_get xs) (sym same) ∙ is_y)
+
+pub found_at : {X : Type 0} (xs ys : List X) (k : ℕ) (x : X) → xs ≡ ys → x ≡ get_or xs k x → k < length xs → slice_get ys k ≡ Some x
+found_at xs ys k x same is below = ap (λ (l : List _). slice_get l k) (sym same) ∙ slice_get-get_or xs k x below ∙ ap (λ (y : _). Some y) (sym is)
 
 pub image_found : {X Y : Type 0} (f : X → Y) (xs : List X) (k : ℕ) (x : X) → x ≡ get_or xs k x → k < length xs → slice_get (map f xs) k ≡ Some (f x)
 image_found f xs k x is below = image_at f xs k x below ∙ ap (λ (y : _). Some (f y)) (sym is)

@@ -2,8 +2,10 @@
 use Rattle.std.specs.Prelude.{List, map}
 use Rattle.desk.specs.Keeping.{StoredView}
 use Rattle.desk.specs.Views.{StateView, SeatView}
-use Rattle.run.specs.Runs.{states_of}
-use Rattle.run.specs.declared.gathering.EndedNode.{EndedNode}
+use Rattle.audit.specs.declared.ended.EndedNode.{EndedNode}
+
+abbrev pub states_of : {S : Type 0} → List (StoredView S) → List StateView
+states_of nodes = map (λ n. n.state) nodes
 
 -- the state of each with its store
 abbrev pub stored_in : {S : Type 0} → List (EndedNode S) → List (StoredView S)

@@ -1,8 +1,8 @@
 use Rattle.std.proofs.Common.{subst, sym}
-use Rattle.run.specs.Ended.{seats_in, states_in}
-use Rattle.run.specs.Runs.{IsReported}
-use Rattle.run.proofs.Written.{fails_in_table, fails_unwritten, if_err, on_ok}
-use Rattle.run.proofs.reporting.report_run.Goals as goal
+use Rattle.audit.specs.Ended.{seats_in, states_in}
+use Rattle.audit.specs.Reported.{IsReported}
+use Rattle.audit.proofs.Reporting.{fails_in_table, fails_unwritten, if_err, on_ok}
+use Rattle.audit.proofs.ended.report_run.Goals as goal
 
 pub returns-in-Ok-clause-ok : goal.returns-in-Ok-clause-ok
 returns-in-Ok-clause-ok g c =

@@ -1,10 +1,10 @@
 use Rattle.std.proofs.Common.{List, string_bytes, subst}
 use Rattle.protocol.specs.Input.{Input}
 use Rattle.audit.specs.Audits.{FailsToWeave, IsAuditTable}
-use Rattle.run.proofs.Settling.{of_settling, of_weaving}
-use Rattle.run.proofs.Written.{if_err, if_ok}
-use Rattle.run.specs.Ended.{seats_in, states_in}
-use Rattle.run.proofs.reporting.report_of.Goals as goal
+use Rattle.audit.proofs.Settling.{of_settling, of_weaving}
+use Rattle.audit.proofs.Reporting.{if_err, if_ok}
+use Rattle.audit.specs.Ended.{seats_in, states_in}
+use Rattle.audit.proofs.ended.table_of_ended.Goals as goal
 
 pub returns-in-Ok-clause-ok : goal.returns-in-Ok-clause-ok
 returns-in-Ok-clause-ok g c =

@@ -1,5 +1,5 @@
 -- No unit is twice in the content of a transfer into a registry, so the blocks of its row share no unit.
-use Rattle.wire.specs.declared.message.Message.TheVariants as message
+use Rattle.protocol.proofs.MessageForms as message
 use Rattle.units.specs.Apart.{AllApart, AreApart}
 use Rattle.std.specs.List.{AllByRecursion, list_any}
 use Rattle.units.specs.declared.block.Block.{Block}
@@ -12,7 +12,7 @@ use Rattle.std.proofs.Common.{List, Some, [], ap, false, inl, inr, not, refl, su
 use Rattle.safety.proofs.MovesAndHistories.NewestTransitions.{Made, made_registry, newest_id}
 use Rattle.status.specs.declared.moment.Moment.{Moment}
 use Rattle.protocol.specs.Pieces.{Piece, pieces, pieces_of, repeats, same_unit}
-use Rattle.wire.specs.declared.message.Proposal.{Proposal}
+use Rattle.protocol.proofs.MessageForms.{ProposalMessage}
 use Rattle.wire.specs.declared.input.Input.TheVariants.{Received}
 use Rattle.units.specs.declared.code.Node.TheVariants.{Registry}
 use Rattle.safety.proofs.MovesAndHistories.TableMoves.{RegistryMove, arrives, asks, bares, finishes, proposes, refuse_made, concludes}
@@ -24,7 +24,7 @@ use Rattle.protocol.specs.Verdict.{transitions_made, verdict}
 use Rattle.std.proofs.lemmas.Bool.{or_parts}
 use Rattle.safety.proofs.OneRegistry.TransactionEnds.{own_code}
 use Rattle.protocol.proofs.UnitsOfBlocks.{piece_of_block, same_unit_refl}
-use Rattle.protocol.specs.AtRegistry.{registry_answer, registry_refusals, registry_verdict}
+use Rattle.protocol.specs.AtRegistry.{registry_refusals, registry_verdict}
 use Rattle.units.specs.Code.{same_code}
 
 same_apart : (p : Piece) (ps qs : List Piece) → list_any (λ (q : Piece). same_unit p.unit q.unit) (ps ++ qs) ≡ false → (q : Piece) → In q qs → p.unit ≡ q.unit → ⊥
@@ -63,9 +63,9 @@ module _ (scheme : Scheme) (c : Code) where
   abbrev pub ContentsApart : List Transition → Type 0
   ContentsApart xs = (x : Transition) (k : Content) → In x xs → same_code x.id.code c ≡ false → x.content ≡ Some k → repeats (pieces k.units) ≡ false
 
-  offered_apart : (es : List Entry) (p : Proposal) (moment : Moment) (x : Transition) → In x (transitions_made (registry_verdict scheme c es (Received (message.Proposal p) moment))) → repeats (pieces p.content.units) ≡ false
+  offered_apart : (es : List Entry) (p : ProposalMessage) (moment : Moment) (x : Transition) → In x (transitions_made (registry_verdict scheme c es (Received (message.proposal p) moment))) → repeats (pieces p.content.units) ≡ false
   offered_apart es p moment x i =
-      let g = refuse_made (registry_refusals c es (message.Proposal p)) (registry_answer scheme c es moment.seconds (message.Proposal p)) x i in
+      let g = refuse_made (registry_refusals c es (message.proposal p)) _ x i in
       let own = or_parts (not (same_code p.content.acquirer c)) (same_code p.id.code c || repeats (pieces p.content.units)) g.0.1.1.0 in
       (or_parts (same_code p.id.code c) (repeats (pieces p.content.units)) own.1).1
 

@@ -3,9 +3,9 @@ use Rattle.std.specs.Prelude.{All}
 use Rattle.protocol.specs.Registries.{nodes}
 use Rattle.desk.specs.Views.{committed_records}
 use Rattle.world.specs.Cores.{journal_of, node_of, scheme_of}
-use Rattle.run.specs.Ended.{seats_in, states_in}
-use Rattle.run.specs.Settled.{AreSettledTo}
-use Rattle.run.proofs.reporting.add_settled.Given as goal
+use Rattle.audit.specs.Ended.{seats_in, states_in}
+use Rattle.audit.specs.Settled.{AreSettledTo}
+use Rattle.audit.proofs.ended.add_settled.Given as goal
 
 abbrev pub invariant-loop-at : goal.invariant-loop-at
 invariant-loop-at g l = record {

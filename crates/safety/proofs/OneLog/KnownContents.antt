@@ -4,7 +4,8 @@ use Rattle.status.specs.Content.{Content}
 use Rattle.status.specs.declared.id.TransactionId.{TransactionId}
 use Rattle.wire.specs.declared.input.Input.{Input}
 use Rattle.wire.specs.declared.input.Input.TheVariants.{Received}
-use Rattle.wire.specs.declared.message.Message.TheVariants as message
+use Rattle.wire.specs.declared.message.Body.{Body}
+use Rattle.wire.specs.declared.message.Body.TheVariants.{Proposal}
 use Rattle.units.specs.declared.code.Node.TheVariants.{Itl}
 use Rattle.scheme.specs.declared.registries.Scheme.{Scheme}
 use Rattle.protocol.specs.History.{Entry, Transition, newest, transitions_of}
@@ -18,8 +19,12 @@ abbrev pub ContentsKept : List Transition → Type 0
 ContentsKept xs = (x y : Transition) → In x xs → newest xs x.id ≡ Some y → y.content ≡ x.content
 
 -- the content that a proposal brings
+abbrev offered : Body → Option Content
+offered (Proposal p) = Some p.content
+offered _ = None
+
 abbrev brought : Input → Option Content
-brought (Received (message.Proposal p) moment) = Some p.content
+brought (Received m moment) = offered m.body
 brought _ = None
 
 -- the content of a transition: that of the transaction's newest one, else the one that the input brings

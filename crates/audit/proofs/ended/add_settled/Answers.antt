@@ -10,11 +10,10 @@ use Rattle.world.specs.Cores.{journal_of, node_of, scheme_of}
 use Rattle.world.specs.declared.any_core.Core.{Core}
 use Rattle.weave.proofs.Lists.{map_get}
 use Rattle.weave.proofs.Replayed.{nodes_more}
-use Rattle.run.specs.Ended.{seats_in, states_in, stored_in}
-use Rattle.run.specs.Settled.{FailsToSettleAt}
-use Rattle.run.proofs.HeardLines.{found_at}
-use Rattle.run.proofs.Settling.{fails_at, image_found, journals_more, settled_more}
-use Rattle.run.proofs.reporting.add_settled.Goals as goal
+use Rattle.audit.specs.Ended.{seats_in, states_in, stored_in}
+use Rattle.audit.specs.Settled.{FailsToSettleAt}
+use Rattle.audit.proofs.Settling.{fails_at, found_at, image_found, journals_more, settled_more}
+use Rattle.audit.proofs.ended.add_settled.Goals as goal
 
 pub returns-in-Err-clause-err : goal.returns-in-Err-clause-err
 returns-in-Err-clause-err g c =

@@ -37,13 +37,13 @@ use accounts::Holdings;
 use checks::{acquirer_findings, column_of_proposal, holds_some};
 use protocol::Decision;
 use protocol::scheme::Scheme;
+use protocol::wire::{AcquirerCodes, Message};
 use status::{Content, RecordedStatus, Role, Row, RowInput, Status, TransactionId, row};
 use std::alloc::Global;
 use std::collections::{BTreeMap, BTreeSet};
 use std::marker::Model;
 use units::refusal_code::{NO_ROW, TRANSFER_ACCEPTED};
 use units::{Code, Items, NoMemory, Refusal};
-use wire::{AcquirerCodes, Message};
 
 /// The transfers to a registry, by their identifiers. It decides what the acquirer's table says to an input, without
 /// any change, and does then what a decision that moves a transfer asks for.

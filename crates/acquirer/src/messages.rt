@@ -6,10 +6,10 @@ ghost use Rattle.checks.specs.Finding.{codes_in};
 ghost use Rattle.std.specs.Prelude.{None};
 
 use protocol::one_message;
+use protocol::wire::{AcquirerCodes, Body, Message, NotifiedStatus};
 use status::TransactionId;
 use std::alloc::Global;
 use units::{Code, Items, NoMemory, Node};
-use wire::{AcquirerCodes, Body, Message, NotifiedStatus};
 
 /// What follows a proposal, by what was found in it: Accepted to the log, or Rejected with the codes.
 pub(crate) fn on_proposal(

@@ -117,14 +117,7 @@ pub struct State<C: NodeCore> {
 // Written out, since a derived destructor is proved anew in each crate that lets a value go.
 impl<C: NodeCore> Drop for State<C> {
     fn drop(self) {
-        let State {
-            alloc: _,
-            core,
-            committed: _,
-            opening: _,
-            runs: _,
-        } = self;
-        drop(core);
+        drop(self.into_core());
     }
 }
 

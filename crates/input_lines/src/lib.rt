@@ -13,7 +13,7 @@ mod verbs;
 
 pub use cutting::first_line;
 pub use events::event_of;
-pub use line::{WordsFault, first_of, node_first, only_word, words_of};
+pub use line::WordsFault;
 pub use reading::{WrittenLine, next_line};
 pub use script::read_script;
 pub use script_line::{MOST_TURNS, ScriptLine, script_line_of};

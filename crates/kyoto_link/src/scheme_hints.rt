@@ -1,10 +1,10 @@
 //! Where the fault of a scheme's file is, for who waits at a terminal.
 
 use protocol::scheme::Scheme;
+use protocol::units::NoMemory;
 use serde_json::Value;
 use std::alloc::Global;
 use std::fs;
-use units::NoMemory;
 
 /// Two codes, of which a registry has one at most.
 const CODES: [&str; 2] = ["AA", "AB"];

@@ -2,6 +2,7 @@
 
 use crate::watching::MigrationLine;
 use commands::Archive;
+use protocol::units::Node;
 use sqlite::File as StoreFile;
 use std::alloc::{AllocError, Global};
 use std::fs;
@@ -9,7 +10,6 @@ use std::fs::File;
 use std::io::IsTerminal;
 use store_files::durable::SqlStore;
 use stores::StoreFault;
-use units::Node;
 
 /// The files of the system. No clause ties what a path names to what is opened, so that the bodies here are to be read.
 #[derive(Clone, Copy)]

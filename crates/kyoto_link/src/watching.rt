@@ -2,9 +2,9 @@
 
 use commands::Progress;
 use commands::weave::Watch;
+use protocol::units::Node;
 use std::io::IsTerminal;
 use std::time::Instant;
-use units::Node;
 
 /// When a line of progress is written: once a second, where standard error is a terminal.
 #[derive(Drop)]

@@ -45,7 +45,7 @@ use Rattle.log_core.proofs.KeptTransfers.{transfer_state_begun, transfer_state_c
 use Rattle.log_core.proofs.KeptUnits.{entry, owner_handed, owner_kept, under_way_begun, under_way_ended, under_way_same}
 use Rattle.safety.proofs.OneLog.KnownContents.{move_keeps}
 use Rattle.log_core.proofs.KnownEffects.{all_in, here_first, here_second, ids_of, of_one, advanced_ended, advanced_known, advanced_unchecked, not_advanced}
-use Rattle.log_core.proofs.KnownUnderWay.{some_is, mapped}
+use Rattle.safety.proofs.ListLemmas.FirstFound.{mapped, some_is}
 
 -- an input on which transitions are recorded
 abbrev pub IsMessageOrCleanUp : Input → Type 0

@@ -30,7 +30,7 @@ use Rattle.log_core.specs.Readings.{is_under_way_with, last_order}
 use Rattle.log_core.specs.declared.tables.Tables.{Tables}
 use Rattle.safety.proofs.OneLog.KnownContents.{move_keeps}
 use Rattle.log_core.proofs.KnownEffects.{advanced_known}
-use Rattle.log_core.proofs.KnownUnderWay.{any_found}
+use Rattle.safety.proofs.ListLemmas.FirstFound.{any_found}
 
 -- ---- a unit has an owner exactly where it is allotted
 

@@ -1,8 +1,7 @@
 -- The transfer that a unit is in: it is the one that stands Checked or Accepted with the unit, and there is one at
 -- most.
-use Rattle.std.proofs.Common.{Bool, List, None, Option, Some, [], ap, cond, false, refl, subst, sym, true, ◌∙◌, ◌∷◌, ◌≡◌, ◌||◌}
+use Rattle.std.proofs.Common.{Bool, List, None, Option, Some, ap, refl, subst, sym, true, ◌∙◌, ◌≡◌, ◌||◌}
 use Rattle.std.specs.Prelude.{find, is_some, option_map}
-use Rattle.std.specs.List.{list_any}
 use Rattle.std.proofs.lemmas.Bool.{and_from, and_parts}
 use Rattle.units.specs.declared.block.Unit.{Unit as Serial}
 use Rattle.units.specs.declared.code.Node.TheVariants.{Itl}
@@ -15,29 +14,12 @@ use Rattle.checks.specs.declared.register.UnderWay.{UnderWay}
 use Rattle.protocol.specs.History.{Entry, Transition, carries, has_serial, is_status, newest, transitions_of}
 use Rattle.units.proofs.Lists.Membership.{In, In_find}
 use Rattle.units.proofs.Lists.SomePass.{list_any_in}
+use Rattle.safety.proofs.ListLemmas.FirstFound.{any_found, mapped, some_is}
 use Rattle.safety.proofs.MovesAndHistories.NewestTransitions.{Made, newest_id}
 use Rattle.safety.proofs.MovesAndHistories.TableMoves.{newest_some}
 use Rattle.safety.proofs.OneLog.OwnersInLog.{Busy, IsBusy, in_book}
 use Rattle.log_core.specs.Readings.{is_under_way_with, under_way}
 use Rattle.safety.proofs.OneLog.KnownContents.{ContentsKept, contents_kept}
-
--- ---- the first element that passes a test
-
-pub any_found : {X Y : Type 0} (p : X → Bool) (f : X → Y) (xs : List X) → list_any p xs ≡ is_some (option_map f (find p xs))
-any_found p f [] = refl
-any_found {X} {Y} p f (x ∷ xs) = go (p x) (any_found p f xs)
-  where
-    go : (b : Bool) → list_any p xs ≡ is_some (option_map f (find p xs)) → (b || list_any p xs) ≡ is_some (option_map f (cond b (Some x) (find p xs)))
-    go true e = refl
-    go false e = e
-
-pub some_is : {X : Type 0} (o : Option X) → is_some o ≡ true → (x : X) × (o ≡ Some x)
-some_is None e = absurd (cc (e))
-some_is (Some x) e = (x, refl)
-
-pub mapped : {X Y : Type 0} (f : X → Y) (o : Option X) (y : Y) → option_map f o ≡ Some y → (x : X) × (o ≡ Some x) × (f x ≡ y)
-mapped f None y e = absurd (cc (e))
-mapped f (Some x) y e = (x, refl, cc (e))
 
 -- ---- a transfer that is under way
 

@@ -122,9 +122,17 @@ at_start scheme c s = cond (is_with c (allotted scheme s)) 1 0
 abbrev pub holds : Scheme → Code → List Transition → Serial → Bool
 holds scheme c xs s = (at_start scheme c s + count_by (credits c s) xs) == (count_by (gives c s) xs + 1)
 
--- a transfer with the unit stands Proposed here as initiator
+-- a transfer out of this registry that stands Proposed, with the unit
+abbrev pub reserves : Code → List Transition → Serial → Transition → Bool
+reserves c xs s x = same_code x.id.code c && (stands_at xs x.id Proposed && carries x s)
+
+-- a transfer reserves the unit
 abbrev pub reserved : Code → List Transition → Serial → Bool
-reserved c xs s = list_any (λ x. same_code x.id.code c && (stands_at xs x.id Proposed && carries x s)) xs
+reserved c xs s = list_any (reserves c xs s) xs
+
+-- the transaction that reserves the unit
+abbrev pub reserver : Code → List Transition → Serial → Option TransactionId
+reserver c xs s = option_map (λ x. x.id) (find (reserves c xs s) xs)
 
 abbrev pub spendable : Scheme → Code → List Transition → Serial → Bool
 spendable scheme c xs s = holds scheme c xs s && not (reserved c xs s)

@@ -1,6 +1,7 @@
 pub mod Pieces
 pub mod Registries
 pub mod History
+pub mod Held
 pub mod Checks
 pub mod Effects
 pub mod Deciding

@@ -15,14 +15,14 @@ use Rattle.wire.specs.declared.input.Input.{Input}
 use Rattle.wire.specs.declared.input.Input.TheVariants.{CleanUp, Eligible}
 use Rattle.scheme.specs.declared.registries.Scheme.{Scheme}
 use Rattle.protocol.specs.Cores.{IsExpectedOrNoMemory, answer}
-use Rattle.protocol.specs.History.{Transition, at_start, credits, gives, holds, reserved, spendable}
+use Rattle.protocol.specs.History.{Transition, at_start, credits, gives, holds, reserved, spendable, reserver}
 use Rattle.protocol.specs.Verdict.{verdict}
 use Rattle.safety.proofs.OneRegistry.UnitsCountedOnce.{Waits, counted_once}
 use Rattle.registry_core.specs.Kept.{IsKept}
-use Rattle.registry_core.specs.Readings.{unit_holding_at, reserver, account_status_at}
+use Rattle.protocol.specs.Held.{unit_holding_at, account_status_at}
 use Rattle.registry_core.specs.Registry.{IsReserving, RegistryCoreView as Core, moves, past}
 use Rattle.registry_core.specs.declared.tables.Tables.{Tables}
-use Rattle.registry_core.proofs.UnitHoldingsOfUnits.{waits_reserver, held_position, unit_holding_is_held, unit_holding_of_held, unit_holding_of_unheld, reserved_some, reserver_waits, unheld_reserver, waits_held}
+use Rattle.safety.proofs.OneRegistry.UnitHoldingsOfUnits.{waits_reserver, held_position, unit_holding_is_held, unit_holding_of_held, unit_holding_of_unheld, reserved_some, reserver_waits, unheld_reserver, waits_held}
 use Rattle.safety.proofs.OneRegistry.SoundHistories.{Sound, sound_history}
 use Rattle.safety.proofs.MovesAndHistories.NewestTransitions.{Made}
 use Rattle.safety.proofs.OneRegistry.RecordedEntries.{entered_made, replays_entered}

@@ -37,8 +37,8 @@ use Rattle.registry_core.specs.declared.effect.RegistryEffect.TheVariants as eff
 use Rattle.registry_core.specs.declared.effect.RegistryEffect.TheVariants.{Arrive, Ask, Cancel, Complete, Forestall, Open, Conclude}
 use Rattle.registry_core.specs.declared.tables.Tables.{Tables}
 use Rattle.safety.proofs.OneRegistry.ApartContents.{awaited_apart}
-use Rattle.registry_core.proofs.UnitHoldingsAfterMoves.{units_absent}
-use Rattle.registry_core.proofs.UnitHoldingsOfUnits.{none_is}
+use Rattle.safety.proofs.OneRegistry.UnitHoldingsAfterMoves.{units_absent}
+use Rattle.safety.proofs.ListLemmas.FirstFound.{none_is}
 use Rattle.registry_core.proofs.OpenReceivers.{receivers_open}
 use Rattle.safety.proofs.OneRegistry.RecordedEntries.{Entered, entered_made, replays_entered}
 

@@ -52,17 +52,18 @@ use Rattle.safety.proofs.OneRegistry.TransactionEnds.{known, own_code}
 use Rattle.units.proofs.Lists.OneValue.{clash, one_some}
 use Rattle.registry_core.specs.Effects.{Carried, ChangedAt, IsEffect}
 use Rattle.registry_core.specs.Kept.{AreKept, IsKept}
-use Rattle.registry_core.specs.Readings.{foreign_row, is_foreign, is_own, own_row, row_at, account_status_at}
+use Rattle.protocol.specs.Held.{account_status_at}
+use Rattle.registry_core.specs.Readings.{foreign_row, is_foreign, is_own, own_row, row_at}
 use Rattle.registry_core.specs.declared.effect.RegistryEffect.{RegistryEffect}
 use Rattle.registry_core.specs.declared.effect.RegistryEffect.TheVariants as effects
 use Rattle.registry_core.specs.declared.effect.RegistryEffect.TheVariants.{Arrive, Ask, Cancel, Complete, Forestall, Open, Conclude}
 use Rattle.registry_core.specs.declared.tables.Tables.{Tables}
 use Rattle.registry_core.proofs.EffectsMayBe.{entered_move, foreign_of, row_content}
-use Rattle.registry_core.proofs.UnitHoldingsAfterMoves.{unit_holding_arrived, unit_holding_asked, unit_holding_bare, unit_holding_credited, unit_holding_proposed, unit_holding_concluded, unit_holding_unmoved}
+use Rattle.safety.proofs.OneRegistry.UnitHoldingsAfterMoves.{unit_holding_arrived, unit_holding_asked, unit_holding_bare, unit_holding_credited, unit_holding_proposed, unit_holding_concluded, unit_holding_unmoved}
 use Rattle.registry_core.proofs.NewestById.{row_changed, row_kept, row_put}
 use Rattle.safety.proofs.OneRegistry.RecordedEntries.{Entered, entered_made, replays_entered}
 use Rattle.registry_core.proofs.RequestedTransfers.{unknown_unrequested}
-use Rattle.registry_core.proofs.StatusesOfAccounts.{is_account_order, is_request_order, proposals_kept, proposals_more, requested_kept, requested_more, account_status_kept}
+use Rattle.safety.proofs.OneRegistry.StatusesOfAccounts.{is_account_order, is_request_order, proposals_kept, proposals_more, requested_kept, requested_more, account_status_kept}
 
 -- one record more
 abbrev pub entry : Input → List Transition → Entry

@@ -28,14 +28,15 @@ use Rattle.initiator.specs.declared.transfer.OutgoingTransfer.{OutgoingTransfer}
 use Rattle.acquirer.specs.Transfers.{AcquirerView}
 use Rattle.registry_core.specs.Effects.{AreEffects, Carried}
 use Rattle.registry_core.specs.Kept.{AreKept, IsKept}
-use Rattle.registry_core.specs.Readings.{foreign_row, is_foreign, is_own, unit_holding_at, own_row, row_at, account_status_at}
+use Rattle.protocol.specs.Held.{unit_holding_at, account_status_at}
+use Rattle.registry_core.specs.Readings.{foreign_row, is_foreign, is_own, own_row, row_at}
 use Rattle.registry_core.specs.declared.tables.Tables.{Tables}
 use Rattle.registry_core.proofs.EffectsMayBe.{row_none}
 use Rattle.registry_core.specs.declared.effect.RegistryEffect.{RegistryEffect}
 use Rattle.registry_core.specs.declared.effect.RegistryEffect.TheVariants as effects
 use Rattle.registry_core.proofs.KeptByMoves.{entry, kept_moved, kept_recorded, rows_same}
 use Rattle.safety.proofs.OneRegistry.RecordedEntries.{recorded_causes}
-use Rattle.registry_core.proofs.StatusesOfAccounts.{is_request_order, proposals_kept, requested_kept, account_status_closed, account_status_kept, account_status_opened}
+use Rattle.safety.proofs.OneRegistry.StatusesOfAccounts.{is_request_order, proposals_kept, requested_kept, account_status_closed, account_status_kept, account_status_opened}
 
 entered_so : (scheme : Scheme) (c : Code) (es : List Entry) (input : Input) (xs : List Transition) → verdict scheme (Registry c) es input ≡ IsRecorded xs → registry_verdict scheme c es input ≡ IsRecorded xs
 unfolding verdict

@@ -2,7 +2,7 @@
 use Rattle.std.specs.FinMap as map
 use Rattle.std.proofs.Common.{Bool, List, None, Option, Some, ap, cond, false, inl, inr, refl, sym, true, ℕ, ◌&&◌, ◌==◌, ◌∙◌, ◌≡◌}
 use Rattle.units.specs.declared.code.Code.{Code}
-use Rattle.protocol.specs.History.{Entry, Position, holds, position, reserved, transitions_of}
+use Rattle.protocol.specs.History.{Entry, Position, holds, position, reserved, transitions_of, reserver}
 use Rattle.checks.specs.Knowing.{Knows}
 use Rattle.accounts.specs.declared.unit_holding.UnitHolding.{UnitHolding}
 use Rattle.safety.proofs.MovesAndHistories.NewestTransitions.{Made}
@@ -12,11 +12,11 @@ use Rattle.scheme.specs.declared.registries.Scheme.{Scheme}
 use Rattle.units.specs.declared.block.Unit.{Unit as Serial}
 use Rattle.status.specs.declared.id.TransactionId.{TransactionId}
 use Rattle.std.proofs.lemmas.Bool.{cases_Bool, cond-true}
-use Rattle.registry_core.proofs.UnitHoldingsOfUnits.{held_position, unit_holding_is_held, unit_holding_of_unheld, reserved_some, unheld_reserver}
+use Rattle.safety.proofs.OneRegistry.UnitHoldingsOfUnits.{held_position, unit_holding_is_held, unit_holding_of_unheld, reserved_some, unheld_reserver}
 use Rattle.protocol.specs.AtRegistry.{holding, is_position}
 use Rattle.accounts.specs.Holdings.{HoldingsView}
 use Rattle.std.specs.Prelude.{is_some, option_map}
-use Rattle.registry_core.specs.Readings.{unit_holding_at, unit_holding_in, reserver, account_status_at}
+use Rattle.protocol.specs.Held.{unit_holding_at, unit_holding_in, account_status_at}
 use Rattle.std.specs.Option.{option_map_or}
 use Rattle.units.specs.Unit.{same_kind}
 use Rattle.safety.proofs.OneRegistry.SoundHistories.{sound_history}

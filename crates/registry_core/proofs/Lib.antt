@@ -1,17 +1,9 @@
-pub mod UnitHoldingsOfUnits
 pub mod KnownHoldings
-pub mod StepsOfUnitHoldings
-pub mod UnitHoldingsAfterTransitions
-pub mod UnitHoldingsAfterMoves
-pub mod StatusesOfAccounts
 pub mod NewestById
-pub mod UsedAccounts
 pub mod AwaitedTransfers
-pub mod OpeningUnitHoldings
 pub mod OpenReceivers
 pub mod RequestedTransfers
 pub mod FirstRefusals
-pub mod AccountVerdicts
 pub mod TablesSayHistory
 pub mod EffectsMayBe
 pub mod KeptByMoves

@@ -21,13 +21,13 @@ use Rattle.units.proofs.Lists.OneValue.{clash, one_some}
 use Rattle.protocol.specs.AtRegistry.{close_refusals, holding, is_awaited, registry_verdict}
 use Rattle.std.proofs.lemmas.Bool.{eqb-true, false_from_ne_true, not-false}
 use Rattle.protocol.specs.Registries.{has_account}
-use Rattle.registry_core.proofs.StatusesOfAccounts.{is_account_order, open_account_status, account_status_kept, account_status_open}
+use Rattle.safety.proofs.OneRegistry.StatusesOfAccounts.{is_account_order, open_account_status, account_status_kept, account_status_open}
 use Rattle.safety.proofs.MovesAndHistories.NewestTransitions.{made_registry, newest_append, newest_id}
 use Rattle.safety.proofs.OneLog.LogInputs.{none_stand}
 use Rattle.wire.specs.NotifiedStatuses.{notified_status}
 use Rattle.units.specs.Code.{same_code}
 use Rattle.registry_core.proofs.AwaitedTransfers.{some_awaited}
-use Rattle.registry_core.specs.Readings.{account_status_at}
+use Rattle.protocol.specs.Held.{account_status_at}
 use Rattle.std.specs.Prelude.{unwrap_or}
 
 finds_nothing : (found : List ℕ) → arrived_status found ≡ Accepted → found ≡ []

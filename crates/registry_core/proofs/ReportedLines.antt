@@ -12,10 +12,10 @@ use Rattle.accounts.specs.Holdings.{HoldingsView}
 use Rattle.accounts.specs.Lines.{AreLines, unit_holding_interval}
 use Rattle.accounts.specs.declared.unit_holding.HeldBlock.{HeldBlock}
 use Rattle.accounts.specs.declared.unit_holding.UnitHolding.{UnitHolding}
-use Rattle.registry_core.specs.Readings.{unit_holding_at}
+use Rattle.protocol.specs.Held.{unit_holding_at}
 use Rattle.registry_core.specs.Registry.{RegistryCoreView, moves}
 use Rattle.registry_core.specs.Reported.{AreHoldings, IsHeldSo}
-use Rattle.registry_core.proofs.UnitHoldingsOfUnits.{unit_holding_of_held, unit_holding_parts}
+use Rattle.safety.proofs.OneRegistry.UnitHoldingsOfUnits.{unit_holding_of_held, unit_holding_parts}
 
 -- ---- a unit and the line that has it
 

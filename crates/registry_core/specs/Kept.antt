@@ -9,7 +9,8 @@ use Rattle.scheme.specs.declared.registries.Scheme.{Scheme}
 use Rattle.protocol.specs.Cores.{AreRecordsOf}
 use Rattle.protocol.specs.History.{Entry, transitions_of, proposals}
 use Rattle.protocol.specs.Verdict.{history}
-use Rattle.registry_core.specs.Readings.{unit_holding_at, account_status_at, row_at, is_own, is_foreign, own_row, foreign_row}
+use Rattle.protocol.specs.Held.{unit_holding_at, account_status_at}
+use Rattle.registry_core.specs.Readings.{row_at, is_own, is_foreign, own_row, foreign_row}
 use Rattle.registry_core.specs.declared.tables.Tables.{Tables}
 
 -- each table is a reading of the history

@@ -3,7 +3,6 @@ pub mod Kept
 pub mod Effects
 pub mod Registry
 pub mod Taking
-pub mod Opening
 pub mod Reported
 pub use Rattle.accounts.specs.Lines
 pub use Rattle.accounts.specs.declared.unit_holding.HeldBlock

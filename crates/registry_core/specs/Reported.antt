@@ -6,8 +6,7 @@ use Rattle.units.specs.declared.block.Unit.{Unit as Serial}
 use Rattle.accounts.specs.Lines.{unit_holding_interval}
 use Rattle.accounts.specs.declared.unit_holding.HeldBlock.{HeldBlock}
 use Rattle.accounts.specs.declared.unit_holding.UnitHolding.{UnitHolding}
-use Rattle.protocol.specs.History.{holds, position}
-use Rattle.registry_core.specs.Readings.{reserver}
+use Rattle.protocol.specs.History.{holds, position, reserver}
 use Rattle.registry_core.specs.Registry.{RegistryCoreView, moves}
 
 -- the unit is held in that account with that kind, and that transfer reserves it, or none

@@ -6,8 +6,8 @@ ghost use Rattle.units.specs.Apart.{AllApart};
 ghost use Rattle.units.specs.declared.block.Unit.{Unit as Serial};
 ghost use Rattle.accounts.specs.Refusals.{IsOpen};
 ghost use Rattle.scheme.specs.Order.{blocks_of};
-ghost use Rattle.registry_core.specs.Readings.{unit_holding_at, account_status_at};
-ghost use Rattle.registry_core.specs.Opening.{allotted_unit_holding};
+ghost use Rattle.protocol.specs.Held.{unit_holding_at, account_status_at};
+ghost use Rattle.protocol.specs.Held.{allotted_unit_holding};
 
 use accounts::Holdings;
 use scheme::{Allotment, Scheme, SchemeRegistry};

@@ -4,9 +4,9 @@ ghost use Rattle.std.specs.List.{count_by};
 ghost use Rattle.std.specs.Prelude.{◌≡◌, ℕ, ◌+◌, cond, true, [], Some, IfOk, IfSome};
 ghost use Rattle.units.specs.declared.block.Unit.{Unit as Serial};
 ghost use Rattle.status.specs.declared.id.TransactionId.{TransactionId};
-ghost use Rattle.protocol.specs.History.{at_start, credits, gives, holds, spendable};
+ghost use Rattle.protocol.specs.History.{at_start, credits, gives, holds, spendable, reserver};
 ghost use Rattle.registry_core.specs.Kept.{IsKept};
-ghost use Rattle.registry_core.specs.Readings.{unit_holding_at, reserver, account_status_at};
+ghost use Rattle.protocol.specs.Held.{unit_holding_at, account_status_at};
 ghost use Rattle.registry_core.specs.Registry.{IsReserving, moves, past};
 ghost use Rattle.registry_core.specs.Reported.{AreHoldings};
 

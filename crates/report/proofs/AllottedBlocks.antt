@@ -20,7 +20,7 @@ use Rattle.protocol.specs.Registries.{allotted}
 use Rattle.protocol.proofs.CountsInLists.{count_yes, count_no, number_none}
 use Rattle.units.proofs.Lists.Membership.{In}
 use Rattle.units.proofs.Lists.SomePass.{list_any_not}
-use Rattle.registry_core.proofs.UnitHoldingsOfUnits.{any_found}
+use Rattle.safety.proofs.ListLemmas.FirstFound.{any_found}
 use Rattle.report.specs.NumberOfUnits.{units_of, allotted_units}
 
 -- ---- which units they have

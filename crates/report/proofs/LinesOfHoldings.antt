@@ -15,14 +15,13 @@ use Rattle.units.specs.declared.block.Unit.{Unit as Serial}
 use Rattle.registry_core.specs.Lines.{unit_holding_interval}
 use Rattle.registry_core.specs.HeldBlock.{HeldBlock}
 use Rattle.registry_core.specs.UnitHolding.{UnitHolding}
-use Rattle.protocol.specs.History.{Position, holds}
+use Rattle.protocol.specs.History.{Position, holds, reserver}
 use Rattle.protocol.proofs.CountsInLists.{count_yes, count_no, number_none, number_one}
 use Rattle.units.proofs.Lists.Membership.{In}
 use Rattle.units.proofs.Lists.OneValue.{clash, one_some}
 use Rattle.units.proofs.Lists.Positions.{In_contains, contains_in}
 use Rattle.units.proofs.Lists.SomePass.{list_any_not}
-use Rattle.registry_core.proofs.UnitHoldingsOfUnits.{held_position}
-use Rattle.registry_core.specs.Readings.{reserver}
+use Rattle.safety.proofs.OneRegistry.UnitHoldingsOfUnits.{held_position}
 use Rattle.registry_core.specs.Registry.{RegistryCoreView, moves}
 use Rattle.registry_core.specs.Reported.{AreHoldings, IsHeldSo}
 

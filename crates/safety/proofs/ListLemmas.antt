@@ -1,4 +1,5 @@
--- What tests of sameness say of codes and statuses. Counts in lists and the units of blocks are in the crate
--- `protocol`, what is general in `units`, in `Lists`.
+-- What tests of sameness say of codes and statuses, a label for all units of blocks, and what is found first in a list.
+-- Counts in lists and the units of blocks are in the crate `protocol`, what is general in `units`, in `Lists`.
 pub mod TestsOfSameness
 pub mod LabelledBlocks
+pub mod FirstFound

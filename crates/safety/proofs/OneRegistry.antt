@@ -9,3 +9,11 @@ pub mod ProposedTransfers
 pub mod ApartContents
 pub mod RecordedEntries
 pub mod SoundHistories
+pub mod UnitHoldingsOfUnits
+pub mod StepsOfUnitHoldings
+pub mod UnitHoldingsAfterTransitions
+pub mod UnitHoldingsAfterMoves
+pub mod StatusesOfAccounts
+pub mod UsedAccounts
+pub mod OpeningUnitHoldings
+pub mod AccountVerdicts

@@ -14,8 +14,7 @@ pub struct Items<T> {
 // Written out, since a derived destructor is proved anew in each crate that lets a value go.
 impl<T: Drop> Drop for Items<T> {
     fn drop(self) {
-        let Items { held } = self;
-        drop(held);
+        drop(self.into_vec());
     }
 }
 

@@ -50,7 +50,7 @@ HasNotified d n = HasAt d (codes "codes") (numbers (notified_codes n)) × HasAt 
 abbrev pub HasProposalStatus : Data → ProposalStatus → Type 0
 HasProposalStatus d s = HasAt d (codes "status") (string (status_text (proposal_status s)))
 
--- the object has so many keys, and its call has that name
+-- the object has that many keys, and its call has that name
 abbrev pub IsCall : Data → ℕ → List ℕ → Type 0
 IsCall d count name = HasKeys d count × HasAt d (codes "call") (string name)
 

@@ -1,5 +1,5 @@
-//! What a text may write, if it stands just as it is written: the most common messages and records. Whoever asks
-//! compares the text with what is written of it.
+//! What a text may write, if it stands just as it is written: the most common messages and records. Keys and the signs
+//! between them are counted and not looked at, since whoever asks compares the text with what is written of the guess.
 ghost use Rattle.std.specs.Prelude.{◌<◌};
 
 use crate::input::{Input, Number};
@@ -10,6 +10,9 @@ use std::alloc::Global;
 use std::str::from_utf8;
 use units::limits::MOST_BLOCKS;
 use units::{Block, Code, Items, Node, RawBlock, cut, number};
+
+/// How many quotation marks stand before the text of a member: two around its key, and the one that begins the text.
+const MARKS_BEFORE_A_TEXT: u32 = 3;
 
 /// A text that is read from its front.
 #[derive(Drop)]
@@ -24,10 +27,15 @@ impl<'a> Front<'a> {
         Some(Front { rest })
     }
 
-    /// Goes on after these characters, where they come next.
-    fn skip(&mut self, word: &str) -> Option<()> {
-        self.rest = self.rest.strip_prefix(word)?;
-        Some(())
+    /// Goes on after these characters, where they come next. Returns whether they do.
+    fn skip(&mut self, word: &str) -> bool {
+        match self.rest.strip_prefix(word) {
+            Some(rest) => {
+                self.rest = rest;
+                true
+            }
+            None => false,
+        }
     }
 
     /// What comes before the next such character. Goes on after it.
@@ -39,13 +47,17 @@ impl<'a> Front<'a> {
         Some(found)
     }
 
-    /// A text up to its quotation mark.
+    /// The text of the next member.
     fn text(&mut self) -> Option<&'a str> {
+        for _ in 0..MARKS_BEFORE_A_TEXT {
+            self.before('"')?;
+        }
         self.before('"')
     }
 
-    /// A number up to its comma.
+    /// The number of the next member, which isn't the last one.
     fn number(&mut self) -> Option<u64> {
+        self.before(':')?;
         let digits = self.before(',')?;
         number(digits)
     }
@@ -65,32 +77,43 @@ impl<'a> Front<'a> {
         TransactionId::read(text)
     }
 
-    /// Blocks up to the end of their list, whose first quotation mark was read: at most `MOST_BLOCKS`.
+    /// The list of the next member.
+    fn list(&mut self) -> Option<Front<'a>> {
+        self.before('[')?;
+        let rest = self.before(']')?;
+        Some(Front { rest })
+    }
+
+    /// The next text of a list; `None` after the last one.
+    fn item(&mut self) -> Option<&'a str> {
+        self.before('"')?;
+        self.before('"')
+    }
+
+    /// The blocks of the next member: at most `MOST_BLOCKS`.
     fn blocks(&mut self, alloc: Global) -> Option<Items<Block>> {
+        let mut list = self.list()?;
         let mut blocks = Vec::new(alloc);
-        for _ in 0..MOST_BLOCKS {
-            let text = self.text()?;
+        for _ in 0..=MOST_BLOCKS {
+            let Some(text) = list.item() else {
+                return Some(Items::from_vec(blocks));
+            };
             let block = Block::read(text).ok()?;
             blocks.push(block).ok()?;
-            if self.skip(",\"").is_none() {
-                self.skip("]")?;
-                return Some(Items::from_vec(blocks));
-            }
         }
         None
     }
 
     /// The same of blocks as they were ordered.
     fn ordered(&mut self, alloc: Global) -> Option<Items<RawBlock>> {
+        let mut list = self.list()?;
         let mut blocks = Vec::new(alloc);
-        for _ in 0..MOST_BLOCKS {
-            let text = self.text()?;
+        for _ in 0..=MOST_BLOCKS {
+            let Some(text) = list.item() else {
+                return Some(Items::from_vec(blocks));
+            };
             let block = RawBlock::read(text)?;
             blocks.push(block).ok()?;
-            if self.skip(",\"").is_none() {
-                self.skip("]")?;
-                return Some(Items::from_vec(blocks));
-            }
         }
         None
     }
@@ -113,24 +136,16 @@ fn notified_status(text: &str) -> Option<NotifiedStatus> {
     }
 }
 
-/// A proposal, after its first key.
 fn proposal(alloc: Global, front: &mut Front<'_>) -> Option<Message> {
     let account = front.number()?;
-    front.skip("\"call\":\"AcceptProposal\",\"from\":\"")?;
+    let _call = front.text()?;
     let from = front.node()?;
-    front.skip(",\"status\":\"")?;
     let status = proposal_status(front.text()?)?;
-    front.skip(",\"to\":\"")?;
     let to = front.node()?;
-    front.skip(",\"to_account\":")?;
     let to_account = front.number()?;
-    front.skip("\"to_registry\":\"")?;
     let acquirer = front.code()?;
-    front.skip(",\"transaction\":\"")?;
     let id = front.id()?;
-    front.skip(",\"units\":[\"")?;
     let units = front.blocks(alloc)?;
-    front.skip("}")?;
     let content = Content::new(account, acquirer, to_account, units)?;
     let body = Body::Proposal(Proposal { status, content });
     Some(Message { from, to, id, body })
@@ -138,28 +153,20 @@ fn proposal(alloc: Global, front: &mut Front<'_>) -> Option<Message> {
 
 /// A notification without codes, after them.
 fn notification(front: &mut Front<'_>) -> Option<Message> {
-    front.skip(",\"from\":\"")?;
     let from = front.node()?;
-    front.skip(",\"status\":\"")?;
     let notified = notified_status(front.text()?)?;
-    front.skip(",\"to\":\"")?;
     let to = front.node()?;
-    front.skip(",\"transaction\":\"")?;
     let id = front.id()?;
-    front.skip("}")?;
     let body = Body::Notification(notified);
     Some(Message { from, to, id, body })
 }
 
 fn message(alloc: Global, front: &mut Front<'_>) -> Option<Message> {
-    if front
-        .skip("{\"call\":\"AcceptNotification\",\"codes\":[]")
-        .is_some()
-    {
-        return notification(front);
+    if front.skip("{\"call\":\"AcceptNotification\",\"codes\":[]") {
+        notification(front)
+    } else {
+        proposal(alloc, front)
     }
-    front.skip("{\"account\":")?;
-    proposal(alloc, front)
 }
 
 /// A message that this line may write.
@@ -171,19 +178,22 @@ pub(crate) fn guess_message(alloc: Global, line: &[u8]) -> Option<Message> {
 /// A message that was received, after the key.
 fn received(alloc: Global, front: &mut Front<'_>) -> Option<Input> {
     let message = message(alloc, front)?;
-    front.skip(",\"moment\":")?;
     let moment = Moment::new(front.number()?)?;
     Some(Input::Received { message, moment })
 }
 
-/// An order to transfer units, after its first key.
+/// An acknowledgement, before its key.
+fn acknowledgement(front: &mut Front<'_>) -> Option<Input> {
+    let key = Number::new(front.number()?)?;
+    Some(Input::Ack(key))
+}
+
+/// An order to transfer units.
 fn order(alloc: Global, front: &mut Front<'_>) -> Option<Input> {
     let account = front.number()?;
-    front.skip("\"input\":\"propose\",\"to_account\":")?;
+    let _input = front.text()?;
     let to_account = front.number()?;
-    front.skip("\"to_registry\":\"")?;
     let acquirer = front.code()?;
-    front.skip(",\"units\":[\"")?;
     let units = front.ordered(alloc)?;
     let order = Order::new(account, acquirer, to_account, units)?;
     Some(Input::Propose(order))
@@ -192,13 +202,11 @@ fn order(alloc: Global, front: &mut Front<'_>) -> Option<Input> {
 /// An input of which this may be the record.
 pub(crate) fn guess_input(alloc: Global, text: &[u8]) -> Option<Input> {
     let mut front = Front::new(text)?;
-    if front.skip("{\"input\":\"received\",\"message\":").is_some() {
-        return received(alloc, &mut front);
+    if front.skip("{\"input\":\"received\",\"message\":") {
+        received(alloc, &mut front)
+    } else if front.skip("{\"input\":\"ack\",") {
+        acknowledgement(&mut front)
+    } else {
+        order(alloc, &mut front)
     }
-    if front.skip("{\"input\":\"ack\",\"key\":").is_some() {
-        let key = Number::new(front.number()?)?;
-        return Some(Input::Ack(key));
-    }
-    front.skip("{\"account\":")?;
-    order(alloc, &mut front)
 }

@@ -102,7 +102,7 @@ fn proposal(alloc: Global, value: &Value) -> Result<Proposal, TextFault>
     Ok(Proposal { status, content })
 }
 
-/// Whether the object has so many keys, and its call has that name.
+/// Whether the object has that many keys, and its call has that name.
 fn is_call(value: &Value, count: usize, name: &str) -> bool
     ensures { IsTrue result ↔ IsCall (view value.now) count name.now }
 {

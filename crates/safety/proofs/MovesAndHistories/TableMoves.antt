@@ -318,6 +318,33 @@ newest_some (p ∷ ps) x (inr i) =
       | inr n ↦ (rest.0, cond-false (same_id p.id x.id) (Some p) (newest ps x.id) n ∙ rest.1)
     ]
 
+-- ---- transitions put in ascending order
+
+pub In_put : (q x : Transition) (xs : List Transition) → In x (put_transition q xs) → (q ≡ x) ⊎ In x xs
+In_put q x [] (inl e) = inl e
+In_put q x [] (inr h) = absurd h
+In_put q x (p ∷ ps) h =
+    elim (In_cond x (is_lt (id_cmp q.id p.id)) (q ∷ p ∷ ps) (p ∷ put_transition q ps) h) [
+      | inl i ↦ i.1
+      | inr i ↦
+          elim i.1 [
+            | inl e ↦ inr (inl e)
+            | inr j ↦
+                elim (In_put q x ps j) [
+                  | inl e ↦ inl e
+                  | inr l ↦ inr (inr l)
+                ]
+          ]
+    ]
+
+pub In_by_id : (x : Transition) (xs : List Transition) → In x (by_id xs) → In x xs
+In_by_id x [] h = absurd h
+In_by_id x (q ∷ qs) h =
+    elim (In_put q x (by_id qs) h) [
+      | inl e ↦ inl e
+      | inr i ↦ inr (In_by_id x qs i)
+    ]
+
 module _ (scheme : Scheme) (es : List Entry) where
   proposal_made : (p : ProposalMessage) (moment : Moment) (last : Option Transition) (found : List ℕ) (x : Transition) → p.from ≡ Registry p.id.code → p.status ≡ proposal.Proposed → newest (transitions_of es) p.id ≡ last
       → is_no_registry scheme p.from ≡ false → found ≡ log_findings scheme (ledger scheme es) p.id.code p.content
@@ -397,31 +424,6 @@ module _ (scheme : Scheme) (es : List Entry) where
       let g = refuse_made (log_refusals scheme es (message.request r)) _ x h in
       let own = node_of_same r.from (Registry r.id.code) (not-false _ g.0.1.1.0) in
       log_request_made r moment (newest (transitions_of es) r.id) x own refl g.0.1.0 g.1
-
-  In_put : (q x : Transition) (xs : List Transition) → In x (put_transition q xs) → (q ≡ x) ⊎ In x xs
-  In_put q x [] (inl e) = inl e
-  In_put q x [] (inr h) = absurd h
-  In_put q x (p ∷ ps) h =
-      elim (In_cond x (is_lt (id_cmp q.id p.id)) (q ∷ p ∷ ps) (p ∷ put_transition q ps) h) [
-        | inl i ↦ i.1
-        | inr i ↦
-            elim i.1 [
-              | inl e ↦ inr (inl e)
-              | inr j ↦
-                  elim (In_put q x ps j) [
-                    | inl e ↦ inl e
-                    | inr l ↦ inr (inr l)
-                  ]
-            ]
-      ]
-
-  In_by_id : (x : Transition) (xs : List Transition) → In x (by_id xs) → In x xs
-  In_by_id x [] h = absurd h
-  In_by_id x (q ∷ qs) h =
-      elim (In_put q x (by_id qs) h) [
-        | inl e ↦ inl e
-        | inr i ↦ inr (In_by_id x qs i)
-      ]
 
   -- the newest of each is the newest
   In_newest : (x : Transition) (xs : List Transition) → In x (newest_of_each xs) → newest xs x.id ≡ Some x

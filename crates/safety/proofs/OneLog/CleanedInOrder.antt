@@ -12,9 +12,10 @@ use Rattle.status.specs.Id.{id_cmp, same_id}
 use Rattle.status.specs.declared.id.TransactionId.{TransactionId}
 use Rattle.protocol.specs.AtLog.{by_id, newest_of_each, put_transition}
 use Rattle.protocol.specs.History.{Transition, newest}
-use Rattle.units.proofs.Lists.Membership.{In, In_cond, In_filter, filter_In}
+use Rattle.units.proofs.Lists.Membership.{In, In_filter, filter_In}
 use Rattle.units.proofs.Lists.OneValue.{clash}
 use Rattle.safety.proofs.OneRegistry.UnitsCountedOnce.{newest_cons}
+use Rattle.safety.proofs.MovesAndHistories.TableMoves.{In_by_id, In_put}
 
 -- ---- the order of identifiers
 
@@ -83,23 +84,6 @@ newest_each x (p ∷ ps) h =
 
 -- ---- in ascending order
 
-In_put : (q x : Transition) (xs : List Transition) → In x (put_transition q xs) → (q ≡ x) ⊎ In x xs
-In_put q x [] (inl e) = inl e
-In_put q x [] (inr h) = absurd h
-In_put q x (p ∷ ps) h =
-    elim (In_cond x (is_lt (id_cmp q.id p.id)) (q ∷ p ∷ ps) (p ∷ put_transition q ps) h) [
-      | inl i ↦ i.1
-      | inr i ↦
-          elim i.1 [
-            | inl e ↦ inr (inl e)
-            | inr j ↦
-                elim (In_put q x ps j) [
-                  | inl e ↦ inl e
-                  | inr l ↦ inr (inr l)
-                ]
-          ]
-    ]
-
 put_In : (q x : Transition) (xs : List Transition) → (q ≡ x) ⊎ In x xs → In x (put_transition q xs)
 put_In q x [] i = i
 put_In q x (p ∷ ps) i = go (is_lt (id_cmp q.id p.id)) (put_In q x ps) i
@@ -109,14 +93,6 @@ put_In q x (p ∷ ps) i = go (is_lt (id_cmp q.id p.id)) (put_In q x ps) i
     go false rest (inl e) = inr (rest (inl e))
     go false rest (inr (inl e)) = inl e
     go false rest (inr (inr j)) = inr (rest (inr j))
-
-pub In_by_id : (x : Transition) (xs : List Transition) → In x (by_id xs) → In x xs
-In_by_id x [] h = absurd h
-In_by_id x (q ∷ qs) h =
-    elim (In_put q x (by_id qs) h) [
-      | inl e ↦ inl e
-      | inr i ↦ inr (In_by_id x qs i)
-    ]
 
 pub by_id_In : (x : Transition) (xs : List Transition) → In x xs → In x (by_id xs)
 by_id_In x [] h = absurd h

@@ -6,7 +6,7 @@ use Rattle.std.specs.Option.{option_or}
 use Rattle.units.specs.Apart.{AllApart}
 use Rattle.units.specs.Unit.{covers}
 use Rattle.accounts.specs.Holdings.{free_unit_holding, kind_in}
-use Rattle.registry_core.proofs.OpeningUnitHoldings.{allotment_more}
+use Rattle.safety.proofs.OneRegistry.OpeningUnitHoldings.{allotment_more}
 use Rattle.registry_core.proofs.opening.credit_each.Goals as goal
 
 pub loop-allotment-init : goal.loop-allotment-init

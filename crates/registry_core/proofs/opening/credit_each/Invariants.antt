@@ -1,7 +1,7 @@
 use Rattle.std.proofs.Common.{◌≡◌, take}
 use Rattle.std.specs.FinMap as map
 use Rattle.units.specs.declared.block.Unit.{Unit as Serial}
-use Rattle.registry_core.specs.Opening.{allotted_unit_holding}
+use Rattle.protocol.specs.Held.{allotted_unit_holding}
 use Rattle.registry_core.proofs.opening.credit_each.Given as goal
 
 abbrev pub invariant-loop-allotment : goal.invariant-loop-allotment

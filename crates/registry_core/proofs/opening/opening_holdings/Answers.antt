@@ -11,8 +11,8 @@ use Rattle.accounts.specs.Refusals.{IsOpen}
 use Rattle.accounts.specs.declared.unit_holding.AccountStatus.TheVariants.{Open}
 use Rattle.scheme.specs.Order.{HasAccount, blocks_of, has_account}
 use Rattle.scheme.proofs.Pairs.{each_weaker}
-use Rattle.registry_core.specs.Opening.{allotted_unit_holding}
-use Rattle.registry_core.proofs.OpeningUnitHoldings.{member_accounts, member_apart, opening_of_member, opening_of_none}
+use Rattle.protocol.specs.Held.{allotted_unit_holding}
+use Rattle.safety.proofs.OneRegistry.OpeningUnitHoldings.{member_accounts, member_apart, opening_of_member, opening_of_none}
 use Rattle.registry_core.proofs.opening.opening_holdings.Goals as goal
 
 pub returns-in_default-clause-unit_holdings : goal.returns-in_default-clause-unit_holdings

@@ -12,7 +12,7 @@ use Rattle.acquirer.specs.Transfers.{is_awaited_by}
 use Rattle.registry_core.specs.Effects.{AreEffects}
 use Rattle.registry_core.specs.Taking.{verdict_by_rules}
 use Rattle.registry_core.specs.declared.effect.RegistryEffect.TheVariants.{CloseAccount}
-use Rattle.registry_core.proofs.AccountVerdicts.{closing_awaited, closing_enters, closing_refused}
+use Rattle.safety.proofs.OneRegistry.AccountVerdicts.{closing_awaited, closing_enters, closing_refused}
 use Rattle.registry_core.proofs.TablesSayHistory.{awaited_has_row, row_is_awaited}
 use Rattle.registry_core.proofs.TakenInputs.{are_same, takes_err, verdict_so}
 use Rattle.registry_core.proofs.tables.Tables.close_account.Goals as goal

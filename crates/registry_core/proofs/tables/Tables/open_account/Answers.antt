@@ -5,7 +5,7 @@ use Rattle.accounts.specs.Refusals.{IsOpenRefusal}
 use Rattle.registry_core.specs.Effects.{AreEffects}
 use Rattle.registry_core.specs.Taking.{verdict_by_rules}
 use Rattle.registry_core.specs.declared.effect.RegistryEffect.TheVariants.{OpenAccount}
-use Rattle.registry_core.proofs.AccountVerdicts.{opening_enters, opening_refused}
+use Rattle.safety.proofs.OneRegistry.AccountVerdicts.{opening_enters, opening_refused}
 use Rattle.registry_core.proofs.TakenInputs.{are_same, takes_err, verdict_so}
 use Rattle.registry_core.proofs.tables.Tables.open_account.Goals as goal
 

@@ -6,8 +6,8 @@ use Rattle.units.specs.declared.code.Code.{Code}
 use Rattle.status.specs.declared.status.Status.TheVariants.{Completed, Proposed}
 use Rattle.status.specs.Content.{Content, raws}
 use Rattle.safety.proofs.OneRegistry.SoundHistories.{ContentsKept, Sound, follows_keeps, sound_history}
-use Rattle.registry_core.proofs.StepsOfUnitHoldings.{Ends, covers_raws, foreign_unit_holding, moved_unit_holding, newly_reserved, released_unit_holding, removed_unit_holding, taken_unit_holding, waits_on}
-use Rattle.protocol.specs.History.{Entry, Transition, carries, credits, gives, has_serial, holds, newest, position, reserved, transitions_of}
+use Rattle.safety.proofs.OneRegistry.StepsOfUnitHoldings.{Ends, covers_raws, foreign_unit_holding, moved_unit_holding, newly_reserved, released_unit_holding, removed_unit_holding, taken_unit_holding, waits_on}
+use Rattle.protocol.specs.History.{Entry, Transition, carries, credits, gives, has_serial, holds, newest, position, reserved, transitions_of, reserver}
 use Rattle.std.proofs.Common.{List, None, Some, [], ap, false, inl, inr, not, subst, sym, true, ◌&&◌, ◌∙◌, ◌∷◌, ◌≡◌}
 use Rattle.safety.proofs.OneRegistry.UnitsCountedOnce.{asked, again, quiet, Local, Waits, finished_move, free_content, initiator_new, newest_cons, concluded_move}
 use Rattle.safety.proofs.MovesAndHistories.NewestTransitions.{Made, newest_id}
@@ -27,8 +27,8 @@ use Rattle.accounts.specs.Holdings.{free_unit_holding, is_reserved_by, kind_in, 
 use Rattle.protocol.specs.AtRegistry.{holds_some}
 use Rattle.status.proofs.Ids.{id_of_same, same_id-refl}
 use Rattle.safety.proofs.MovesAndHistories.TableRows.{initiator_from}
-use Rattle.registry_core.specs.Readings.{unit_holding_at, reserver}
-use Rattle.registry_core.proofs.UnitHoldingsOfUnits.{unit_holding_of_unheld, reserver_same, waits_reserver}
+use Rattle.protocol.specs.Held.{unit_holding_at}
+use Rattle.safety.proofs.OneRegistry.UnitHoldingsOfUnits.{unit_holding_of_unheld, reserver_same, waits_reserver}
 use Rattle.units.specs.Intervals.{labels_that}
 use Rattle.safety.proofs.MovesAndHistories.TransitionForms.{moved}
 use Rattle.std.specs.Prelude.{if◌then◌else◌, option_map}

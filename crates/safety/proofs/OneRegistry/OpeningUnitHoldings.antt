@@ -22,20 +22,20 @@ use Rattle.accounts.specs.declared.unit_holding.AccountStatus.TheVariants.{Open}
 use Rattle.scheme.specs.declared.registries.Scheme.{Scheme}
 use Rattle.units.specs.declared.block.Unit.{Unit as Serial}
 use Rattle.protocol.specs.Registries.{allotted, lists_account, member}
-use Rattle.registry_core.proofs.UsedAccounts.{allotted_in_blocks, or_some}
+use Rattle.safety.proofs.OneRegistry.UsedAccounts.{allotted_in_blocks, or_some}
 use Rattle.units.proofs.Same.{code_of_same, same_code-refl}
 use Rattle.units.specs.Unit.{covers, has_unit}
 use Rattle.std.specs.Prelude.{if◌then◌else◌, find, is_some, option_map}
 use Rattle.accounts.specs.Holdings.{free_unit_holding, kind_in}
 use Rattle.protocol.specs.History.{is_with}
-use Rattle.registry_core.specs.Opening.{allotted_unit_holding}
-use Rattle.registry_core.specs.Readings.{unit_holding_at, unit_holding_in, account_status_at}
-use Rattle.registry_core.proofs.UnitHoldingsOfUnits.{none_is, any_found}
+use Rattle.protocol.specs.Held.{allotted_unit_holding}
+use Rattle.protocol.specs.Held.{unit_holding_at, unit_holding_in, account_status_at}
+use Rattle.safety.proofs.ListLemmas.FirstFound.{any_found, none_is}
 use Rattle.units.proofs.Lists.OneValue.{clash, one_some}
 use Rattle.std.specs.Option.{option_or}
 use Rattle.safety.proofs.ListLemmas.TestsOfSameness.{other_code}
 use Rattle.units.specs.Code.{same_code}
-use Rattle.registry_core.proofs.StepsOfUnitHoldings.{or_none}
+use Rattle.safety.proofs.OneRegistry.StepsOfUnitHoldings.{or_none}
 
 -- a unit as a holder has it at the start
 abbrev pub held_free : Holder → UnitHolding

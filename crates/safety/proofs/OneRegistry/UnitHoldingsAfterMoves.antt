@@ -25,12 +25,12 @@ use Rattle.safety.proofs.MovesAndHistories.TransitionForms.{arrived, asking, bar
 use Rattle.protocol.proofs.CanonicalBlocks.{canonical_piece}
 use Rattle.protocol.specs.AtRegistry.{content_of, holding, holds_some, is_position}
 use Rattle.units.specs.Unit.{covers, have_unit}
-use Rattle.registry_core.proofs.StepsOfUnitHoldings.{covers_raws}
+use Rattle.safety.proofs.OneRegistry.StepsOfUnitHoldings.{covers_raws}
 use Rattle.accounts.specs.Holdings.{free_unit_holding, is_reserved_by, kind_in, released, reserved as reserved_by}
 use Rattle.status.specs.Id.{id_at}
 use Rattle.units.proofs.Lists.SomePass.{list_any_none}
-use Rattle.registry_core.proofs.UnitHoldingsAfterTransitions.{unit_holding_after_arrival, unit_holding_after_asking, unit_holding_after_credit, unit_holding_after_foreign_end, unit_holding_after_proposal, unit_holding_after_release, unit_holding_after_removal, unit_holdings_before_credit}
-use Rattle.registry_core.specs.Readings.{unit_holding_at}
+use Rattle.safety.proofs.OneRegistry.UnitHoldingsAfterTransitions.{unit_holding_after_arrival, unit_holding_after_asking, unit_holding_after_credit, unit_holding_after_foreign_end, unit_holding_after_proposal, unit_holding_after_release, unit_holding_after_removal, unit_holdings_before_credit}
+use Rattle.protocol.specs.Held.{unit_holding_at}
 use Rattle.units.specs.Intervals.{labels_that}
 use Rattle.std.specs.Prelude.{if◌then◌else◌, option_map}
 use Rattle.std.specs.Option.{option_or}
@@ -41,7 +41,7 @@ use Rattle.status.specs.Status.{same_status}
 use Rattle.safety.proofs.ListLemmas.TestsOfSameness.{status_of_same}
 use Rattle.units.proofs.Lists.OneValue.{clash}
 use Rattle.protocol.specs.Deciding.{known}
-use Rattle.registry_core.proofs.UnitHoldingsOfUnits.{unit_holding_of_unheld}
+use Rattle.safety.proofs.OneRegistry.UnitHoldingsOfUnits.{unit_holding_of_unheld}
 
 -- units that a proposal may take are held, and none is reserved
 pub proposed_free : (scheme : Scheme) (c : Code) (es : List Entry) (o : Order) → NoneStands (propose_refusals scheme c (holding scheme c es) o) → (s : Serial) → have_unit (content_of o).units s ≡ true

@@ -16,21 +16,22 @@ use Rattle.units.proofs.Lists.Membership.{In, In_left, In_right}
 use Rattle.accounts.specs.declared.unit_holding.UnitHolding.{UnitHolding}
 use Rattle.scheme.specs.declared.members.SchemeRegistry.{SchemeRegistry}
 use Rattle.protocol.specs.Pieces.{Piece, pieces}
-use Rattle.protocol.specs.History.{Position, Transition, at_start, carries, credits, gives, has_serial, holds, is_with, position}
+use Rattle.protocol.specs.History.{Position, Transition, at_start, carries, credits, gives, has_serial, holds, is_with, position, reserver}
 use Rattle.scheme.specs.declared.registries.Scheme.{Scheme}
 use Rattle.units.specs.declared.block.Unit.{Unit as Serial}
 use Rattle.scheme.specs.Order.{all_blocks, blocks_of}
 use Rattle.protocol.specs.Registries.{allotted}
 use Rattle.scheme.specs.Allotted.{holder, allotted_in}
 use Rattle.std.proofs.lemmas.Bool.{and_from, and_parts, cases_Bool, eq-eqb, eqb-true}
-use Rattle.registry_core.proofs.UnitHoldingsOfUnits.{any_found, held_position, unit_holding_of_held, unit_holding_parts}
+use Rattle.safety.proofs.OneRegistry.UnitHoldingsOfUnits.{held_position, unit_holding_of_held, unit_holding_parts}
+use Rattle.safety.proofs.ListLemmas.FirstFound.{any_found}
 use Rattle.std.specs.List.{count_by}
 use Rattle.units.specs.Unit.{covers, has_unit}
-use Rattle.registry_core.proofs.StepsOfUnitHoldings.{covers_raws}
+use Rattle.safety.proofs.OneRegistry.StepsOfUnitHoldings.{covers_raws}
 use Rattle.std.specs.Prelude.{find, is_some, option_map}
 use Rattle.protocol.specs.AtRegistry.{is_used, seen}
 use Rattle.units.proofs.Lists.SomePass.{list_any_some, list_any_in}
-use Rattle.registry_core.specs.Readings.{unit_holding_at, unit_holding_in, reserver}
+use Rattle.protocol.specs.Held.{unit_holding_at, unit_holding_in}
 use Rattle.protocol.proofs.CountsInLists.{number_some}
 use Rattle.std.specs.Option.{option_map_or, option_or}
 use Rattle.protocol.proofs.UnitsOfBlocks.{piece_of}

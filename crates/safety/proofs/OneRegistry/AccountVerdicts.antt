@@ -16,9 +16,9 @@ use Rattle.units.specs.RefusalCodes.{already_so, holds_units, transfer_accepted,
 use Rattle.std.proofs.lemmas.Bool.{false_from_ne_true}
 use Rattle.protocol.specs.Registries.{has_account}
 use Rattle.protocol.specs.AtRegistry.{is_awaited, is_used, registry_verdict}
-use Rattle.registry_core.specs.Readings.{unit_holding_at, account_status_at}
-use Rattle.registry_core.proofs.StatusesOfAccounts.{open_account_status, shut_account_status, unknown_account_status}
-use Rattle.registry_core.proofs.UsedAccounts.{units_used, used_units}
+use Rattle.protocol.specs.Held.{unit_holding_at, account_status_at}
+use Rattle.safety.proofs.OneRegistry.StatusesOfAccounts.{open_account_status, shut_account_status, unknown_account_status}
+use Rattle.safety.proofs.OneRegistry.UsedAccounts.{units_used, used_units}
 
 module _ (scheme : Scheme) (c : Code) (es : List Entry) (held : HoldingsView) (accounts : (n : ℕ) → map.get held.accounts n ≡ account_status_at scheme c es n) where
   there_open : (n : ℕ) → map.get held.accounts n ≡ Some Open → (has_account scheme c n ≡ true) × (is_closed es n ≡ false)

@@ -15,7 +15,7 @@ use Rattle.std.proofs.lemmas.Bool.{cases_Bool, cond-false, cond-true, eq-eqb, eq
 use Rattle.protocol.proofs.CountsInLists.{count_no, count_yes}
 use Rattle.protocol.specs.Registries.{has_account}
 use Rattle.status.specs.Id.{same_id}
-use Rattle.registry_core.specs.Readings.{account_status_at}
+use Rattle.protocol.specs.Held.{account_status_at}
 use Rattle.std.specs.Prelude.{if◌then◌else◌, unwrap_or}
 
 equal_either : (m n : ℕ) → (m == n) ≡ (n == m)

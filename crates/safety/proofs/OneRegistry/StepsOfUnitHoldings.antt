@@ -5,7 +5,7 @@
 use Rattle.std.proofs.Common.{Bool, List, None, Option, Some, ap, cond, false, not, refl, subst, sym, true, ◌+◌, ◌==◌, ◌∙◌, ◌∷◌, ◌≡◌, arith, inl, inr, ◌&&◌, [], ◌||◌}
 use Rattle.units.specs.declared.code.Code.{Code}
 use Rattle.accounts.specs.declared.unit_holding.UnitHolding.{UnitHolding}
-use Rattle.protocol.specs.History.{Position, Transition, at_start, credits, gives, holds, newest, position, position_in, carries, has_serial, credited_position}
+use Rattle.protocol.specs.History.{Position, Transition, at_start, credits, gives, holds, newest, position, position_in, carries, has_serial, credited_position, reserver}
 use Rattle.scheme.specs.declared.registries.Scheme.{Scheme}
 use Rattle.units.specs.declared.block.Unit.{Unit as Serial}
 use Rattle.safety.proofs.OneRegistry.SoundHistories.{Sound}
@@ -17,10 +17,11 @@ use Rattle.std.specs.List.{count_by}
 use Rattle.protocol.proofs.CountsInLists.{count_no, count_yes}
 use Rattle.status.proofs.Ids.{id_of_same, same_id-refl}
 use Rattle.accounts.specs.Holdings.{is_reserved_by, is_the, released, reserved as reserved_by, free_unit_holding, kind_in}
-use Rattle.registry_core.specs.Readings.{unit_holding_at, unit_holding_in, reserver}
+use Rattle.protocol.specs.Held.{unit_holding_at, unit_holding_in}
 use Rattle.units.specs.Intervals.{labels_that}
 use Rattle.std.specs.Prelude.{option_map, find}
-use Rattle.registry_core.proofs.UnitHoldingsOfUnits.{reserver_same, unit_holding_of_unheld, none_waits, reserver_none, reserver_waits, waits_reserver, any_found, none_is, unheld_reserver}
+use Rattle.safety.proofs.OneRegistry.UnitHoldingsOfUnits.{reserver_same, unit_holding_of_unheld, none_waits, reserver_none, reserver_waits, waits_reserver, unheld_reserver}
+use Rattle.safety.proofs.ListLemmas.FirstFound.{any_found, none_is}
 use Rattle.units.specs.Code.{same_code}
 use Rattle.status.specs.Id.{same_id}
 use Rattle.status.specs.declared.status.Status.TheVariants.{Completed, Proposed}

@@ -1,52 +1,31 @@
 -- The unit holding of a unit after a history: which transfer reserves it, that a unit that is reserved is held, and
 -- that one that is held has a position.
-use Rattle.std.proofs.Common.{Bool, List, None, Option, Some, [], ◌&&◌, ◌+◌, ◌||◌, ◌∙◌, ◌∷◌, ◌≡◌, ◌≤◌, ap, arith, cond, false, inl, inr, not, refl, subst, sym, true}
+use Rattle.std.proofs.Common.{List, None, Option, Some, [], ◌&&◌, ◌+◌, ◌∙◌, ◌∷◌, ◌≡◌, ◌≤◌, ap, arith, cond, false, inl, inr, not, refl, subst, sym, true}
 use Rattle.units.specs.declared.code.Code.{Code}
 use Rattle.status.specs.declared.status.Status.TheVariants.{Completed, Proposed}
 use Rattle.status.specs.Content.{Content}
 use Rattle.scheme.specs.declared.members.Holder.{Holder}
 use Rattle.units.proofs.Lists.Membership.{In, In_find}
 use Rattle.accounts.specs.declared.unit_holding.UnitHolding.{UnitHolding}
-use Rattle.protocol.specs.History.{Position, Transition, at_start, credited_position, has_serial, is_status, is_with, position_in, stands_at, carries, credits, gives, holds, position, reserved}
+use Rattle.protocol.specs.History.{Position, Transition, at_start, credited_position, has_serial, is_status, is_with, position_in, stands_at, carries, credits, gives, holds, position, reserved, reserver, reserves}
 use Rattle.scheme.specs.declared.registries.Scheme.{Scheme}
 use Rattle.units.specs.declared.block.Unit.{Unit as Serial}
 use Rattle.safety.proofs.OneRegistry.SoundHistories.{Sound}
 use Rattle.status.specs.declared.id.TransactionId.{TransactionId}
 use Rattle.safety.proofs.OneRegistry.UnitsCountedOnce.{Waits, reserved_waits}
 use Rattle.std.proofs.lemmas.Bool.{and_parts, cases_Bool, cond-false, cond-true, eq-eqb, eqb-true}
-use Rattle.std.specs.List.{count_by, list_any}
+use Rattle.std.specs.List.{count_by}
 use Rattle.protocol.proofs.CountsInLists.{count_no}
 use Rattle.units.specs.Unit.{has_unit}
 use Rattle.std.specs.Prelude.{is_some, option_map, find}
-use Rattle.registry_core.specs.Readings.{unit_holding_at, unit_holding_in, reserver, waits}
+use Rattle.protocol.specs.Held.{unit_holding_at, unit_holding_in}
 use Rattle.safety.proofs.MovesAndHistories.TableMoves.{newest_some}
 use Rattle.units.proofs.Lists.OneValue.{one_some, clash}
+use Rattle.safety.proofs.ListLemmas.FirstFound.{any_found, mapped, some_is}
 use Rattle.units.specs.Code.{same_code}
 use Rattle.status.specs.Status.{same_status}
 use Rattle.safety.proofs.ListLemmas.TestsOfSameness.{status_of_same}
 use Rattle.protocol.specs.Registries.{allotted}
-
--- ---- the first element that passes a test
-
-pub any_found : {X Y : Type 0} (p : X → Bool) (f : X → Y) (xs : List X) → list_any p xs ≡ is_some (option_map f (find p xs))
-any_found p f [] = refl
-any_found {X} {Y} p f (x ∷ xs) = go (p x) (any_found p f xs)
-  where
-    go : (b : Bool) → list_any p xs ≡ is_some (option_map f (find p xs)) → (b || list_any p xs) ≡ is_some (option_map f (cond b (Some x) (find p xs)))
-    go true e = refl
-    go false e = e
-
-pub some_is : {X : Type 0} (o : Option X) → is_some o ≡ true → (x : X) × (o ≡ Some x)
-some_is None e = absurd (cc (e))
-some_is (Some x) e = (x, refl)
-
-pub none_is : {X : Type 0} (o : Option X) → is_some o ≡ false → o ≡ None
-none_is None e = refl
-none_is (Some x) e = absurd (cc (e))
-
-pub mapped : {X Y : Type 0} (f : X → Y) (o : Option X) (y : Y) → option_map f o ≡ Some y → (x : X) × (o ≡ Some x) × (f x ≡ y)
-mapped f None y e = absurd (cc (e))
-mapped f (Some x) y e = (x, refl, cc (e))
 
 -- ---- where a unit is
 
@@ -85,10 +64,10 @@ module _ (scheme : Scheme) (c : Code) (s : Serial) where
 
   -- it is reserved exactly when a transfer reserves it
   pub reserved_some : (xs : List Transition) → reserved c xs s ≡ is_some (reserver c xs s)
-  reserved_some xs = any_found (waits c xs s) (λ (x : Transition). x.id) xs
+  reserved_some xs = any_found (reserves c xs s) (λ (x : Transition). x.id) xs
 
   -- the transfer that is found waits with the unit
-  waiting : (xs : List Transition) (x : Transition) → Sound scheme c xs → In x xs → waits c xs s x ≡ true → Waits c s xs x.id
+  waiting : (xs : List Transition) (x : Transition) → Sound scheme c xs → In x xs → reserves c xs s x ≡ true → Waits c s xs x.id
   waiting xs x sound i h =
       let own = and_parts (same_code x.id.code c) (stands_at xs x.id Proposed && carries x s) h in
       let rest = and_parts (stands_at xs x.id Proposed) (carries x s) own.1 in
@@ -104,8 +83,8 @@ module _ (scheme : Scheme) (c : Code) (s : Serial) where
 
   pub reserver_waits : (xs : List Transition) (t : TransactionId) → Sound scheme c xs → reserver c xs s ≡ Some t → Waits c s xs t
   reserver_waits xs t sound h =
-      let x = mapped (λ (y : Transition). y.id) (find (waits c xs s) xs) t h in
-      let g = In_find (waits c xs s) xs x.0 x.1 in
+      let x = mapped (λ (y : Transition). y.id) (find (reserves c xs s) xs) t h in
+      let g = In_find (reserves c xs s) xs x.0 x.1 in
       subst (Waits c s xs) x.2 (waiting xs x.0 sound g.0 g.1)
 
   pub reserver_none : (xs : List Transition) → Sound scheme c xs → ((t : TransactionId) → Waits c s xs t → ⊥) → reserver c xs s ≡ None

@@ -11,23 +11,10 @@ ghost use Rattle.status.specs.declared.status.Status.TheVariants as words;
 
 use crate::awaited::{Awaited, awaited_of, forget, remember};
 use crate::transfer::IncomingTransfer;
+use checks::table;
 use status::{Status, TransactionId};
 use std::collections::{BTreeMap, BTreeSet};
 use units::NoMemory;
-
-/// The transfer is in the table. After `NoMemory` nothing has changed.
-fn insert(
-    transfers: &mut BTreeMap<TransactionId, IncomingTransfer>,
-    id: TransactionId,
-    transfer: IncomingTransfer,
-) -> Result<(), NoMemory>
-    ensures ok { OnOk result ((t : TransactionId)
-        → tree.get id_cmp transfers.new t ≡ (if same_id id t then Some transfer else tree.get id_cmp transfers.old t)) }
-    ensures err { OnErr result (transfers.new.entries ≡ transfers.old.entries) }
-{
-    transfers.insert(id, transfer)?;
-    Ok(())
-}
 
 /// A transfer more. After `NoMemory` nothing has changed.
 pub(crate) fn put(
@@ -45,7 +32,7 @@ pub(crate) fn put(
 {
     let entry = awaited_of(id, &transfer);
     remember(awaited, entry)?;
-    if let Err(refused) = insert(transfers, id, transfer) {
+    if let Err(refused) = table::put(transfers, id, transfer) {
         forget(awaited, entry);
         return Err(refused);
     }

@@ -10,6 +10,7 @@ mod log;
 mod order;
 mod register;
 mod registries;
+pub mod table;
 
 pub use acquirer::{acquirer_findings, holds_some};
 pub use blocks::has_repeats;

@@ -24,9 +24,10 @@ ghost use Rattle.checks.specs.Refusing.{first_of, order_refusals};
 ghost use Rattle.initiator.specs.Transfers.{opened, asked, concluded, known_transfer, column_of_request, cancellation_refusals};
 
 use crate::messages::{on_notified, on_proposing, on_request};
-use crate::table::{ask, conclude, forget, open};
+use crate::table::{ask, conclude, open};
 use crate::transfer::{OutgoingTransfer, is_proposed, known, request_column};
 use accounts::Holdings;
+use checks::table::take_out;
 use checks::{NewTransfer, propose_check};
 use protocol::Decision;
 use protocol::scheme::Scheme;
@@ -224,7 +225,7 @@ impl Initiator {
         open(&mut self.transfers, new_transfer.id)?;
         let (account, units) = (new_transfer.content.account(), new_transfer.content.units());
         if let Err(refused) = holdings.reserve(account, units, new_transfer.id) {
-            forget(&mut self.transfers, new_transfer.id);
+            take_out(&mut self.transfers, new_transfer.id);
             return Err(refused);
         }
         self.last = new_transfer.id.number;

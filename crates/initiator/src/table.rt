@@ -1,11 +1,12 @@
 //! The table of an initiator's transfers.
 ghost use Rattle.std.specs.BTreeMap as tree;
-ghost use Rattle.std.specs.Prelude.{◌≡◌, None, Some, OnErr, OnOk, option_map, if◌then◌else◌};
+ghost use Rattle.std.specs.Prelude.{◌≡◌, Some, OnErr, OnOk, option_map, if◌then◌else◌};
 ghost use Rattle.initiator.specs.Transfers.{asked, opened, concluded};
 ghost use Rattle.status.specs.Id.{id_cmp, same_id};
 ghost use Rattle.status.specs.declared.id.TransactionId.{TransactionId};
 
 use crate::transfer::{Cancellation, OutgoingTransfer};
+use checks::table;
 use status::{Status, TransactionId};
 use std::collections::BTreeMap;
 use units::NoMemory;
@@ -23,16 +24,7 @@ pub(crate) fn open(
         status: Status::Proposed,
         cancellation: Cancellation::NotAsked,
     };
-    transfers.insert(id, transfer)?;
-    Ok(())
-}
-
-/// Takes the transfer out.
-pub(crate) fn forget(transfers: &mut BTreeMap<TransactionId, OutgoingTransfer>, id: TransactionId)
-    ensures { (t : TransactionId)
-        → tree.get id_cmp transfers.new t ≡ (if same_id id t then None else tree.get id_cmp transfers.old t) }
-{
-    transfers.remove(&id);
+    table::put(transfers, id, transfer)
 }
 
 /// The transfer's cancellation was asked for.

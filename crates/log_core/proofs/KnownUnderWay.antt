@@ -17,7 +17,7 @@ use Rattle.units.proofs.Lists.SomePass.{list_any_in}
 use Rattle.safety.proofs.ListLemmas.FirstFound.{any_found, mapped, some_is}
 use Rattle.safety.proofs.MovesAndHistories.NewestTransitions.{Made, newest_id}
 use Rattle.safety.proofs.MovesAndHistories.TableMoves.{newest_some}
-use Rattle.safety.proofs.OneLog.OwnersInLog.{Busy, IsBusy, in_book}
+use Rattle.safety.proofs.OneLog.OwnersInLog.{Busy, IsBusy, in_book, test_busy}
 use Rattle.log_core.specs.Readings.{is_under_way_with, under_way}
 use Rattle.safety.proofs.OneLog.KnownContents.{ContentsKept, contents_kept}
 
@@ -31,15 +31,6 @@ busy_test Rejected h = absurd (cc (h))
 busy_test Terminated h = absurd (cc (h))
 busy_test Cancelled h = absurd (cc (h))
 busy_test Completed h = absurd (cc (h))
-
-test_busy : (s : Status) → IsBusy s → (same_status s Checked || same_status s Accepted) ≡ true
-test_busy Checked h = refl
-test_busy Accepted h = refl
-test_busy Proposed h = absurd h
-test_busy Rejected h = absurd h
-test_busy Terminated h = absurd h
-test_busy Cancelled h = absurd h
-test_busy Completed h = absurd h
 
 -- whether the newest transition stands so
 abbrev stands_busy : Option Transition → Bool

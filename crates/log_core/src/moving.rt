@@ -29,8 +29,9 @@ ghost use Rattle.log_core.specs.declared.waiting.Waiting as declared;
 
 use crate::register;
 use crate::transfer::LoggedTransfer;
-use crate::transfers::{content, put, set_status, take_out};
+use crate::transfers::{content, set_status};
 use crate::waiting::{Waiting, forget, remember};
+use checks::table::{put, take_out};
 use checks::{BookEntry, UnderWay};
 use status::{Content, Moment, Status, TransactionId};
 use std::collections::{BTreeMap, BTreeSet};

@@ -1,6 +1,6 @@
 //! The table of the log's transactions.
 ghost use Rattle.std.specs.BTreeMap as tree;
-ghost use Rattle.std.specs.Prelude.{◌≡◌, None, Some, OnErr, OnOk, option_map, option_copied, if◌then◌else◌};
+ghost use Rattle.std.specs.Prelude.{◌≡◌, option_map, option_copied, if◌then◌else◌};
 ghost use Rattle.log_core.specs.Transfers as asked;
 ghost use Rattle.log_core.specs.Transfers.{came_at, transfer_state_of};
 ghost use Rattle.log_core.specs.Effects.{transfer_state_content};
@@ -10,29 +10,6 @@ ghost use Rattle.status.specs.declared.id.TransactionId.{TransactionId};
 use crate::transfer::LoggedTransfer;
 use status::{Content, Moment, RecordedStatus, Status, TransactionId};
 use std::collections::BTreeMap;
-use units::NoMemory;
-
-/// The transaction is in the table. After `NoMemory` nothing has changed.
-pub(crate) fn put(
-    transfers: &mut BTreeMap<TransactionId, LoggedTransfer>,
-    id: TransactionId,
-    transfer: LoggedTransfer,
-) -> Result<(), NoMemory>
-    ensures ok { OnOk result ((t : TransactionId)
-        → tree.get id_cmp transfers.new t ≡ (if same_id id t then Some transfer else tree.get id_cmp transfers.old t)) }
-    ensures err { OnErr result (transfers.new.entries ≡ transfers.old.entries) }
-{
-    transfers.insert(id, transfer)?;
-    Ok(())
-}
-
-/// Takes the transaction out.
-pub(crate) fn take_out(transfers: &mut BTreeMap<TransactionId, LoggedTransfer>, id: TransactionId)
-    ensures { (t : TransactionId)
-        → tree.get id_cmp transfers.new t ≡ (if same_id id t then None else tree.get id_cmp transfers.old t) }
-{
-    transfers.remove(&id);
-}
 
 /// The transaction has that status since that moment.
 pub(crate) fn set_status(

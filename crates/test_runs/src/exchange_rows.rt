@@ -1,4 +1,4 @@
-use crate::failing_streams::{Dripping, Full, Halting, long_line};
+use crate::failing_streams::{Dripping, Halting, long_line};
 use crate::same::{assert_same, room};
 use crate::stations::{exchange_over, message};
 use exchanges::{Counted, Exchange, exchange};
@@ -6,6 +6,7 @@ use protocol::wire::{Message, Reply};
 use std::alloc::Global;
 use std::process::Abort;
 use test_support::again;
+use test_support::failing_streams::Full;
 use test_support::texts::{ACCEPTED, RECEIVED};
 
 const NEVER: usize = usize::MAX;

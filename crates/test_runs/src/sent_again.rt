@@ -1,7 +1,6 @@
 ghost use Rattle.std.specs.Prelude.{◌≡◌, true};
 ghost use Rattle.protocol.specs.Code.{same_node};
 
-use crate::failing_streams::Full;
 use crate::nz_desk::{TEN, TEN_MORE};
 use crate::registries::registry;
 use crate::same::assert_same;
@@ -24,6 +23,7 @@ use std::thread;
 use std::thread::Threads;
 use std::time::Duration;
 use test_support::again;
+use test_support::failing_streams::Full;
 use test_support::texts::RECEIVED;
 
 /// Connections with one peer, which replies to each message that it was received. The first ones can't be made, and

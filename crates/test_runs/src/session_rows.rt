@@ -1,4 +1,4 @@
-use crate::failing_streams::{Dripping, Endless, Full, long_line};
+use crate::failing_streams::{Dripping, Endless, long_line};
 use crate::same::{assert_same, room};
 use exchanges::{Answerer, Counted, SessionEnd, serve_session};
 use protocol::units::refusal_code::{NODE_STOPPED, NOT_A_MESSAGE};
@@ -7,6 +7,7 @@ use protocol::wire::{Reply, ReplyCode};
 use std::alloc::Global;
 use std::io::{Read, Write};
 use std::process::Abort;
+use test_support::failing_streams::Full;
 use test_support::texts::PROPOSED;
 use test_support::{READING, again};
 

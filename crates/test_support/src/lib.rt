@@ -1,6 +1,8 @@
-//! What the crates of tests share: the texts of the worked transfer, and a call that is made again where memory ran out.
+//! What the crates of tests share: the texts of the worked transfer, a writer that fails, and a call that is made again
+//! where memory ran out.
 #![tactic(auto)]
 
+pub mod failing_streams;
 pub mod texts;
 
 /// What a test says that finds no memory before it has read its texts. With an allocation refused, a test ends in this

@@ -8,7 +8,6 @@ mod accounts_rows;
 #[cfg(test)]
 mod cores;
 #[cfg(test)]
-mod failing_streams;
 #[cfg(test)]
 mod finding_rows;
 #[cfg(test)]

@@ -1,4 +1,3 @@
-use crate::failing_streams::Full;
 use crate::limit_rows::{EVENT, SCHEME};
 use crate::same::{assert_same, room};
 use command_faults::{Cause, OpFault};
@@ -8,6 +7,7 @@ use std::alloc::Global;
 use std::io::{self, ErrorKind, Read, Write};
 use std::process::Abort;
 use streams::{Calls, ReadFault, read_input, write_text};
+use test_support::failing_streams::Full;
 use test_support::{READING, again};
 
 /// A scheme, and one event.

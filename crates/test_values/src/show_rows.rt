@@ -1,4 +1,3 @@
-use crate::failing_streams::Full;
 use crate::given::Given::{self, Event, Message};
 use crate::given::{PROPOSE, inputs};
 use crate::same::{assert_same, room};
@@ -10,6 +9,7 @@ use std::alloc::Global;
 use std::io::{self, ErrorKind, Read};
 use std::process::Abort;
 use stores::{Kept, MemoryStore, NodeStore, StoreFault};
+use test_support::failing_streams::Full;
 use test_support::{READING, again, texts};
 
 const ORDER: Given = Event(PROPOSE);

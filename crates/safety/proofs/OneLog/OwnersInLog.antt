@@ -87,14 +87,14 @@ without_middle true true c h = h
 without_middle true false c h = refl
 without_middle false b c h = refl
 
-under_way : (st : Status) → IsBusy st → (same_status st Checked || same_status st Accepted) ≡ true
-under_way Checked h = refl
-under_way Accepted h = refl
-under_way Proposed h = absurd h
-under_way Rejected h = absurd h
-under_way Terminated h = absurd h
-under_way Cancelled h = absurd h
-under_way Completed h = absurd h
+pub test_busy : (st : Status) → IsBusy st → (same_status st Checked || same_status st Accepted) ≡ true
+test_busy Checked h = refl
+test_busy Accepted h = refl
+test_busy Proposed h = absurd h
+test_busy Rejected h = absurd h
+test_busy Terminated h = absurd h
+test_busy Cancelled h = absurd h
+test_busy Completed h = absurd h
 
 with_initiator : (a : Option Holder) (o : Option Code) (c : Code) → is_none a ≡ false → is_of_another a o c ≡ false → is_owner o c ≡ true
 with_initiator None o c h g = absurd (cc (h))
@@ -147,7 +147,7 @@ module _ (scheme : Scheme) (s : Serial) where
       list_any_in (λ (x : Transition). (stands_at xs x.id Checked || stands_at xs x.id Accepted) && carries x s) xs b.last id.0
       (and_from (stands_at xs b.last.id Checked || stands_at xs b.last.id Accepted) (carries b.last s)
       (subst (λ z. (stands_at xs z Checked || stands_at xs z Accepted) ≡ true) (sym id.1)
-      (subst (λ o. (is_status (option_map (λ (x : Transition). x.new) o) Checked || is_status (option_map (λ (x : Transition). x.new) o) Accepted) ≡ true) (sym b.is) (under_way b.last.new b.new)))
+      (subst (λ o. (is_status (option_map (λ (x : Transition). x.new) o) Checked || is_status (option_map (λ (x : Transition). x.new) o) Accepted) ≡ true) (sym b.is) (test_busy b.last.new b.new)))
       b.has)
 
   never_busy : {X : Type 0} (xs : List Transition) (t : TransactionId) → busy xs s ≡ false → Busy s xs t → X

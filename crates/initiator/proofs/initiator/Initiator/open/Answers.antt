@@ -24,7 +24,7 @@ returns-in_err-open-clause-err c =
 
 pub returns-in-Err-clause-err : goal.returns-in-Err-clause-err
 returns-in-Err-clause-err c =
-    let same = same_again c.args.new_transfer.now.id c.forget.new.transfers c.open.new.transfers c.self.inside.transfers (sym (seen c.self.inside.transfers c.args.self.now.transfers (ap (λ i. i.transfers) c.self.view_is) c.args.new_transfer.now.id) ∙ c.requires.absent) c.in_ok-open.ensures.ok c.forget.ensures in
+    let same = same_again c.args.new_transfer.now.id c.take_out.new.table c.open.new.transfers c.self.inside.transfers (sym (seen c.self.inside.transfers c.args.self.now.transfers (ap (λ i. i.transfers) c.self.view_is) c.args.new_transfer.now.id) ∙ c.requires.absent) c.in_ok-open.ensures.ok c.take_out.ensures in
     (ap (λ m. record { code = c.self.inside.code; last = c.self.inside.last; transfers = m }) same ∙ c.self.view_is, c.in-Err.ensures.err)
 
 pub returns-in-Err-clause-refused : goal.returns-in-Err-clause-refused

@@ -1,7 +1,8 @@
 //! Writers that fail midway.
+
 use std::io::{self, ErrorKind, Write};
 
-/// Takes that many bytes, two at a time, and then fails.
+/// Takes `room` bytes, three at a time, and then fails.
 #[derive(Drop)]
 pub struct Full {
     pub room: usize,
@@ -12,7 +13,7 @@ impl Write for Full {
         if self.room == 0 {
             return Err(ErrorKind::Other.into());
         }
-        let taken = bytes.len().min(self.room).min(2);
+        let taken = bytes.len().min(self.room).min(3);
         self.room -= taken;
         Ok(taken)
     }

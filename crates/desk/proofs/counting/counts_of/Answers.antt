@@ -1,4 +1,5 @@
 use Rattle.std.proofs.Common.{◌≡◌, ◌+◌, length, replicate, ap, sym, subst, ◌∙◌, arith, zero-add}
+use Rattle.std.proofs.lemmas.Grind.{elements}
 use Rattle.desk.specs.Counts.{CountsFrom}
 use Rattle.desk.specs.Covering.{times_named}
 use Rattle.desk.proofs.CountedPlaces.{counts_same, none_counted, written_back}
@@ -16,3 +17,6 @@ returns-clause-counts c =
     let counted = counts_same opening (λ p. 0 + times_named seats p) (times_named seats) new (λ p. zero-add (times_named seats p)) (c.count_seats.ensures.counts (λ p. 0) start) in
     let long = ap length value in
     rw (written_back new items c.in_ok-counts.counts.len (c.count_seats.ensures.len ∙ long) (omega (arith, c.as_mut_slice.ensures.len, long))) counted
+
+pub returns-clause-len : goal.returns-clause-len
+returns-clause-len c = grind (arith, elements)

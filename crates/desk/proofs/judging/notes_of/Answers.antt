@@ -1,4 +1,5 @@
-use Rattle.std.proofs.Common.{map, sym, subst}
+use Rattle.std.proofs.Common.{arith, map, sym, subst}
+use Rattle.std.proofs.lemmas.Grind.{common_steps, elements}
 use Rattle.std.proofs.lemmas.List.Elements.{All-append}
 use Rattle.desk.specs.declared.notes.Note.{Note}
 use Rattle.desk.specs.Rooms.{IsNoRecord, TellNoRecord}
@@ -15,3 +16,12 @@ loop-seat-preserved c =
       no_record = subst TellNoRecord (sym c.in_ok-add_notes.ensures)
           (All-append (λ (note : Note). IsNoRecord (note.told)) (map (λ note. note.now) c.loop-seat.all.items) c.notes.result.now c.loop-seat.invariant.no_record (subst TellNoRecord (sym own.value) own.no_record));
     }
+
+pub returns-in_err-add_notes-clause-notes : goal.returns-in_err-add_notes-clause-notes
+returns-in_err-add_notes-clause-notes c = grind (arith, elements)
+
+pub returns-in_err-add_notes-clause-no_record : goal.returns-in_err-add_notes-clause-no_record
+returns-in_err-add_notes-clause-no_record c = grind (arith, common_steps)
+
+pub returns-clause-notes : goal.returns-clause-notes
+returns-clause-notes c = grind (arith, common_steps)

@@ -1,4 +1,5 @@
 use Rattle.std.proofs.Common.{◌≡◌, ◌++◌, ◌<◌, ◌≤◌, length, List, ap, subst, ◌∙◌, arith, length-append}
+use Rattle.std.proofs.lemmas.Grind.{elements}
 use Rattle.wire.specs.declared.input.Input.{Input}
 use Rattle.protocol.specs.Cores.{HasFault}
 use Rattle.std.proofs.lemmas.Result.{err_from_is_err_and}
@@ -43,3 +44,6 @@ returns-in-Err-clause-read g c first read =
     rw c.damage_of.ensures
     (page_not_resumed g.S.NodeStore scheme n first c.args.store.now c.next_page.new.store journal c.in_ok-page.page (length after) c.in-Err.fault read
     (page_after g.S.NodeStore c.args.store.now c.next_page.new.store (length c.journal.result.now) journal _ (ap length c.journal.ensures.value) c.in_ok-page.ensures.loads) grown c.in-Err.ensures.place bad)
+
+pub returns-else-inputs-clause-grows : goal.returns-else-inputs-clause-grows
+returns-else-inputs-clause-grows g c = grind (arith, elements)

@@ -1,4 +1,5 @@
-use Rattle.std.proofs.Common.{◌≡◌, sym, subst}
+use Rattle.std.proofs.Common.{arith, ◌≡◌, sym, subst}
+use Rattle.std.proofs.lemmas.Grind.{elements}
 use Rattle.std.specs.List.{Any}
 use Rattle.std.proofs.lemmas.Result.{err_from_is_err_and}
 use Rattle.desk.specs.declared.notes.Ticket.{Ticket}
@@ -11,3 +12,6 @@ returns-in_err-check_tickets g c =
     let place = c.in_err-check_tickets.field-0.0 in
     let some = subst (Any (λ (t : Ticket). (t.place ≡ place) × (Fits c.args.state.now t → ⊥))) c.tickets.ensures c.in_err-check_tickets.ensures in
     rw (p.1, p.2) (c.loop-seat.seat-index, c.seat-item.result, c.loop-seat-test.true, sym c.seat-item.is, some)
+
+pub loop-seat-preserved : goal.loop-seat-preserved
+loop-seat-preserved g c = grind (arith, elements)

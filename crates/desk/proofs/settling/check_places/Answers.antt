@@ -1,4 +1,4 @@
-use Rattle.std.proofs.Common.{◌<◌, ◌≤◌, length, ap, sym, subst, ◌∙◌}
+use Rattle.std.proofs.Common.{arith, ◌<◌, ◌≤◌, length, ap, sym, subst, ◌∙◌}
 use Rattle.desk.specs.Counts.{CountsFrom}
 use Rattle.desk.specs.Covering.{times_named}
 use Rattle.desk.proofs.CountedPlaces.{each_place, one_place}
@@ -36,3 +36,6 @@ returns g c =
       each_place held seats opening first journal opens within c.journal.ensures.value (ap length c.as_slice.ensures.value ∙ c.in_ok-counts.ensures.len) (λ p. 0 < times_named seats p) (c.in_default.ensures (times_named seats) counts),
       each_place held seats opening second journal opens within c.journal.ensures.value (ap length c.as_slice-2.ensures.value ∙ c.in_ok-counts.ensures.len) (λ p. times_named seats p ≤ 1) (c.in_default-check_twice.ensures (times_named seats) again),
     )
+
+pub returns-in-Err : goal.returns-in-Err
+returns-in-Err g c = grind arith

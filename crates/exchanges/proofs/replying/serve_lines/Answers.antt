@@ -1,4 +1,5 @@
 use Rattle.std.proofs.Common.{◌≡◌, ◌<◌, ◌+◌, ◌*◌, ◌∷◌, [], length, take, drop, arith, refl, length-take}
+use Rattle.std.proofs.lemmas.Grind.{common_steps}
 use Rattle.exchanges.proofs.Lines.{lines_around, lines_more}
 use Rattle.exchanges.proofs.Replies.{goes_more}
 use Rattle.exchanges.proofs.Served.{served_more, serves_stop, serves_no_memory, serves_cut, cut_short}
@@ -49,3 +50,6 @@ loop-line-preserved g c =
       count = omega (arith, c.loop-line.invariant.count);
       served = rw (← more) (served_more g.W.Write.contents c.loop-line.left _ _ _ _ _ _ (take i ls) (m ∷ []) c.loop-line.invariant.served c.in-AllReplied.ensures.serves);
     }
+
+pub returns-clause-serves : goal.returns-clause-serves
+returns-clause-serves g c = grind (arith, common_steps)

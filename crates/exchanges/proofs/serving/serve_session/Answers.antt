@@ -1,4 +1,5 @@
 use Rattle.std.proofs.Common.{take, arith, rules, ◌∙◌}
+use Rattle.std.proofs.lemmas.Grind.{common_steps}
 use Rattle.exchanges.proofs.Replies.{goes_more}
 use Rattle.exchanges.proofs.Heard.{heard_more, takes_more, holds_within, ends_too_long, ends_stopped, ends_no_memory, ends_cut}
 use Rattle.exchanges.proofs.serving.serve_session.Goals as goal
@@ -45,3 +46,12 @@ returns-in-NoMemory g c =
     let h = c.loop-reads.invariant in
     let sound = c.in-Ok.ensures.counts.1 ∙ h.reader_goes.sound in
     ends_no_memory g.R.Read.remaining g.W.Write.contents c.loop-reads.writes_left c.serve_piece.new.left _ _ _ _ _ _ _ _ _ c.loop-reads.splitter.rest (take c.in-Ok.n c.read_once.new.piece) c.loop-reads.written c.serve_piece.new.splitter h.heard c.in-Ok.ensures.bytes.0 sound c.in-NoMemory.ensures.serves
+
+pub returns-in-Ok-eq0 : goal.returns-in-Ok-eq0
+returns-in-Ok-eq0 g c = grind arith
+
+pub returns-in-Err-Failed : goal.returns-in-Err-Failed
+returns-in-Err-Failed g c = grind (arith, common_steps)
+
+pub returns-then-reads_left-eq0 : goal.returns-then-reads_left-eq0
+returns-then-reads_left-eq0 g c = grind (arith, common_steps)

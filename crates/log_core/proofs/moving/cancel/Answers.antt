@@ -1,4 +1,5 @@
-use Rattle.std.proofs.Common.{refl, ◌∙◌}
+use Rattle.std.proofs.Common.{arith, refl, ◌∙◌}
+use Rattle.std.proofs.lemmas.Grind.{common_steps}
 use Rattle.std.specs.BTreeMap as tree
 use Rattle.std.specs.BTreeSet.{contains}
 use Rattle.std.specs.FinMap as finite
@@ -29,3 +30,12 @@ loop-id-preserved c =
       waiting = c.finish.ensures.waiting;
       labelled = c.finish.ensures.labelled;
     }
+
+pub returns-clause-transfers : goal.returns-clause-transfers
+returns-clause-transfers c = grind (arith, common_steps)
+
+pub returns-clause-units : goal.returns-clause-units
+returns-clause-units c = grind (arith, common_steps)
+
+pub returns-clause-waits : goal.returns-clause-waits
+returns-clause-waits c = grind (arith, common_steps)

@@ -1,4 +1,5 @@
-use Rattle.std.proofs.Common.{refl, sym, ap, subst, option_map, ◌∙◌}
+use Rattle.std.proofs.Common.{arith, refl, sym, ap, subst, option_map, ◌∙◌}
+use Rattle.std.proofs.lemmas.Grind.{common_steps}
 use Rattle.std.specs.FinMap as map
 use Rattle.units.specs.Keys.{unit_cmp}
 use Rattle.std.specs.FinMap.{get-empty}
@@ -33,3 +34,9 @@ loop-allotment-preserved c =
           put.1 s ∙ ap (λ bs. option_or (option_map (free_unit_holding a.account) (kind_in bs s)) (map.get c.loop-allotment.holdings.unit_holdings s)) c.as_slice.ensures
           ∙ ap (option_or (option_map (free_unit_holding a.account) (kind_in a.units s))) (c.loop-allotment.invariant.unit_holdings s) ∙ sym (f.credited s);
     }
+
+pub credit-requires-clause-open_account : goal.credit-requires-clause-open_account
+credit-requires-clause-open_account c = grind (arith, common_steps)
+
+pub returns-clause-unit_holdings : goal.returns-clause-unit_holdings
+returns-clause-unit_holdings c = grind (arith, common_steps)

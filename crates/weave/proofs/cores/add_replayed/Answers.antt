@@ -1,4 +1,5 @@
 use Rattle.std.proofs.Common.{◌≡◌, ◌++◌, ◌∷◌, ◌<◌, ◌∙◌, Bor, List, [], Some, length, map, sym, ap, subst, arith, length-append}
+use Rattle.std.proofs.lemmas.Grind.{common_steps, elements}
 use Rattle.std.specs.Prelude.{All, slice_get}
 use Rattle.std.proofs.lemmas.List.{length-map, map-append}
 use Rattle.std.proofs.lemmas.List.Elements.{All-push}
@@ -32,3 +33,9 @@ loop-at-preserved c =
           c.in_ok-replayed_one.ensures.ahead kept.ahead);
       count = omega (arith, ap (λ (l : List Core). length l) pushed, length-append c.loop-at.cores.items (core ∷ []), kept.count);
     }
+
+pub returns-clause-nodes : goal.returns-clause-nodes
+returns-clause-nodes c = grind (arith, elements)
+
+pub returns-clause-ahead : goal.returns-clause-ahead
+returns-clause-ahead c = grind (arith, common_steps)

@@ -1,3 +1,5 @@
+use Rattle.std.proofs.Common.{arith}
+use Rattle.std.proofs.lemmas.Grind.{elements}
 use Rattle.json_fields.specs.Fields.{EachIs}
 use Rattle.wire.specs.Reading.{IsBlockItem}
 use Rattle.json_fields.proofs.Lists.{each_more, met_at}
@@ -16,3 +18,6 @@ loop-value-preserved c =
     rw c.in_ok-push.ensures.items
     (each_more IsBlockItem c.args.values.now c.loop-value.value-index c.loop-value.blocks.items c.value-item.result c.in_ok-block.block c.loop-value-test.true c.value-item.is c.loop-value.invariant
     (read_so (IsBlockItem (view c.value-item.result)) c.block.result c.in_ok-block.block c.in_ok-block.ensures.value c.block.ensures))
+
+pub returns : goal.returns
+returns c = grind (arith, elements)

@@ -1,3 +1,5 @@
+use Rattle.std.proofs.Common.{arith}
+use Rattle.std.proofs.lemmas.Grind.{common_steps}
 use Rattle.json_fields.specs.Fields.{EachIs}
 use Rattle.wire.specs.Reading.{IsCodeItem}
 use Rattle.json_fields.proofs.Lists.{each_more, met_at}
@@ -16,3 +18,9 @@ loop-value-preserved c =
     rw c.in_ok-push.ensures.items
     (each_more IsCodeItem c.args.values.now c.loop-value.value-index c.loop-value.codes.items c.value-item.result c.in_ok-code.code c.loop-value-test.true c.value-item.is c.loop-value.invariant
     (read_so (IsCodeItem (view c.value-item.result)) c.code.result c.in_ok-code.code c.in_ok-code.ensures.value c.code.ensures))
+
+pub returns-in_err-push : goal.returns-in_err-push
+returns-in_err-push c = grind (arith, common_steps)
+
+pub returns : goal.returns
+returns c = grind (arith, common_steps)

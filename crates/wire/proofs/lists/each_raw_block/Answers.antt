@@ -1,3 +1,5 @@
+use Rattle.std.proofs.Common.{arith}
+use Rattle.std.proofs.lemmas.Grind.{common_steps}
 use Rattle.json_fields.specs.Fields.{EachIs}
 use Rattle.wire.specs.Reading.{IsRawItem}
 use Rattle.json_fields.proofs.Lists.{each_more, met_at}
@@ -16,3 +18,6 @@ loop-value-preserved c =
     rw c.in_ok-push.ensures.items
     (each_more IsRawItem c.args.values.now c.loop-value.value-index c.loop-value.blocks.items c.value-item.result c.in_ok-block.block c.loop-value-test.true c.value-item.is c.loop-value.invariant
     (read_so (IsRawItem (view c.value-item.result)) c.raw_block.result c.in_ok-block.block c.in_ok-block.ensures.value c.raw_block.ensures))
+
+pub returns : goal.returns
+returns c = grind (arith, common_steps)

@@ -1,4 +1,5 @@
-use Rattle.std.proofs.Common.{◌++◌, ◌∷◌, ◌∙◌, ℕ, List, false, map, ap, sym, subst}
+use Rattle.std.proofs.Common.{arith, ◌++◌, ◌∷◌, ◌∙◌, ℕ, List, false, map, ap, sym, subst}
+use Rattle.std.proofs.lemmas.Grind.{common_steps}
 use Rattle.std.specs.BTreeSet.{contains}
 use Rattle.std.specs.Ordering.{nat_cmp}
 use Rattle.std.specs.Prelude.{◌≡◌, All}
@@ -24,3 +25,6 @@ loop-core-preserved c =
           subst (All (λ (s : Station). (key : ℕ) → contains nat_cmp s.posted key ≡ false)) (sym c.in_ok-push.ensures.items)
           (All-push (λ (s : Station). (key : ℕ) → contains nat_cmp s.posted key ≡ false) c.loop-core.stations.items c.new.result kept.posted c.new.ensures.posted);
     }
+
+pub returns-clause-cores : goal.returns-clause-cores
+returns-clause-cores c = grind (arith, common_steps)

@@ -1,4 +1,5 @@
-use Rattle.std.proofs.Common.{◌++◌, ap, sym, ◌∙◌, map, take, Option}
+use Rattle.std.proofs.Common.{arith, ◌++◌, ap, sym, ◌∙◌, map, take, Option}
+use Rattle.std.proofs.lemmas.Grind.{common_steps}
 use Rattle.std.proofs.lemmas.List.{append_assoc}
 use Rattle.std.specs.List.{filter_map}
 use Rattle.std.specs.Option.{option_to_list}
@@ -24,3 +25,9 @@ loop-key-preserved c =
     ∙ ap (λ l. l ++ option_to_list (option_and_then proposed_by (slice_get sent c.loop-key.key))) c.loop-key.invariant
     ∙ append_assoc old front (option_to_list (option_and_then proposed_by (slice_get sent c.loop-key.key)))
     ∙ ap (λ l. old ++ l) (sym (filter_map_next proposed_by sent c.loop-key.key))
+
+pub returns-in_err-add_proposed : goal.returns-in_err-add_proposed
+returns-in_err-add_proposed c = grind arith
+
+pub returns : goal.returns
+returns c = grind (arith, common_steps)

@@ -1,4 +1,5 @@
-use Rattle.std.proofs.Common.{◌≡◌, ℕ, Option, Some, None, sym, subst}
+use Rattle.std.proofs.Common.{arith, ◌≡◌, ℕ, Option, Some, None, sym, subst}
+use Rattle.std.proofs.lemmas.Grind.{common_steps}
 use Rattle.std.specs.List.{slice_get}
 use Rattle.units.specs.declared.code.Node.{Node}
 use Rattle.wire.specs.declared.message.Message.{Message}
@@ -46,3 +47,6 @@ returns-clause-key g c runs =
     let there = subst (IsAt c.in_ok-key.key (Some c.in_ok-message.message.now)) (sym c.self.view_is) (sym c.in_ok-message.ensures) in
     subst (Least c.args.peer c.args.from (Some c.in_ok-key.key)) c.self.view_is
     (least_of_first scheme n journal c.self.inside.committed (is_acknowledged (history scheme n journal)) c.args.peer c.args.from c.in_ok-key.key c.in_ok-message.message.now c.in_ok-key.ensures there)
+
+pub returns-clause-message : goal.returns-clause-message
+returns-clause-message g c = grind (arith, common_steps)

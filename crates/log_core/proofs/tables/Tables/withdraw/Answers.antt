@@ -1,4 +1,4 @@
-use Rattle.std.proofs.Common.{Ok, [], sym, ap, subst, ◌∙◌}
+use Rattle.std.proofs.Common.{arith, Ok, [], sym, ap, subst, ◌∙◌}
 use Rattle.status.specs.declared.rows.RowInput.TheVariants.{Request}
 use Rattle.wire.specs.declared.message.Body.TheVariants as messages
 use Rattle.protocol.proofs.MessageForms.{as_body, as_received, request_with}
@@ -27,3 +27,6 @@ record-requires-clause-transitions c =
 
 pub returns-in-Stays : goal.returns-in-Stays
 returns-in-Stays c = takes_stale c.requires.kept (requested c.requires.kept (as_received c.args.message.now messages.Request c.requires.body c.requires.input) (as_body (IsWelcome c.args.self.now) c.args.message.now messages.Request c.requires.body c.requires.welcome) c.decide.ensures) (c.in_ok-decision.was ∙ ap Ok c.in-Stays.is) c.from.ensures
+
+pub record-requires-clause-allowed : goal.record-requires-clause-allowed
+record-requires-clause-allowed c = grind arith

@@ -1,4 +1,5 @@
-use Rattle.std.proofs.Common.{Ok, refl, ap, ◌∙◌}
+use Rattle.std.proofs.Common.{arith, Ok, refl, ap, ◌∙◌}
+use Rattle.std.proofs.lemmas.Grind.{elements}
 use Rattle.wire.specs.declared.message.Body.TheVariants.{Notification}
 use Rattle.protocol.proofs.MessageForms.{as_body, as_received, notification_with}
 use Rattle.registry_core.specs.declared.effect.RegistryEffect.TheVariants.{Conclude}
@@ -17,3 +18,6 @@ record-requires-clause-transitions c =
 
 pub returns-in-Stays : goal.returns-in-Stays
 returns-in-Stays c = takes_stale c.requires.kept (concluded c.requires.kept (as_received c.args.message.now (Notification c.args.notified.now) c.requires.body c.requires.input.1) (as_body (IsWelcome c.args.self.now) c.args.message.now (Notification c.args.notified.now) c.requires.body c.requires.welcome) c.requires.own c.status-told.ensures c.notice.ensures) (c.in_ok-decision.was ∙ ap Ok c.in-Stays.is) c.from.ensures
+
+pub returns-in_err-messages-in-Moves : goal.returns-in_err-messages-in-Moves
+returns-in_err-messages-in-Moves c = grind (arith, elements)

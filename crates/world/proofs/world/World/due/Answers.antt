@@ -1,4 +1,5 @@
-use Rattle.std.proofs.Common.{◌++◌, ◌∷◌, [], List, map, sym, ap, ◌∙◌}
+use Rattle.std.proofs.Common.{arith, ◌++◌, ◌∷◌, [], List, map, sym, ap, ◌∙◌}
+use Rattle.std.proofs.lemmas.Grind.{common_steps}
 use Rattle.std.proofs.lemmas.List.{map-append}
 use Rattle.protocol.specs.Claims.{live_of}
 use Rattle.protocol.specs.Table.{ProposedTransfer, is_due}
@@ -25,3 +26,9 @@ loop-transfer-preserved c =
           ∙ c.loop-transfer.invariant
           ∙ sym (filter_past is transfer_of all i p c.loop-transfer-test.true c.transfer-item.is (sym c.is_due.ensures ∙ w.if-is_due.false))
     ]
+
+pub returns-in_err-push : goal.returns-in_err-push
+returns-in_err-push c = grind (arith, common_steps)
+
+pub returns : goal.returns
+returns c = grind (arith, common_steps)

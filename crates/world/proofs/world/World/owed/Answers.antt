@@ -1,4 +1,5 @@
-use Rattle.std.proofs.Common.{◌++◌, ◌∷◌, [], List, filter, map, take, sym, ap, ◌∙◌}
+use Rattle.std.proofs.Common.{arith, ◌++◌, ◌∷◌, [], List, filter, map, take, sym, ap, ◌∙◌}
+use Rattle.std.proofs.lemmas.Grind.{common_steps}
 use Rattle.std.proofs.lemmas.List.{map-append}
 use Rattle.status.specs.declared.id.TransactionId.{TransactionId}
 use Rattle.units.specs.Unit.{have_unit}
@@ -26,3 +27,9 @@ loop-transfer-preserved c =
           ∙ c.loop-transfer.invariant
           ∙ sym (ap (map (λ (p : ProposedTransfer). p.id)) (filter_past has transfer_of all i p c.loop-transfer-test.true c.transfer-item.is (sym c.has_unit.ensures ∙ w.if-has_unit.false)))
     ]
+
+pub returns-in_err-push : goal.returns-in_err-push
+returns-in_err-push c = grind arith
+
+pub returns : goal.returns
+returns c = grind (arith, common_steps)

@@ -1,4 +1,5 @@
-use Rattle.std.proofs.Common.{◌≡◌, ◌∙◌, ◌+◌, List, true, false, is_some, refl, sym, ap, subst, take}
+use Rattle.std.proofs.Common.{arith, ◌≡◌, ◌∙◌, ◌+◌, List, true, false, is_some, refl, sym, ap, subst, take}
+use Rattle.std.proofs.lemmas.Grind.{common_steps}
 use Rattle.registry_core.specs.HeldBlock.{HeldBlock}
 use Rattle.scheme.specs.Order.{member}
 use Rattle.scheme.specs.declared.members.SchemeRegistry.{SchemeRegistry}
@@ -33,3 +34,6 @@ loop-member-preserved c =
           let found : is_some (member world.scheme.members m.code) ≡ true = subst (λ (l : List SchemeRegistry). is_some (member l m.code) ≡ true) (c.registries-member-items.ensures ∙ ap (λ (x : World). x.scheme.members) c.self.view_is) (has_found ms i m c.loop-member-test.true c.member-item.is) in
           absurd (never (sym found ∙ lacks world m.code w.in_default.ensures.core))
     ]
+
+pub returns : goal.returns
+returns c = grind (arith, common_steps)

@@ -1,4 +1,5 @@
-use Rattle.std.proofs.Common.{◌++◌, List, map, sym, ap, ◌∙◌}
+use Rattle.std.proofs.Common.{arith, ◌++◌, List, map, sym, ap, ◌∙◌}
+use Rattle.std.proofs.lemmas.Grind.{common_steps}
 use Rattle.std.proofs.Common.{append-nil, flat_map, take}
 use Rattle.units.specs.declared.code.Node.TheVariants.{Registry}
 use Rattle.scheme.specs.declared.members.SchemeRegistry.{SchemeRegistry}
@@ -35,3 +36,6 @@ loop-member-preserved c =
           ∙ sym (ap (λ (es : List Entry). before ++ proposed es) w.in_default.ensures.none)
           ∙ next
     ]
+
+pub returns : goal.returns
+returns c = grind (arith, common_steps)

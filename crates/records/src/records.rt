@@ -84,6 +84,7 @@ impl Records {
     /// Records a copy of the input, which sends these messages: their keys go up from `sends`. Returns the record's
     /// place. Refused with `JOURNAL_FULL` where there are as many records as the scheme allows, and with
     /// `OUT_OF_MEMORY`; then nothing has changed.
+    #[inline(always)]
     pub fn admit(
         &mut self,
         scheme: &Scheme,

@@ -41,6 +41,7 @@ pub(crate) enum RegistryEffect {
 }
 
 /// Carries the effect out. After `OUT_OF_MEMORY`, with which alone it fails, nothing has changed.
+#[inline(always)]
 pub(crate) fn carry_out(
     initiator: &mut Initiator,
     acquirer: &mut Acquirer,

@@ -35,6 +35,7 @@ pub(crate) struct Tables {
 
 impl Tables {
     /// Records the input, whose transitions have that effect and send these messages.
+    #[inline(always)]
     pub(crate) fn record(
         &mut self,
         input: &Input,

@@ -3,13 +3,13 @@
 use crate::fault::Fault;
 use crate::nz::{code, in_memory};
 use crate::work::one;
-use desk::stores::MemoryStore;
-use desk::{Bells, Desk, RoomBell, Seat, WallClock};
 use exchanges::{Counted, Exchange, exchange, serve_session};
 use protocol::units::Node;
 use protocol::wire::{Message, Reply, decode};
 use registry_core::RegistryCore;
 use replies::DeskAnswerer;
+use sessions::desk::stores::MemoryStore;
+use sessions::desk::{Bells, Desk, RoomBell, Seat, WallClock};
 use sessions::{Accepted, Dial, Listen};
 use sockets::{Port, Ports};
 use std::alloc::Global;

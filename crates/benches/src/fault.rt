@@ -1,9 +1,9 @@
 //! Why nothing is measured, or no more.
 
-use desk::Unsettled;
-use desk::stores::StoreFault;
 use protocol::scheme::SchemeFault;
 use protocol::units::{BlockFault, NoMemory, Refusal};
+use sessions::desk::Unsettled;
+use sessions::desk::stores::StoreFault;
 use std::alloc::{AllocError, AllocFailed};
 use std::io;
 use thiserror::Error;

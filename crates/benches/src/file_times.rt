@@ -4,9 +4,9 @@ ghost use Rattle.std.specs.Prelude.{◌<◌};
 
 use crate::fault::Fault;
 use crate::nz::{code, file_store, order_of};
-use desk::stores::NodeStore;
 use protocol::units::RawBlock;
 use protocol::wire::Input;
+use sessions::desk::stores::NodeStore;
 use std::alloc::Global;
 use std::rt::Clock;
 use std::time::{Duration, Instant};

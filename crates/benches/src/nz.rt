@@ -3,14 +3,14 @@
 ghost use Rattle.std.specs.Prelude.{◌≡◌, [], true, false, IfOk};
 
 use crate::fault::Fault;
-use desk::Stored;
-use desk::stores::{MemoryStore, NodeStore};
 use protocol::NodeCore;
 use protocol::scheme::Scheme;
 use protocol::status::Order;
 use protocol::units::{Code, Items, Node, RawBlock};
 use protocol::wire::Input;
 use registry_core::RegistryCore;
+use sessions::desk::Stored;
+use sessions::desk::stores::{MemoryStore, NodeStore};
 use sqlite::File;
 use std::alloc::Global;
 use store_files::durable::SqlStore;

@@ -5,12 +5,14 @@ ghost use Rattle.std.specs.Prelude.{◌≡◌, true, IfOk};
 use crate::fault::Fault;
 use crate::nz::{code, in_memory, order_of};
 use crate::work::one;
-use desk::stores::{MemoryStore, NodeStore, StoreFault};
-use desk::{BATCH, Bell, Bells, Desk, Ended, RoomBell, Seat, State, Stored, Taken, Told, settle};
 use protocol::Stepped;
 use protocol::units::{Code, Kind, Period, RawBlock};
 use protocol::wire::Input;
 use registry_core::RegistryCore;
+use sessions::desk::stores::{MemoryStore, NodeStore, StoreFault};
+use sessions::desk::{
+    BATCH, Bell, Bells, Desk, Ended, RoomBell, Seat, State, Stored, Taken, Told, settle,
+};
 use std::alloc::Global;
 use std::marker::Brand;
 use std::rt::Clock;

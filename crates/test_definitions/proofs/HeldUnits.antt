@@ -1,10 +1,14 @@
 -- Where a unit is held, of which kind, and for which transfer it is reserved; units of other origins and periods; and how
 -- all of it is read off a tail.
-use Rattle.std.proofs.Common.{◌≡◌, ℕ, true, false, List, [], ◌∷◌, ◌++◌, map, Some, None, refl, lit<}
+use Rattle.std.proofs.Common.{◌≡◌, ℕ, true, false, List, [], ◌∷◌, ◌++◌, map, Option, Some, None, refl, lit<}
 use Rattle.units.specs.declared.block.Kind.TheVariants.{Aau, Rmu, Cer}
 use Rattle.units.specs.declared.block.Period.TheVariants.{Second}
 use Rattle.units.specs.declared.block.RawBlock.{RawBlock}
+use Rattle.units.specs.declared.code.Code.{Code}
 use Rattle.units.specs.declared.code.Node.TheVariants.{Itl, Registry}
+use Rattle.accounts.specs.declared.unit_holding.UnitHolding.{UnitHolding}
+use Rattle.accounts.specs.declared.unit_holding.AccountStatus.{AccountStatus}
+use Rattle.accounts.specs.declared.unit_holding.AccountStatus.TheVariants.{Open, Closed}
 use Rattle.status.specs.declared.status.Status.TheVariants.{Proposed, Checked}
 use Rattle.wire.specs.declared.input.Input.{Input}
 use Rattle.wire.specs.declared.input.Input.TheVariants.{CloseAccount}
@@ -13,13 +17,14 @@ use Rattle.wire.specs.declared.notified.NotifiedStatus.TheVariants as notified
 use Rattle.protocol.specs.AtLog.{ledger}
 use Rattle.protocol.specs.Checks.{log_findings}
 use Rattle.protocol.specs.Claims.{committed_of, live_of, holders, owed}
-use Rattle.protocol.specs.History.{transitions_of, stands}
+use Rattle.protocol.specs.Held.{account_status_at, unit_holding_at}
+use Rattle.protocol.specs.History.{Transition, transitions_of, stands}
 use Rattle.protocol.specs.Pieces.{pieces, repeats}
 use Rattle.protocol.specs.Registries.{nodes, index_of, is_node}
-use Rattle.protocol.specs.Verdict.{verdict}
+use Rattle.protocol.specs.Verdict.{history, verdict}
 use Rattle.protocol.specs.World.{World, step}
 use Rattle.std.specs.Prelude.{take}
-use Rattle.protocol.proofs.WorkedScheme.{nz, jp, nz_node, jp_node, block, block_of, unit, nz1, scheme_s, number, transfer, after, notification}
+use Rattle.protocol.proofs.WorkedScheme.{nz, jp, nz_node, jp_node, block, block_of, unit, nz1, nz2, scheme_s, number, transfer, after, notification}
 use Rattle.test_definitions.proofs.ShortNames.{au, jp1, terms, to_jp, proposes, comes, orders, recorded, refused, answers}
 use Rattle.test_definitions.proofs.ThreeRegistries.{au_node, jp_block, scheme_t}
 
@@ -108,3 +113,26 @@ tails_in_views = (refl, refl, refl, refl, refl, refl)
 pub nodes_in_order : (nodes scheme_t ≡ Itl ∷ au_node ∷ jp_node ∷ nz_node ∷ []) × (map (index_of scheme_t) (Itl ∷ au_node ∷ jp_node ∷ nz_node ∷ []) ≡ Some 0 ∷ Some 1 ∷ Some 2 ∷ Some 3 ∷ [])
     × (index_of scheme_s (Registry au) ≡ None) × (map (is_node scheme_s) (Itl ∷ jp_node ∷ nz_node ∷ Registry au ∷ []) ≡ true ∷ true ∷ true ∷ false ∷ [])
 nodes_in_order = (refl, refl, refl, refl)
+
+-- ---- as tables have it: each unit's account, kind and transfer, and each account that the registry has
+
+-- NZ gave unit 1 and reserves units 2 and 3
+abbrev given_and_reserved : List Transition
+given_and_reserved = transitions_of (history scheme_t nz_node (orders 1 jp 7 (block 1 1 ∷ []) ∷ comes (notification Itl nz_node nz1 notified.Accepted) ∷ orders 1 jp 7 (block 2 3 ∷ []) ∷ []))
+
+abbrev held_by : Code → List Transition → ℕ → Option UnitHolding
+held_by c xs n = unit_holding_at scheme_t c xs (unit n)
+
+pub held_at_the_start : (held_by nz [] 1 ≡ Some (record { account = 1; kind = Aau; reserving = None })) × (held_by nz [] 21 ≡ Some (record { account = 1; kind = Cer; reserving = None })) × (held_by jp [] 1 ≡ None)
+held_at_the_start = (refl, refl, refl)
+
+pub held_afterwards : (held_by nz given_and_reserved 1 ≡ None) × (held_by nz given_and_reserved 3 ≡ Some (record { account = 1; kind = Aau; reserving = Some nz2 })) × (held_by nz given_and_reserved 4 ≡ Some (record { account = 1; kind = Aau; reserving = None }))
+unfolding verdict
+held_afterwards = (refl, refl, refl)
+
+abbrev account_of_jp : List Input → ℕ → Option AccountStatus
+account_of_jp journal n = account_status_at scheme_t jp (history scheme_t jp_node journal) n
+
+pub accounts_stand : (account_of_jp [] 8 ≡ Some Open) × (account_of_jp (CloseAccount (number 8 (lit< tt)) ∷ []) 8 ≡ Some Closed) × (account_of_jp (CloseAccount (number 8 (lit< tt)) ∷ []) 1 ≡ Some Open) × (account_of_jp [] 9 ≡ None)
+unfolding verdict
+accounts_stand = (refl, refl, refl, refl)

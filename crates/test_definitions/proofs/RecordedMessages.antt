@@ -10,7 +10,7 @@ use Rattle.wire.specs.declared.message.ProposalStatus.TheVariants as proposal
 use Rattle.protocol.specs.Cores.{Replays, answer}
 use Rattle.protocol.specs.Outgoing.{did, outgoing}
 use Rattle.protocol.specs.Records.{Admits, RecordsView, with_record}
-use Rattle.protocol.specs.Sending.{Sent, Sends, Acknowledges}
+use Rattle.protocol.specs.Sending.{EndsWithMessages, Sent, Sends, Acknowledges, is_key_acknowledged}
 use Rattle.protocol.specs.Taking.{TakesInto}
 use Rattle.protocol.specs.Verdict.{history, verdict}
 use Rattle.protocol.specs.declared.node_core.Stepped.TheVariants.{Recorded}
@@ -39,6 +39,16 @@ acknowledgements_send_nothing = refl
 pub oldest_first : outgoing (history scheme_s nz_node (order ∷ acknowledged ∷ [])) ≡ Sends (proposed ∷ []) ∷ Acknowledges 0 ∷ []
 unfolding verdict
 oldest_first = refl
+
+-- only a record that acknowledges that very key, wherever it stands
+abbrev second_key : List Sent
+second_key = Sends (proposed ∷ []) ∷ Acknowledges 1 ∷ Sends [] ∷ []
+
+pub acknowledged_by_its_key : (is_key_acknowledged second_key 1 ≡ true) × (is_key_acknowledged second_key 0 ≡ false) × (is_key_acknowledged second_key 2 ≡ false)
+acknowledged_by_its_key = (refl, refl, refl)
+
+pub messages_at_the_end : EndsWithMessages second_key
+messages_at_the_end = (Sends (proposed ∷ []) ∷ Acknowledges 1 ∷ [], [], refl)
 
 -- ---- one record more
 

@@ -22,7 +22,7 @@ use weave::{Nobody, Watch, WeaveFault, Woven, weave_cores};
 use world::Core;
 
 /// What a fault of weaving is to the command.
-fn fault_of(fault: WeaveFault) -> OpFault
+pub fn fault_of(fault: WeaveFault) -> OpFault
     ensures { result ≡ of_weaving fault }
 {
     match fault {

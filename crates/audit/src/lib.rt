@@ -6,5 +6,6 @@ mod auditing;
 mod ended;
 mod loading;
 
-pub use auditing::{audit, audit_watched, load_run, read_first};
+pub use auditing::{audit, audit_watched, fault_of, load_run, read_first};
 pub use ended::{EndedNode, report_run, table_of_ended};
+pub use loading::load_cores;

@@ -50,7 +50,7 @@ fn push(cores: &mut Vec<Core>, core: Core) -> Result<(), NoMemory>
 ///
 /// Fails with `Store` for the first of the stores that could not be read, or has a damaged record, as `audit` does, and
 /// with `NoMemory` where memory ran out.
-pub(crate) fn load_cores<S: NodeStore, P: Watch>(
+pub fn load_cores<S: NodeStore, P: Watch>(
     alloc: Global,
     scheme: &Scheme,
     stores: &mut [S],

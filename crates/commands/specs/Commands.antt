@@ -20,9 +20,10 @@ use Rattle.rehearse.specs.Report.{IsReport}
 use Rattle.chart.specs.Chart.{IsChart}
 use Rattle.operator.specs.Show.{FailsToShow, shown}
 use Rattle.operator.specs.declared.command_line.Action.{Action}
-use Rattle.operator.specs.declared.command_line.Action.TheVariants.{Rehearse, Chart, Show, Audit, Run}
+use Rattle.operator.specs.declared.command_line.Action.TheVariants.{Rehearse, Chart, Show, Audit, Events, Run}
 use Rattle.audit.specs.Audits.{Audits, FailsToAudit, FailsToFindRun, HasRun}
 use Rattle.audit.specs.Stores.{AreLoaded, AreUnwritten}
+use Rattle.events.specs.Listing.{FailsToList, Lists}
 use Rattle.input_lines.specs.declared.script_line.ScriptLine.{ScriptLine}
 use Rattle.audit.specs.Ended.{states_of}
 use Rattle.run.specs.Runs.{FailsToRun, HaveEnded, IsLoadedAmong, IsRunReport}
@@ -144,29 +145,40 @@ module _ {A F S : Type 0} (g : Ghosts A F S) (archive : A) (remaining : F → Op
   abbrev pub FailsToShowNode : (path folder word : List ℕ) → Failing
   FailsToShowNode path folder word = FailsFromScheme path (λ scheme. FailsFromWord word scheme (λ n. FailsFromFolder folder (FailsFromStore folder n)))
 
-  -- ---- `audit`
+  -- ---- `audit` and `events`
 
-  -- the stores of the scheme's nodes were read, and the table of a run that leads to their records was written
-  pub record AuditsFolder (path folder : List ℕ) (before after : Option (List ℕ)) : Type 0 where
+  -- the stores of the scheme's nodes were read, and a text on their records was written
+  pub record ReportsFolder (IsText : Scheme → (olds news : List S) → List ℕ → Type 0) (path folder : List ℕ) (before after : Option (List ℕ)) : Type 0 where
     pub scheme : Scheme
     pub has_scheme : HasScheme g archive remaining path scheme
     pub in_folder : g.is_folder archive folder
     pub stores : List S
     pub left : List S
     pub opened : AreStoresIn g archive of folder (nodes scheme) stores
-    pub table : List ℕ
-    pub audits : Audits of scheme stores left table
+    pub text : List ℕ
+    pub is_text : IsText scheme stores left text
     pub unwritten : AreUnwritten of stores left
-    pub written : Appends before after table
+    pub written : Appends before after text
 
-  abbrev pub FailsFromStores : List ℕ → Scheme → Failing
-  FailsFromStores folder scheme fault v w =
+  -- the table of a run that leads to their records
+  abbrev pub AuditsFolder : (path folder : List ℕ) (before after : Option (List ℕ)) → Type 0
+  AuditsFolder path folder v w = ReportsFolder (Audits of) path folder v w
+
+  -- the events of a run that leads to their records
+  abbrev pub ListsFolder : (path folder : List ℕ) (before after : Option (List ℕ)) → Type 0
+  ListsFolder path folder v w = ReportsFolder (Lists of) path folder v w
+
+  abbrev pub FailsFromStores : (OpFault → Scheme → List S → List S → (before after : Option (List ℕ)) → Type 0) → List ℕ → Scheme → Failing
+  FailsFromStores Fails folder scheme fault v w =
       (FailsToOpen g archive of folder scheme fault × Keeps v w)
-      ⊎ ((stores left : List S) × AreStoresIn g archive of folder (nodes scheme) stores × FailsToAudit of fault scheme stores left v w × AreUnwritten of stores left)
+      ⊎ ((stores left : List S) × AreStoresIn g archive of folder (nodes scheme) stores × Fails fault scheme stores left v w × AreUnwritten of stores left)
 
   -- the first fault of the scheme, the folder, the stores and their records
   abbrev pub FailsToAuditFolder : (path folder : List ℕ) → Failing
-  FailsToAuditFolder path folder = FailsFromScheme path (λ scheme. FailsFromFolder folder (FailsFromStores folder scheme))
+  FailsToAuditFolder path folder = FailsFromScheme path (λ scheme. FailsFromFolder folder (FailsFromStores (FailsToAudit of) folder scheme))
+
+  abbrev pub FailsToListFolder : (path folder : List ℕ) → Failing
+  FailsToListFolder path folder = FailsFromScheme path (λ scheme. FailsFromFolder folder (FailsFromStores (FailsToList of) folder scheme))
 
   -- ---- `run`
 
@@ -197,6 +209,7 @@ module _ {A F S : Type 0} (g : Ghosts A F S) (archive : A) (remaining : F → Op
   Performs Chart r s v w = (text : List ℕ) × Reports IsChart r s text × Appends v w text
   Performs (Show scheme folder node) r s v w = ShowsNode (string_bytes scheme) (string_bytes folder) (string_bytes node) v w
   Performs (Audit scheme folder) r s v w = AuditsFolder (string_bytes scheme) (string_bytes folder) v w
+  Performs (Events scheme folder) r s v w = ListsFolder (string_bytes scheme) (string_bytes folder) v w
   Performs (Run scheme folder script) r s v w = RunsFolder (string_bytes scheme) (string_bytes folder) (string_bytes script) v w
 
   abbrev pub FailsToPerform : Action → OpFault → (r s before after : Option (List ℕ)) → Type 0
@@ -204,4 +217,5 @@ module _ {A F S : Type 0} (g : Ghosts A F S) (archive : A) (remaining : F → Op
   FailsToPerform Chart fault r s v w = FailsSo IsChart fault r s v w
   FailsToPerform (Show scheme folder node) fault r s v w = FailsToShowNode (string_bytes scheme) (string_bytes folder) (string_bytes node) fault v w
   FailsToPerform (Audit scheme folder) fault r s v w = FailsToAuditFolder (string_bytes scheme) (string_bytes folder) fault v w
+  FailsToPerform (Events scheme folder) fault r s v w = FailsToListFolder (string_bytes scheme) (string_bytes folder) fault v w
   FailsToPerform (Run scheme folder script) fault r s v w = FailsToRunFolder (string_bytes scheme) (string_bytes folder) (string_bytes script) fault v w

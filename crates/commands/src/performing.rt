@@ -1,6 +1,6 @@
 //! What each command does.
 ghost use Rattle.std.specs.Prelude.{IfErr, OnOk};
-ghost use Rattle.commands.specs.Commands.{AuditsFolder, FailsToAuditFolder, FailsToPerform, FailsToShowNode, Performs, ShowsNode};
+ghost use Rattle.commands.specs.Commands.{AuditsFolder, FailsToAuditFolder, FailsToListFolder, FailsToPerform, FailsToShowNode, ListsFolder, Performs, ShowsNode};
 
 use crate::archive::Archive;
 use crate::opening::{find_folder, open_store, open_stores, scheme_at};
@@ -9,6 +9,7 @@ use crate::running::run_folder;
 use audit::audit_watched;
 use chart::chart;
 use command_faults::{OpFault, node_of};
+use events::list_events;
 use operator::{Action, show};
 use rehearse::rehearse;
 use std::alloc::Global;
@@ -67,6 +68,31 @@ fn audit_folder<A: Archive, W: Write, P: Progress>(
     done
 }
 
+/// Writes the events of a run that leads to the records of the stores in the folder.
+fn list_folder<A: Archive, W: Write, P: Progress>(
+    alloc: Global,
+    archive: &A,
+    scheme: &str,
+    folder: &str,
+    writer: &mut W,
+    progress: &P,
+) -> Result<(), OpFault>
+    ensures ok { OnOk result
+        (ListsFolder A.Archive archive.now A.File.remaining A.Store.NodeStore scheme.now folder.now
+        (W.contents writer.old) (W.contents writer.new)) }
+    ensures err { IfErr result
+        (λ e. FailsToListFolder A.Archive archive.now A.File.remaining A.Store.NodeStore scheme.now folder.now e
+        (W.contents writer.old) (W.contents writer.new)) }
+{
+    let scheme = scheme_at(alloc, archive, scheme)?;
+    find_folder(archive, folder)?;
+    let mut stores = open_stores(alloc, archive, &scheme, folder)?;
+    let mut watch = progress.of_audit();
+    let done = list_events(alloc, &scheme, stores.as_mut_slice(), writer, &mut watch);
+    watch.finished();
+    done
+}
+
 /// Does what the action says: reads standard input from `reader` where it reads it, and writes its results to `writer`.
 ///
 /// # Errors
@@ -111,6 +137,14 @@ where
             writer,
         ),
         Action::Audit { scheme, folder } => audit_folder(
+            alloc,
+            archive,
+            scheme.as_str(),
+            folder.as_str(),
+            writer,
+            progress,
+        ),
+        Action::Events { scheme, folder } => list_folder(
             alloc,
             archive,
             scheme.as_str(),

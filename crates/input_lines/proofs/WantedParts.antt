@@ -1,5 +1,5 @@
 -- A part that is wanted, where the line is no event without it.
-use Rattle.std.proofs.Common.{◌≡◌, Option, Some, None, Result, Ok, Err, IfSome, IfNone, sym, subst}
+use Rattle.std.proofs.Common.{◌≡◌, Option, Some, None, Ok, Err, IfSome, IfNone, subst}
 use Rattle.std.specs.Option.{ok_or}
 
 -- what is said of the part where it is there

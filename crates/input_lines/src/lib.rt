@@ -10,6 +10,7 @@ mod reading;
 mod script;
 mod script_line;
 mod verbs;
+mod written;
 
 pub use cutting::first_line;
 pub use events::event_of;
@@ -17,3 +18,4 @@ pub use line::WordsFault;
 pub use reading::{WrittenLine, next_line};
 pub use script::read_script;
 pub use script_line::{MOST_TURNS, ScriptLine, script_line_of};
+pub use written::line_of;

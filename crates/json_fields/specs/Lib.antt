@@ -1,2 +1,4 @@
 pub mod Fields
 pub mod Found
+pub mod Objects
+pub mod Writing

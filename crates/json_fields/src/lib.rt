@@ -1,8 +1,10 @@
-//! The fields of JSON objects: what a value has at its keys, and why a value isn't what a grammar wants.
+//! JSON objects: what a value has at its keys, why a value isn't what a grammar wants, and compact texts.
 #![tactic(auto)]
 
 mod fault;
+mod json_text;
 mod object;
 
 pub use fault::TextFault;
+pub use json_text::JsonText;
 pub use object::{bool_at, has_keys, list_at, number_at, text_at, value_at};

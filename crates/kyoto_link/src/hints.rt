@@ -31,7 +31,7 @@ fn named_by(action: &Action) -> Option<Named<'_>> {
             node: Some(node.as_str()),
             script: None,
         }),
-        Action::Audit { scheme, folder } => Some(Named {
+        Action::Audit { scheme, folder } | Action::Events { scheme, folder } => Some(Named {
             scheme: scheme.as_str(),
             folder: folder.as_str(),
             node: None,

@@ -9,7 +9,7 @@ use Rattle.clap.specs.declared.error.kind.ErrorKind.{ErrorKind}
 use Rattle.clap.specs.declared.error.kind.ErrorKind.TheVariants.{OutOfMemory, DisplayHelp, DisplayVersion}
 use Rattle.clap.specs.declared.parser.matches.ArgMatches.{ArgMatches}
 use Rattle.operator.specs.declared.command_line.Action.{Action}
-use Rattle.operator.specs.declared.command_line.Action.TheVariants.{Audit, Chart, Rehearse, Run, Show}
+use Rattle.operator.specs.declared.command_line.Action.TheVariants.{Audit, Chart, Events, Rehearse, Run, Show}
 use Rattle.operator.specs.declared.command_line.UsageFault.{UsageFault}
 use Rattle.operator.specs.declared.command_line.UsageFault.TheVariants.{Usage, Help, NoMemory}
 
@@ -27,16 +27,19 @@ show_shape = record (new_shape (codes "show")) { rules = positional (codes "SCHE
 abbrev pub audit_shape : Shape
 audit_shape = record (new_shape (codes "audit")) { rules = positional (codes "SCHEME") ∷ positional (codes "DIR") ∷ [] }
 
+abbrev pub events_shape : Shape
+events_shape = record (new_shape (codes "events")) { rules = positional (codes "SCHEME") ∷ positional (codes "DIR") ∷ [] }
+
 abbrev pub run_shape : Shape
 run_shape = record (new_shape (codes "run")) { rules = positional (codes "SCHEME") ∷ positional (codes "DIR") ∷ positional (codes "SCRIPT") ∷ [] }
 
 -- the program with the subcommands that read events
-abbrev pub with_events : App
-with_events = with_subcommand (with_subcommand program (new_shape (codes "rehearse"))) (new_shape (codes "chart"))
+abbrev pub with_readers : App
+with_readers = with_subcommand (with_subcommand program (new_shape (codes "rehearse"))) (new_shape (codes "chart"))
 
 -- the program with all its subcommands
 abbrev pub kyoto_link : App
-kyoto_link = with_subcommand (with_subcommand (with_subcommand with_events show_shape) audit_shape) run_shape
+kyoto_link = with_subcommand (with_subcommand (with_subcommand (with_subcommand with_readers show_shape) audit_shape) events_shape) run_shape
 
 -- the kinds of fault of which clap finds one in the words; none where it takes them
 abbrev pub faults_in : List (List ℕ) → Kinds
@@ -63,6 +66,7 @@ HasValues value Chart = Unit {0}
 HasValues value (Show scheme folder node) =
     (value (codes "SCHEME") ≡ Some (string_bytes scheme)) × (value (codes "DIR") ≡ Some (string_bytes folder)) × (value (codes "NODE") ≡ Some (string_bytes node))
 HasValues value (Audit scheme folder) = (value (codes "SCHEME") ≡ Some (string_bytes scheme)) × (value (codes "DIR") ≡ Some (string_bytes folder))
+HasValues value (Events scheme folder) = (value (codes "SCHEME") ≡ Some (string_bytes scheme)) × (value (codes "DIR") ≡ Some (string_bytes folder))
 HasValues value (Run scheme folder script) =
     (value (codes "SCHEME") ≡ Some (string_bytes scheme)) × (value (codes "DIR") ≡ Some (string_bytes folder)) × (value (codes "SCRIPT") ≡ Some (string_bytes script))
 
@@ -71,6 +75,7 @@ command_name Rehearse = codes "rehearse"
 command_name Chart = codes "chart"
 command_name (Show scheme folder node) = codes "show"
 command_name (Audit scheme folder) = codes "audit"
+command_name (Events scheme folder) = codes "events"
 command_name (Run scheme folder script) = codes "run"
 
 abbrev pub NamesAction : ArgMatches → Action → Type 0

@@ -49,7 +49,8 @@ docs/FORMATS.md describes schemes, events and the table; docs/PROTOCOL.md tells 
 /// The end of the help of `chart`.
 const CHART_NOTES: &str =
     "The first line of standard input is the scheme, and each other line an event, as for rehearse. A message that
-comes to a node is an arrow, one that doesn't ends in a cross, and the last note has the table.
+comes to a node is an arrow, one that doesn't ends in a cross, and the last note has the table. Mermaid draws no text of
+more than 50,000 characters, some 1,500 events, unless its maxTextSize is set.
 
 Example:
   kyoto-link chart < examples/one_transfer/input > one_transfer.mmd
@@ -95,6 +96,25 @@ Exit status:
 
 docs/FORMATS.md describes schemes, records, stores and the table.";
 
+/// The end of the help of `events`.
+const EVENTS_NOTES: &str =
+    "The store of a node is the file DIR/NODE.db: one for the log, and one for each registry of the scheme. A missing
+store is made, and is empty. A store of format 1 is migrated to format 2, which needs room for twice its size beside it.
+The scheme is written as one line, and then a line for each event of a run which leads to the records of all stores, and
+to no others. rehearse reads it, and its table is the one that audit writes.
+
+Example:
+  kyoto-link events scheme.json stores | kyoto-link chart > run.mmd
+
+Exit status:
+  0  done
+  1  no run leads to these records (kyoto-link: stuck at NZ 2: the first record that none can come to)
+  3  SCHEME has a fault, SCHEME or DIR could not be read, or the output could not be written
+  4  a store has a fault (kyoto-link: store NZ: damaged 2)
+  5  out of memory
+
+docs/FORMATS.md describes schemes, records, stores and events, and how long an input of rehearse may be.";
+
 /// The end of the help of `run`.
 const RUN_NOTES: &str =
     "Each node runs in threads of its own, and nodes exchange messages over sockets at free ports of 127.0.0.1. The
@@ -139,6 +159,12 @@ pub enum Action {
     /// Write the table of a run that leads to the records of the stores in the folder `folder`. The file `scheme` has
     /// the scheme.
     Audit {
+        scheme: String,
+        folder: String,
+    },
+    /// Write the scheme and the events of a run that leads to the records of the stores in the folder `folder`. The file
+    /// `scheme` has the scheme.
+    Events {
         scheme: String,
         folder: String,
     },
@@ -220,6 +246,12 @@ const SUBCOMMANDS: &[Subcommand] = &[
         name: "audit",
         about: "Find a run that leads to the records of all stores, and write the table that it leads to",
         notes: AUDIT_NOTES,
+        arguments: &[SCHEME, DIR],
+    },
+    Subcommand {
+        name: "events",
+        about: "Find a run that leads to the records of all stores, and write its scheme and its events as rehearse reads them",
+        notes: EVENTS_NOTES,
         arguments: &[SCHEME, DIR],
     },
     Subcommand {
@@ -313,6 +345,14 @@ fn audit_action(alloc: Global, matches: &ArgMatches) -> Option<Action>
     Some(Action::Audit { scheme, folder })
 }
 
+fn events_action(alloc: Global, matches: &ArgMatches) -> Option<Action>
+    ensures { IfSome result (IsOf (codes "events") (first_value (found_of matches.now))) }
+{
+    let scheme = value_of(alloc, matches, "SCHEME")?;
+    let folder = value_of(alloc, matches, "DIR")?;
+    Some(Action::Events { scheme, folder })
+}
+
 fn run_action(alloc: Global, matches: &ArgMatches) -> Option<Action>
     ensures { IfSome result (IsOf (codes "run") (first_value (found_of matches.now))) }
 {
@@ -342,6 +382,9 @@ fn action_of(alloc: Global, matches: &ArgMatches) -> Option<Action>
     }
     if name == "audit" {
         return audit_action(alloc, inner);
+    }
+    if name == "events" {
+        return events_action(alloc, inner);
     }
     if name == "run" {
         return run_action(alloc, inner);

@@ -26,6 +26,7 @@ use Rattle.wire.specs.declared.message.Message.{Message}
 use Rattle.wire.specs.declared.notified.NotifiedStatus.{NotifiedStatus}
 use Rattle.scheme.specs.declared.members.SchemeRegistry.{SchemeRegistry}
 use Rattle.scheme.specs.declared.registries.Scheme.{Scheme}
+use Rattle.scheme.proofs.AllKinds.{aau_and_cer, all_kinds}
 use Rattle.scheme.specs.Order.{AreFew, AreMembers}
 use Rattle.protocol.specs.declared.event.WorldEvent.{WorldEvent}
 use Rattle.protocol.specs.declared.event.WorldEvent.TheVariants.{Take, Commit, Post, Deliver, Crash, Restart}
@@ -116,6 +117,7 @@ pub sound : AreMembers members
 sound = record {
   free = (few, (lit≤ tt, (((codes_differ, tt), (tt, tt)), ((((jp_accounts_differ, tt), (tt, tt)), (((nz_accounts_differ, tt), (tt, tt)), tt)), ((tt, ((refl, tt), tt)), ((tt, tt), tt))))));
   numbered = (((lit≤ tt, lit≤ tt), ((lit≤ tt, lit≤ tt), tt)), (((lit≤ tt, lit≤ tt), ((lit≤ tt, lit≤ tt), tt)), tt));
+  kinds = (aau_and_cer, (all_kinds, tt));
   ordered = ((refl, tt), (tt, tt));
 }
 

@@ -1,5 +1,5 @@
 //! What happens in a world, and what comes of it.
-ghost use Rattle.std.specs.Prelude.{◌≡◌};
+ghost use Rattle.std.specs.Prelude.{◌≡◌, ◌↔◌, IsTrue};
 ghost use Rattle.protocol.specs.Outcomes.{outcome_of};
 
 use crate::node_core::Stepped;
@@ -22,6 +22,67 @@ pub enum WorldEvent {
     Crash { node: Node, kept: u64 },
     /// A stopped node starts.
     Restart { node: Node },
+}
+
+fn are_same_nodes(a: Node, b: Node) -> bool
+    ensures { IsTrue result ↔ a ≡ b }
+{
+    a == b
+}
+
+fn are_same_moments(a: Moment, b: Moment) -> bool
+    ensures { IsTrue result ↔ a ≡ b }
+{
+    a == b
+}
+
+impl WorldEvent {
+    /// Whether both are the same. Takes no memory.
+    pub fn same(&self, other: &WorldEvent) -> bool
+        ensures { IsTrue result ↔ self.now ≡ other.now }
+    {
+        match (self, other) {
+            (
+                WorldEvent::Take { node, input },
+                WorldEvent::Take {
+                    node: other,
+                    input: others,
+                },
+            ) => are_same_nodes(*node, *other) && input.same(others),
+            (
+                WorldEvent::Commit { node, count },
+                WorldEvent::Commit {
+                    node: other,
+                    count: others,
+                },
+            ) => are_same_nodes(*node, *other) && count == others,
+            (
+                WorldEvent::Post { node, key },
+                WorldEvent::Post {
+                    node: other,
+                    key: others,
+                },
+            ) => are_same_nodes(*node, *other) && key == others,
+            (
+                WorldEvent::Deliver { message, moment },
+                WorldEvent::Deliver {
+                    message: other,
+                    moment: others,
+                },
+            ) => message == other && are_same_moments(*moment, *others),
+            (
+                WorldEvent::Crash { node, kept },
+                WorldEvent::Crash {
+                    node: other,
+                    kept: others,
+                },
+            ) => are_same_nodes(*node, *other) && kept == others,
+            (WorldEvent::Restart { node }, WorldEvent::Restart { node: other }) => {
+                are_same_nodes(*node, *other)
+            }
+            _ => false,
+        }
+    }
 }
 
 /// The outcome of an event.

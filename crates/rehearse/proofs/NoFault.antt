@@ -16,7 +16,7 @@ use Rattle.rehearse.specs.Rehearsal.{AreEvents, IsRehearsal, IsEventFault, IsInp
 use Rattle.command_faults.specs.SchemeFile.{IsSchemeFault}
 
 -- the bytes have one first line
-line_once : (bytes a b c d : List ℕ) → Begins bytes a b → Begins bytes c d → (a ≡ c) × (b ≡ d)
+pub line_once : (bytes a b c d : List ℕ) → Begins bytes a b → Begins bytes c d → (a ≡ c) × (b ≡ d)
 line_once bytes a b c d p q = cut_once 10 a b c d p.free q.free (sym p.spelled ∙ q.spelled)
 
 line_ends : (bytes line rest : List ℕ) → Begins bytes line rest → IsFreeOf 10 bytes → ⊥
@@ -44,7 +44,7 @@ line_no_fault bytes line rest room Order is f = f
 line_no_fault bytes line rest room Truncated is f = line_ends bytes line rest is.begins f.free
 line_no_fault bytes line rest room TooLong is f = not_too_long bytes line rest room is f
 
-line_there : (bytes line rest : List ℕ) → Begins bytes line rest → bytes ≡ [] → ⊥
+pub line_there : (bytes line rest : List ℕ) → Begins bytes line rest → bytes ≡ [] → ⊥
 line_there bytes line rest p none =
     let long : length bytes ≡ length line + suc (length rest) = ap length p.spelled ∙ length-append line (10 ∷ rest) in
     let nought : length bytes ≡ 0 = ap length none in

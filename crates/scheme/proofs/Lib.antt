@@ -12,3 +12,5 @@ pub mod OneAnswer
 pub mod Holders
 pub mod HoldersAlike
 pub mod Searching
+pub mod AllKinds
+pub mod ReadBack

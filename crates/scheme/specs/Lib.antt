@@ -6,3 +6,4 @@ pub mod Faults
 pub mod Text
 pub mod Reading
 pub mod Allotted
+pub mod Written

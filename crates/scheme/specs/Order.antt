@@ -60,10 +60,15 @@ AreFree members = AllByRecursion (λ fault. IsFreeOf fault members) faults_in_or
 abbrev pub AreNumbered : List SchemeRegistry → Type 0
 AreNumbered members = AllByRecursion (λ m. AllByRecursion IsAccountNumber m.accounts) members
 
--- free of faults, with accounts in range, and in byte order of their codes
+-- no registry has a kind twice
+abbrev pub HaveDifferentKinds : List SchemeRegistry → Type 0
+HaveDifferentKinds members = AllByRecursion (λ m. HasNoTwins m.kinds) members
+
+-- free of faults, with accounts in range and different kinds, and in byte order of their codes
 pub record AreMembers (members : List SchemeRegistry) : Type 0 where
   pub free : AreFree members
   pub numbered : AreNumbered members
+  pub kinds : HaveDifferentKinds members
   pub ordered : Pairwise (λ a b. code_cmp a.code b.code ≡ Less) members
 
 -- the registry of that code

@@ -58,5 +58,6 @@ pub AreMembers-prop : (members : List SchemeRegistry) → IsProp (AreMembers mem
 AreMembers-prop members x y = λ i. record {
   free = AllByRecursion-prop (λ fault. IsFreeOf fault members) (free-prop members) faults_in_order x.free y.free i;
   numbered = AllByRecursion-prop (λ m. AllByRecursion IsAccountNumber m.accounts) (λ m. AllByRecursion-prop IsAccountNumber number-prop m.accounts) members x.numbered y.numbered i;
+  kinds = AllByRecursion-prop (λ m. HasNoTwins m.kinds) (λ m. no_twins-prop m.kinds) members x.kinds y.kinds i;
   ordered = Pairwise-prop (λ a b. code_cmp a.code b.code ≡ Less) (λ a b. Ordering-set (code_cmp a.code b.code) Less) members x.ordered y.ordered i;
 }

@@ -7,7 +7,7 @@ ghost use Rattle.units.specs.Apart.{Pairwise, AllApart};
 ghost use Rattle.units.specs.Keys.{code_cmp, unit_cmp, first_unit};
 ghost use Rattle.units.specs.Limits.{most_accounts};
 ghost use Rattle.scheme.specs.Grammar.{HasNoTwins};
-ghost use Rattle.scheme.specs.Order.{AreFew, IsFreeOf, AreMembers, AreNumbered, all_blocks, blocks_of, faults_in_order};
+ghost use Rattle.scheme.specs.Order.{AreFew, IsFreeOf, AreMembers, AreNumbered, HaveDifferentKinds, all_blocks, blocks_of, faults_in_order};
 ghost use Rattle.scheme.specs.Faults.{IsFirst};
 ghost use Rattle.scheme.specs.Reading.{AreSorted, IsKnown};
 ghost use Rattle.scheme.specs.declared.members.SchemeFault.TheVariants.{AccountTwice, UnknownAccount};
@@ -165,6 +165,7 @@ pub fn first_fault(
 ) -> Result<Option<SchemeFault>, AllocError>
     requires sorted { AreSorted members.now }
     requires numbered { AreNumbered members.now }
+    requires kinds { HaveDifferentKinds members.now }
     ensures some { IfOk result (λ o. IfSome o (IsFirst faults_in_order members.now)) }
     ensures none { IfOk result (λ o. IfNone o (AreMembers members.now)) }
 {

@@ -9,6 +9,7 @@ mod listed;
 mod members;
 mod reading;
 mod registries;
+mod writing;
 
 pub use members::{Allotment, Holder, SchemeFault, SchemeRegistry};
 pub use reading::one_answer;

@@ -3,6 +3,7 @@ ghost use Rattle.std.specs.Prelude.{◌≡◌, ◌≤◌, IfOk, IfErr, IfSome, I
 ghost use Rattle.units.specs.Limits.{last_moment};
 
 use jiff::Timestamp;
+use std::fmt;
 use thiserror::Error;
 use units::limits::LAST_MOMENT;
 
@@ -12,6 +13,16 @@ pub struct Moment {
     /// Seconds after 1970-01-01T00:00:00Z, at most `LAST_MOMENT`.
     pub seconds: u64,
     pub ghost in_range: { seconds ≤ last_moment },
+}
+
+/// The moment as RFC 3339 has it, in UTC: `2026-11-29T05:00:00Z`. What `jiff` prints has no contract.
+impl fmt::Display for Moment {
+    fn fmt<W: fmt::Write>(&self, f: &mut fmt::Formatter<W>) -> fmt::Result {
+        match Timestamp::from_second(self.seconds as i64) {
+            Ok(instant) => write!(f, "{instant}"),
+            Err(_) => Err(fmt::Error),
+        }
+    }
 }
 
 /// Why a text names no moment.

@@ -13,6 +13,7 @@ use Rattle.units.specs.declared.code.Code.{Code}
 use Rattle.units.specs.declared.code.Node.{Node}
 use Rattle.units.specs.declared.code.Node.TheVariants.{Registry}
 use Rattle.scheme.specs.Grammar.{HasNoTwins}
+use Rattle.scheme.proofs.AllKinds.{aau_and_cer, all_kinds}
 use Rattle.scheme.specs.Order.{AreFew, AreMembers, all_blocks}
 use Rattle.scheme.specs.declared.members.SchemeRegistry.{SchemeRegistry}
 use Rattle.scheme.specs.declared.registries.Scheme.{Scheme}
@@ -113,6 +114,7 @@ pub sound : AreMembers members
 sound = record {
   free = (few, (lit≤ tt, (codes_apart, ((accounts_of_au, (accounts_of_jp, (accounts_of_nz, tt))), ((tt, ((refl, tt), ((refl, (refl, tt)), tt))), (blocks_apart, tt))))));
   numbered = (numbers_of_au, (numbers_of_jp, (numbers_of_nz, tt)));
+  kinds = ((tt, tt), (aau_and_cer, (all_kinds, tt)));
   ordered = ((refl, (refl, tt)), ((refl, tt), (tt, tt)));
 }
 

@@ -4,18 +4,21 @@ ghost use Rattle.std.specs.Prelude.{◌≡◌, IfSome, length};
 ghost use Rattle.protocol.specs.Registries.{nodes};
 
 use audit::audit;
+use events::list_events;
 use input_lines::event_of;
 use protocol::scheme::Scheme;
 use protocol::units::Node;
+use rehearse::rehearse;
 use std::alloc::Global;
 use std::str;
 use stores::{MemoryStore, NodeStore};
+use weave::Nobody;
 use world::World;
 
 /// What the audit of an example's journals comes to.
 #[derive(Clone, Copy, Debug, PartialEq, Eq)]
 pub enum Audited {
-    /// It writes the table that `rehearse` wrote.
+    /// It writes the table that `rehearse` wrote, and the run that `events` writes is rehearsed to the same table.
     Same,
     /// It writes something else, or fails.
     Otherwise,
@@ -72,6 +75,19 @@ fn is_table(output: &str, events: &str, table: &str) -> bool {
     output.ends_with(table) && all == Some(output.lines().count())
 }
 
+/// Whether the run that `events` writes of the stores is one that `rehearse` ends with this table.
+fn is_listed(alloc: Global, scheme: &Scheme, stores: &mut [MemoryStore], table: &[u8]) -> bool
+    requires { length stores.old ≡ length (nodes scheme.now) }
+{
+    let mut listed = Vec::new(alloc);
+    if list_events(alloc, scheme, stores, &mut listed, &mut Nobody).is_err() {
+        return false;
+    }
+    let mut reader = listed.as_slice();
+    let mut report = Vec::new(alloc);
+    rehearse(alloc, &mut reader, &mut report).is_ok() && report.as_slice().ends_with(table)
+}
+
 /// What an audit of the world's journals comes to.
 fn audit_world(
     alloc: Global,
@@ -83,8 +99,9 @@ fn audit_world(
     let mut stores = stores_of(alloc, scheme, world)?;
     let mut written = Vec::new(alloc);
     let done = audit(alloc, scheme, stores.as_mut_slice(), &mut written);
+    let listed = is_listed(alloc, scheme, stores.as_mut_slice(), written.as_slice());
     let table = str::from_utf8(written.as_slice()).ok()?;
-    if done.is_ok() && is_table(output, lines, table) {
+    if done.is_ok() && listed && is_table(output, lines, table) {
         Some(Audited::Same)
     } else {
         Some(Audited::Otherwise)

@@ -131,7 +131,8 @@ impl Kind {
         None
     }
 
-    fn name(self) -> &'static str
+    /// The text of the kind.
+    pub fn name(self) -> &'static str
         ensures { result.now ≡ kind_text self }
     {
         match self {

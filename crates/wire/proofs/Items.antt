@@ -1,5 +1,5 @@
 -- The items of arrays, one by one and as lists.
-use Rattle.std.proofs.Common.{◌≡◌, ℕ, ◌<◌, ◌^◌, List, [], ◌∷◌, Some, sym, subst, refl, arith, Result}
+use Rattle.std.proofs.Common.{◌≡◌, ℕ, ◌<◌, ◌^◌, List, [], ◌∷◌, ◌++◌, Some, ap, sym, subst, refl, arith, Result}
 use Rattle.std.specs.Prelude.{option_and_then, codes}
 use Rattle.std.specs.List.{AllByRecursion}
 use Rattle.serde_json.specs.Data.{Data, Items, item, no_items, array}
@@ -14,7 +14,8 @@ use Rattle.json_fields.specs.Found.{Finds}
 use Rattle.json_fields.specs.declared.fault.TextFault.{TextFault}
 use Rattle.json_fields.proofs.Parts.{finds_same}
 use Rattle.json_fields.proofs.OneAtKey.{array_at, array_once}
-use Rattle.wire.specs.Objects.{whole_items, numbers, block_items, blocks}
+use Rattle.json_fields.specs.Writing.{data_tokens, each_tokens}
+use Rattle.wire.specs.Objects.{whole_items, numbers, block_data, block_items, blocks}
 use Rattle.wire.specs.Reading.{IsBlockItem, IsRawItem, IsCodeItem}
 
 -- ---- one item
@@ -24,6 +25,10 @@ pub own_text : (r : RawBlock) → IsRange r.first r.last → IsRawText (raw_text
 own_text r range = record { spelled = refl; first = omega (arith, range.1, range.2); last = omega (arith, range.2) }
 
 -- ---- items and lists
+
+pub raws_tokens : (bs : List Block) → each_tokens (λ (b : Block). block_data b.raw) bs ≡ each_tokens block_data (raws bs)
+raws_tokens [] = refl
+raws_tokens (b ∷ bs) = ap (λ ts. data_tokens (block_data b.raw) ++ ts) (raws_tokens bs)
 
 pub items_of_blocks : (ds : Items) (bs : List Block) → EachIs IsBlockItem ds bs → ds ≡ block_items (raws bs)
 items_of_blocks no_items [] e = refl

@@ -2,7 +2,6 @@ pub mod Items
 pub mod Told
 pub mod OneMessage
 pub mod OneRecord
-pub mod Written
 pub mod ReadBack
 pub mod Printed
 pub mod Within

@@ -27,14 +27,14 @@ use Rattle.wire.specs.Codes.{Ascends}
 use Rattle.wire.specs.Messages.{fields_with, message_fields, message_data, message_text, IsSound, IsLine}
 use Rattle.wire.specs.NotifiedStatuses.{notified_status, notified_codes, IsNotified, proposal_status}
 use Rattle.wire.specs.Objects.{Field, HasExactly, object_of, members_of, whole_items, block_items}
-use Rattle.wire.specs.Writing.{data_tokens}
+use Rattle.json_fields.specs.Writing.{data_tokens}
 use Rattle.wire.specs.declared.message.Body.{Body}
 use Rattle.wire.specs.declared.message.Body.TheVariants.{Proposal, Notification, Request}
 use Rattle.wire.specs.declared.message.Message.{Message}
 use Rattle.wire.specs.declared.notified.NotifiedStatus.{NotifiedStatus}
 use Rattle.wire.specs.declared.notified.NotifiedStatus.TheVariants.{Accepted, Rejected, Terminated, Cancelled, Completed}
 use Rattle.wire.proofs.ReadBack.{message_back, message_shallow}
-use Rattle.wire.proofs.Written.{printed, printed_reads}
+use Rattle.json_fields.proofs.Written.{printed, printed_reads}
 
 -- ---- the fields that were wanted
 

@@ -6,14 +6,15 @@ use Rattle.json.specs.Print.{print}
 use Rattle.json.specs.Token.{Token}
 use Rattle.wire.specs.Messages.{message_data}
 use Rattle.wire.specs.Records.{record_data, IsRecord, IsRecordText}
-use Rattle.wire.specs.Writing.{data_tokens, IsSoundInput}
+use Rattle.json_fields.specs.Writing.{data_tokens}
+use Rattle.wire.specs.Writing.{IsSoundInput}
 use Rattle.wire.specs.declared.input.Input.{Input}
 use Rattle.wire.specs.declared.input.Input.TheVariants.{Propose, Request, OpenAccount, CloseAccount, Ack, CleanUp, Eligible, Received}
 use Rattle.wire.specs.declared.record_format.RecordFormat.TheVariants.{Two}
 use Rattle.wire.proofs.Printed.{message_exact}
 use Rattle.wire.proofs.ReadBack.{record_back, record_shallow}
 use Rattle.wire.proofs.Within.{within_two}
-use Rattle.wire.proofs.Written.{printed_reads}
+use Rattle.json_fields.proofs.Written.{printed_reads}
 
 record_is : (i : Input) → IsSoundInput i → IsRecord Two (record_data i) i
 record_is (Propose o) is = ((refl, (refl, (refl, (refl, (refl, (refl, (refl, tt))))))), is)

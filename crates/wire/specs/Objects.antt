@@ -1,46 +1,24 @@
--- Objects by their keys and values.
-use Rattle.std.specs.Prelude.{ℕ, List, [], ◌∷◌, length}
-use Rattle.std.specs.List.{AllByRecursion}
-use Rattle.serde_json.specs.Data.{Data, number, unsigned, string, array, object, Items, no_items, item, Members, no_members, member}
-use Rattle.json_fields.specs.Fields.{HasKeys, HasAt}
+-- Arrays of numbers and of blocks, and objects by their keys and values.
+use Rattle.std.specs.Prelude.{ℕ, List}
+use Rattle.serde_json.specs.Data.{Data, string, Items}
+use Rattle.json_fields.specs.Objects.{array_with, items_with}
 use Rattle.units.specs.Block.{raw_text}
 use Rattle.units.specs.declared.block.RawBlock.{RawBlock}
-
--- a key and its value
-abbrev pub Field : Type 0
-Field = List ℕ × Data
-
--- the object has these fields, and may have others
-abbrev pub HasFields : Data → List Field → Type 0
-HasFields d fields = AllByRecursion (λ f. HasAt d f.0 f.1) fields
-
--- the object has these fields and no other, in whatever order
-abbrev pub HasExactly : Data → List Field → Type 0
-HasExactly d fields = HasKeys d (length fields) × HasFields d fields
-
-abbrev pub members_of : List Field → Members
-members_of [] = no_members
-members_of (f ∷ fs) = member f.0 f.1 (members_of fs)
-
--- the object of these fields in this order
-abbrev pub object_of : List Field → Data
-object_of fields = object (members_of fields)
-
--- a whole number
-abbrev pub whole : ℕ → Data
-whole n = number (unsigned n)
+pub use Rattle.json_fields.specs.Objects.{Field, HasFields, HasExactly, members_of, object_of, whole}
 
 abbrev pub whole_items : List ℕ → Items
-whole_items [] = no_items
-whole_items (n ∷ ns) = item (whole n) (whole_items ns)
+whole_items ns = items_with whole ns
 
 abbrev pub numbers : List ℕ → Data
-numbers ns = array (whole_items ns)
+numbers ns = array_with whole ns
+
+-- the text of a block
+abbrev pub block_data : RawBlock → Data
+block_data b = string (raw_text b)
 
 abbrev pub block_items : List RawBlock → Items
-block_items [] = no_items
-block_items (b ∷ bs) = item (string (raw_text b)) (block_items bs)
+block_items bs = items_with block_data bs
 
 -- the texts of blocks
 abbrev pub blocks : List RawBlock → Data
-blocks bs = array (block_items bs)
+blocks bs = array_with block_data bs

@@ -5,7 +5,6 @@ mod codes;
 mod exact;
 mod guesses;
 mod input;
-mod json_text;
 mod lists;
 mod members;
 mod message;

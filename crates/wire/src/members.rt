@@ -1,40 +1,18 @@
 //! The members of JSON objects, written one after another.
-ghost use Rattle.std.specs.Prelude.{◌≡◌, ◌++◌, IfOk, OnOk, map};
-ghost use Rattle.serde_json.specs.Data.{boolean, string};
+ghost use Rattle.std.specs.Prelude.{◌≡◌, ◌++◌, IfOk, OnOk};
+ghost use Rattle.serde_json.specs.Data.{string};
 ghost use Rattle.status.specs.Content.{raws};
 ghost use Rattle.status.specs.Id.{id_text};
 ghost use Rattle.units.specs.Code.{code_text, node_text};
-ghost use Rattle.wire.specs.Objects.{blocks, numbers, whole};
-ghost use Rattle.wire.specs.Writing.{after_field, block_token, number_token};
+ghost use Rattle.units.specs.declared.block.Block.{Block as Specified};
+ghost use Rattle.json_fields.specs.Objects.{whole};
+ghost use Rattle.json_fields.specs.Writing.{after_field, each_tokens};
+ghost use Rattle.wire.specs.Objects.{block_data, blocks, numbers};
 
-use crate::json_text::JsonText;
+use json_fields::JsonText;
 use status::TransactionId;
 use std::alloc::Global;
 use units::{Block, Code, NoMemory, Node, RawBlock};
-
-/// A member that is a text.
-pub(crate) fn put_text(out: &mut JsonText, key: &str, text: &str) -> Result<(), NoMemory>
-    ensures { OnOk result (out.new ≡ after_field out.old (key.now, string text.now)) }
-{
-    out.key(key)?;
-    out.string(text)
-}
-
-/// A member that is a whole number.
-pub(crate) fn put_number(out: &mut JsonText, key: &str, number: u64) -> Result<(), NoMemory>
-    ensures { OnOk result (out.new ≡ after_field out.old (key.now, whole number)) }
-{
-    out.key(key)?;
-    out.number(number)
-}
-
-/// A member that is yes or no.
-pub(crate) fn put_boolean(out: &mut JsonText, key: &str, value: bool) -> Result<(), NoMemory>
-    ensures { OnOk result (out.new ≡ after_field out.old (key.now, boolean value)) }
-{
-    out.key(key)?;
-    out.boolean(value)
-}
 
 /// A member that is a registry's code.
 pub(crate) fn put_code(
@@ -46,7 +24,7 @@ pub(crate) fn put_code(
     ensures { OnOk result (out.new ≡ after_field out.old (key.now, string (code_text code))) }
 {
     let text = format!(in alloc; "{code}")?;
-    put_text(out, key, text.as_str())
+    out.put_text(key, text.as_str())
 }
 
 /// A member that is a node.
@@ -59,7 +37,7 @@ pub(crate) fn put_node(
     ensures { OnOk result (out.new ≡ after_field out.old (key.now, string (node_text node))) }
 {
     let text = format!(in alloc; "{node}")?;
-    put_text(out, key, text.as_str())
+    out.put_text(key, text.as_str())
 }
 
 /// A member that is a transaction.
@@ -72,12 +50,12 @@ pub(crate) fn put_id(
     ensures { OnOk result (out.new ≡ after_field out.old (key.now, string (id_text id))) }
 {
     let text = id.write(alloc)?;
-    put_text(out, key, text.as_str())
+    out.put_text(key, text.as_str())
 }
 
 /// The texts of blocks.
 fn write_blocks(alloc: Global, out: &mut JsonText, blocks: &[Block]) -> Result<(), NoMemory>
-    ensures { OnOk result (out.new ≡ out.old ++ map block_token (raws blocks.now)) }
+    ensures { OnOk result (out.new ≡ out.old ++ each_tokens (λ (b : Specified). block_data b.raw) blocks.now) }
 {
     for block in blocks {
         let text = block.write(alloc)?;
@@ -103,7 +81,7 @@ pub(crate) fn put_blocks(
 
 /// The texts of blocks as they were ordered.
 fn write_ordered(alloc: Global, out: &mut JsonText, blocks: &[RawBlock]) -> Result<(), NoMemory>
-    ensures { OnOk result (out.new ≡ out.old ++ map block_token blocks.now) }
+    ensures { OnOk result (out.new ≡ out.old ++ each_tokens block_data blocks.now) }
 {
     for block in blocks {
         let text = format!(in alloc; "{block}")?;
@@ -129,7 +107,7 @@ pub(crate) fn put_ordered(
 
 /// The codes of findings.
 fn write_numbers(out: &mut JsonText, codes: &[u16]) -> Result<(), NoMemory>
-    ensures { OnOk result (out.new ≡ out.old ++ map number_token codes.now) }
+    ensures { OnOk result (out.new ≡ out.old ++ each_tokens whole codes.now) }
 {
     for code in codes {
         out.number(u64::from(*code))?;

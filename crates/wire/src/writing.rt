@@ -3,13 +3,13 @@ ghost use Rattle.std.specs.Prelude.{◌≡◌, ◌++◌, IfOk, OnOk, take, drop}
 ghost use Rattle.status.specs.Content.{IsContent};
 ghost use Rattle.wire.specs.Messages.{fields_with, message_fields, message_data, message_text, IsSound, IsLine};
 ghost use Rattle.wire.specs.NotifiedStatuses.{IsNotified};
-ghost use Rattle.wire.specs.Writing.{after_fields, data_tokens};
+ghost use Rattle.json_fields.specs.Writing.{after_fields, data_tokens};
 ghost use Rattle.wire.specs.declared.message.Body.TheVariants as body;
 
-use crate::json_text::JsonText;
-use crate::members::{put_blocks, put_code, put_id, put_node, put_number, put_numbers, put_text};
+use crate::members::{put_blocks, put_code, put_id, put_node, put_numbers};
 use crate::message::{Body, Message, Proposal};
 use crate::notified::NotifiedStatus;
+use json_fields::JsonText;
 use std::alloc::Global;
 use units::NoMemory;
 
@@ -23,10 +23,10 @@ fn put_first_fields(
     ensures { OnOk result
         (out.new ≡ after_fields out.old (take 5 (fields_with message.now (body.Proposal proposal.now)))) }
 {
-    put_number(out, "account", proposal.content.account())?;
-    put_text(out, "call", "AcceptProposal")?;
+    out.put_number("account", proposal.content.account())?;
+    out.put_text("call", "AcceptProposal")?;
     put_node(alloc, out, "from", message.from)?;
-    put_text(out, "status", proposal.status.status().name())?;
+    out.put_text("status", proposal.status.status().name())?;
     put_node(alloc, out, "to", message.to)
 }
 
@@ -41,7 +41,7 @@ fn put_last_fields(
         (out.new ≡ after_fields out.old (drop 5 (fields_with message.now (body.Proposal proposal.now)))) }
     ensures sound { OnOk result (IsContent proposal.now.content) }
 {
-    put_number(out, "to_account", proposal.content.to_account())?;
+    out.put_number("to_account", proposal.content.to_account())?;
     put_code(alloc, out, "to_registry", proposal.content.acquirer())?;
     put_id(alloc, out, "transaction", message.id)?;
     put_blocks(alloc, out, "units", proposal.content.units())
@@ -73,10 +73,10 @@ fn put_notification(
         (out.new ≡ after_fields out.old (fields_with message.now (body.Notification notified.now))) }
     ensures sound { OnOk result (IsNotified notified.now) }
 {
-    put_text(out, "call", "AcceptNotification")?;
+    out.put_text("call", "AcceptNotification")?;
     put_numbers(out, "codes", notified.codes())?;
     put_node(alloc, out, "from", message.from)?;
-    put_text(out, "status", notified.status().name())?;
+    out.put_text("status", notified.status().name())?;
     put_node(alloc, out, "to", message.to)?;
     put_id(alloc, out, "transaction", message.id)
 }
@@ -85,7 +85,7 @@ fn put_notification(
 fn put_request(alloc: Global, out: &mut JsonText, message: &Message) -> Result<(), NoMemory>
     ensures { OnOk result (out.new ≡ after_fields out.old (fields_with message.now body.Request)) }
 {
-    put_text(out, "call", "RequestCancellation")?;
+    out.put_text("call", "RequestCancellation")?;
     put_node(alloc, out, "from", message.from)?;
     put_node(alloc, out, "to", message.to)?;
     put_id(alloc, out, "transaction", message.id)

@@ -7,15 +7,16 @@ ghost use Rattle.units.specs.Code.{code_text};
 ghost use Rattle.wire.specs.Messages.{message_data, IsSound};
 ghost use Rattle.wire.specs.Objects.{whole};
 ghost use Rattle.wire.specs.Records.{order_fields, input_fields, message_in, record_data, record_text, IsRecordText};
-ghost use Rattle.wire.specs.Writing.{after_fields, data_tokens, IsSoundInput};
+ghost use Rattle.json_fields.specs.Writing.{after_fields, data_tokens};
+ghost use Rattle.wire.specs.Writing.{IsSoundInput};
 ghost use Rattle.wire.specs.declared.record_format.RecordFormat.TheVariants.{Two};
 
 use crate::input::Input;
-use crate::json_text::JsonText;
-use crate::members::{put_boolean, put_code, put_id, put_number, put_ordered, put_text};
+use crate::members::{put_code, put_id, put_ordered};
 use crate::message::Message;
 use crate::record_format::RecordFormat;
 use crate::writing::write_message;
+use json_fields::JsonText;
 use status::{Moment, Order, TransactionId};
 use std::alloc::Global;
 use units::{Code, NoMemory};
@@ -25,9 +26,9 @@ fn put_order(alloc: Global, out: &mut JsonText, order: &Order) -> Result<(), NoM
     ensures fields { OnOk result (out.new ≡ after_fields out.old (order_fields order.now)) }
     ensures sound { OnOk result (IsOrder order.now) }
 {
-    put_number(out, "account", order.account())?;
-    put_text(out, "input", "propose")?;
-    put_number(out, "to_account", order.to_account())?;
+    out.put_number("account", order.account())?;
+    out.put_text("input", "propose")?;
+    out.put_number("to_account", order.to_account())?;
     put_code(alloc, out, "to_registry", order.acquirer())?;
     put_ordered(alloc, out, "units", order.units())
 }
@@ -37,7 +38,7 @@ fn put_request_order(alloc: Global, out: &mut JsonText, id: TransactionId) -> Re
     ensures { OnOk result (out.new ≡ after_fields out.old ((codes "input", string (codes "request")) ∷
         (codes "transaction", string (id_text id)) ∷ [])) }
 {
-    put_text(out, "input", "request")?;
+    out.put_text("input", "request")?;
     put_id(alloc, out, "transaction", id)
 }
 
@@ -46,8 +47,8 @@ fn put_account_order(out: &mut JsonText, number: u64, name: &str) -> Result<(), 
     ensures { OnOk result (out.new ≡ after_fields out.old ((codes "account", whole number) ∷
         (codes "input", string name.now) ∷ [])) }
 {
-    put_number(out, "account", number)?;
-    put_text(out, "input", name)
+    out.put_number("account", number)?;
+    out.put_text("input", name)
 }
 
 /// The fields of an acknowledgement.
@@ -55,8 +56,8 @@ fn put_ack(out: &mut JsonText, key: u64) -> Result<(), NoMemory>
     ensures { OnOk result (out.new ≡ after_fields out.old ((codes "input", string (codes "ack")) ∷
         (codes "key", whole key) ∷ [])) }
 {
-    put_text(out, "input", "ack")?;
-    put_number(out, "key", key)
+    out.put_text("input", "ack")?;
+    out.put_number("key", key)
 }
 
 /// The fields of a clean-up.
@@ -64,8 +65,8 @@ fn put_clean_up(out: &mut JsonText, moment: Moment) -> Result<(), NoMemory>
     ensures { OnOk result (out.new ≡ after_fields out.old ((codes "input", string (codes "clean_up")) ∷
         (codes "moment", whole moment.seconds) ∷ [])) }
 {
-    put_text(out, "input", "clean_up")?;
-    put_number(out, "moment", moment.seconds)
+    out.put_text("input", "clean_up")?;
+    out.put_number("moment", moment.seconds)
 }
 
 /// The fields of an eligibility order.
@@ -78,8 +79,8 @@ fn put_eligible(
     ensures { OnOk result (out.new ≡ after_fields out.old ((codes "input", string (codes "eligible")) ∷
         (codes "may", boolean may) ∷ (codes "registry", string (code_text registry)) ∷ [])) }
 {
-    put_text(out, "input", "eligible")?;
-    put_boolean(out, "may", may)?;
+    out.put_text("input", "eligible")?;
+    out.put_boolean("may", may)?;
     put_code(alloc, out, "registry", registry)
 }
 
@@ -94,10 +95,10 @@ fn put_received(
         (codes "message", message_data message.now) ∷ (codes "moment", whole moment.seconds) ∷ [])) }
     ensures sound { OnOk result (IsSound message.now.body) }
 {
-    put_text(out, "input", "received")?;
+    out.put_text("input", "received")?;
     out.key("message")?;
     write_message(alloc, out, message)?;
-    put_number(out, "moment", moment.seconds)
+    out.put_number("moment", moment.seconds)
 }
 
 /// The fields of an input's record but those of the format.
@@ -125,7 +126,7 @@ fn write_record(alloc: Global, out: &mut JsonText, input: &Input) -> Result<(), 
 {
     out.begin_object()?;
     put_input(alloc, out, input)?;
-    put_number(out, "v", u64::from(RecordFormat::Two.number()))?;
+    out.put_number("v", u64::from(RecordFormat::Two.number()))?;
     out.end_object()
 }
 

@@ -62,6 +62,7 @@ pub sound : AreMembers members
 sound = record {
   free = (few, (lit≤ tt, (((codes_differ, tt), (tt, tt)), (((tt, tt), ((tt, tt), tt)), (((refl, tt), ((refl, tt), tt)), (((apart, tt), (tt, tt)), tt))))));
   numbered = (((lit≤ tt, lit≤ tt), tt), (((lit≤ tt, lit≤ tt), tt), tt));
+  kinds = ((tt, tt), ((tt, tt), tt));
   ordered = ((refl, tt), (tt, tt));
 }
 

@@ -27,8 +27,8 @@ returns-clause-ok g c =
       stores = c.in_ok-stores.stores.items;
       left = c.audit_watched-done.new.stores;
       opened = c.in_ok-stores.ensures.ok;
-      table = h.0;
-      audits = rw (sym value) h.1;
+      text = h.0;
+      is_text = rw (sym value) h.1;
       unwritten = rw (sym value) c.audit_watched-done.ensures.unwritten;
       written = h.2;
     })

@@ -2,7 +2,7 @@ use Rattle.std.proofs.Common.{ℕ, List, subst, sym}
 use Rattle.std.specs.Prelude.{string_bytes}
 use Rattle.command_faults.specs.declared.fault.OpFault.{OpFault}
 use Rattle.audit.proofs.Reporting.{if_err}
-use Rattle.commands.specs.Commands.{FailsToAuditFolder, FailsToRunFolder, FailsToShowNode}
+use Rattle.commands.specs.Commands.{FailsToAuditFolder, FailsToListFolder, FailsToRunFolder, FailsToShowNode}
 use Rattle.commands.proofs.performing.perform.Goals as goal
 
 pub returns-in-Show-clause-err : goal.returns-in-Show-clause-err
@@ -19,6 +19,16 @@ returns-in-Audit-clause-err g c =
     (λ e h. rw c.in-Audit.is
     (subst (λ f. fails (string_bytes c.in-Audit.scheme) f e) folder.ensures.value (subst (λ p. fails p folder.result.now e) path.ensures.value h)))
     c.audit_folder.ensures.err
+
+pub returns-in-Events-clause-err : goal.returns-in-Events-clause-err
+returns-in-Events-clause-err g c =
+    let fails = λ (path : List ℕ) (folder : List ℕ) (e : OpFault). FailsToListFolder g.A.Archive c.args.archive.now g.A.File.Read.remaining g.A.Store.NodeStore path folder e (g.W.Write.contents c.args.writer.now) (g.W.Write.contents c.list_folder.new.writer) in
+    let path = c.as_str-in-Events in
+    let folder = c.as_str-in-Events-2 in
+    if_err {P = fails path.result.now folder.result.now} c.list_folder.result
+    (λ e h. rw c.in-Events.is
+    (subst (λ f. fails (string_bytes c.in-Events.scheme) f e) folder.ensures.value (subst (λ p. fails p folder.result.now e) path.ensures.value h)))
+    c.list_folder.ensures.err
 
 pub returns-in-Run-clause-err : goal.returns-in-Run-clause-err
 returns-in-Run-clause-err g c =

@@ -15,5 +15,10 @@ returns-then-eq-4 c =
 
 pub returns-then-eq-5 : goal.returns-then-eq-5
 returns-then-eq-5 c =
+    let name : subcommand_name_of c.args.matches.now ≡ Some (codes "events") = search rules in
+    names_action c.args.matches.now c.in_ok-name.inner.now c.events_action.result (codes "events") name c.in_ok-name.ensures.rows c.events_action.ensures
+
+pub returns-then-eq-6 : goal.returns-then-eq-6
+returns-then-eq-6 c =
     let name : subcommand_name_of c.args.matches.now ≡ Some (codes "run") = search rules in
     names_action c.args.matches.now c.in_ok-name.inner.now c.run_action.result (codes "run") name c.in_ok-name.ensures.rows c.run_action.ensures

@@ -90,4 +90,4 @@ returns-clause-none c =
     let blocks = c.as_mut_slice.ensures.value ∙ c.in_ok-blocks.ensures in
     let few = so c.are_few.result c.are_few.ensures c.if-not-are_few.false in
     let free = subst AllApart blocks (so c.are_apart.result c.are_apart.ensures c.if-not-are_apart.false) in
-    record { free = (few, (c.if-members-lt-LEAST_REGISTRIES.false, (codes_differ c.args.members.now rise, (apart, (known, (free, tt)))))); numbered = c.requires.numbered; ordered = rise }
+    record { free = (few, (c.if-members-lt-LEAST_REGISTRIES.false, (codes_differ c.args.members.now rise, (apart, (known, (free, tt)))))); numbered = c.requires.numbered; kinds = c.requires.kinds; ordered = rise }

@@ -1,5 +1,5 @@
 use Rattle.serde_json.specs.View.{view}
-use Rattle.scheme.proofs.Numbered.{written_numbered}
+use Rattle.scheme.proofs.Numbered.{written_different, written_numbered}
 use Rattle.scheme.proofs.OneAnswer.{fault_told, fault_of_sorted}
 use Rattle.scheme.proofs.reading.scheme.Goals as goal
 
@@ -17,3 +17,8 @@ pub first_fault-requires-clause-numbered : goal.first_fault-requires-clause-numb
 first_fault-requires-clause-numbered c =
     let p = c.in_ok-records in
     rw c.as_slice.ensures (written_numbered (view c.args.value.now) p.records p.listed c.into_sorted-members.result p.ensures c.into_sorted-members.ensures.moved)
+
+pub first_fault-requires-clause-kinds : goal.first_fault-requires-clause-kinds
+first_fault-requires-clause-kinds c =
+    let p = c.in_ok-records in
+    rw c.as_slice.ensures (written_different (view c.args.value.now) p.records p.listed c.into_sorted-members.result p.ensures c.into_sorted-members.ensures.moved)

@@ -1,12 +1,11 @@
-use Rattle.std.proofs.Common.{[], ◌∷◌, ◌++◌, map, ap, ◌∙◌}
-use Rattle.json.specs.Token.{begin_array, end_array}
+use Rattle.std.proofs.Common.{◌++◌, ap, ◌∙◌}
+use Rattle.json_fields.proofs.Written.{array_put, then_ok}
 use Rattle.status.specs.Content.{raws}
-use Rattle.wire.specs.Writing.{block_token}
-use Rattle.wire.proofs.Written.{blocks_written, then_ok}
+use Rattle.wire.specs.Objects.{block_data}
+use Rattle.wire.proofs.Items.{raws_tokens}
 use Rattle.wire.proofs.members.put_blocks.Goals as goal
 
 pub returns : goal.returns
 returns c =
-    let begun = c.in_ok-begin_array.ensures ∙ ap (λ ts. ts ++ begin_array ∷ []) c.in_ok-key.ensures in
-    let items = c.in_ok-write_blocks.ensures ∙ ap (λ ts. ts ++ map block_token (raws c.args.held.now)) begun in
-    then_ok c.end_array.result (λ ended. ended ∙ ap (λ ts. ts ++ end_array ∷ []) items ∙ blocks_written c.args.out.now c.args.key.now (raws c.args.held.now)) c.end_array.ensures
+    let written = c.in_ok-write_blocks.ensures ∙ ap (λ ts. c.begin_array.new.self ++ ts) (raws_tokens c.args.held.now) in
+    then_ok c.end_array.result (array_put c.args.key.now block_data (raws c.args.held.now) _ _ _ _ _ c.in_ok-key.ensures c.in_ok-begin_array.ensures written) c.end_array.ensures

@@ -1,7 +1,7 @@
 use Rattle.std.proofs.Common.{◌≡◌, sym, subst}
 use Rattle.std.specs.Prelude.{OnOk}
 use Rattle.wire.specs.Messages.{fields_with}
-use Rattle.wire.specs.Writing.{after_fields}
+use Rattle.json_fields.specs.Writing.{after_fields}
 use Rattle.wire.specs.declared.message.Body.{Body}
 use Rattle.wire.proofs.writing.put_message.Goals as goal
 

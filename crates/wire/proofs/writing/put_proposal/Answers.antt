@@ -1,8 +1,8 @@
 use Rattle.std.proofs.Common.{drop, ap, ◌∙◌}
 use Rattle.wire.specs.Messages.{fields_with}
-use Rattle.wire.specs.Writing.{after_fields}
+use Rattle.json_fields.specs.Writing.{after_fields}
 use Rattle.wire.specs.declared.message.Body.TheVariants.{Proposal}
-use Rattle.wire.proofs.Written.{then_ok}
+use Rattle.json_fields.proofs.Written.{then_ok}
 use Rattle.wire.proofs.writing.put_proposal.Goals as goal
 
 pub returns-clause-fields : goal.returns-clause-fields

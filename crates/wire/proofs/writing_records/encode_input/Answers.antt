@@ -1,8 +1,8 @@
 use Rattle.std.proofs.Common.{◌++◌, ap, ◌∙◌}
 use Rattle.wire.specs.Records.{record_data}
-use Rattle.wire.specs.Writing.{data_tokens}
+use Rattle.json_fields.specs.Writing.{data_tokens}
 use Rattle.wire.proofs.PrintedRecords.{record_of}
-use Rattle.wire.proofs.Written.{printed}
+use Rattle.json_fields.proofs.Written.{printed}
 use Rattle.wire.proofs.writing_records.encode_input.Goals as goal
 
 pub returns-clause-text : goal.returns-clause-text

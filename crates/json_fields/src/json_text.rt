@@ -1,9 +1,12 @@
-//! Compact JSON that is written a token at a time.
+//! Compact JSON that is written a token at a time, or a member of an object.
 ghost use Rattle.std.specs.Prelude.{◌≡◌, ◌++◌, ◌∷◌, [], decimal, IfOk, OnOk};
 ghost use Rattle.std.specs.Str.{IsUtf8};
 ghost use Rattle.json.specs.Lex.{tokens};
 ghost use Rattle.json.specs.Print.{print};
 ghost use Rattle.json.specs.Token.{begin_object, end_object, begin_array, end_array, key, string, number, boolean};
+ghost use Rattle.json_fields.specs.Objects.{whole};
+ghost use Rattle.json_fields.specs.Writing.{after_field};
+ghost use Rattle.serde_json.specs.Data as values;
 
 use json::Writer;
 use std::alloc::Global;
@@ -16,7 +19,7 @@ const ROOM: usize = 256;
 /// A text of JSON that is being written, without blanks, seen in contracts as its tokens. Whoever writes sees to it that
 /// they nest.
 #[derive(Drop)]
-pub(crate) struct JsonText {
+pub struct JsonText {
     writer: Writer,
 }
 
@@ -35,7 +38,7 @@ impl Model for JsonText {
 
 impl JsonText {
     /// A text without a token; or `NoMemory`.
-    pub(crate) fn new(alloc: Global) -> Result<JsonText, NoMemory>
+    pub fn new(alloc: Global) -> Result<JsonText, NoMemory>
         ensures { IfOk result (λ t. t ≡ []) }
     {
         let bytes = Vec::with_capacity(alloc, ROOM)?;
@@ -45,7 +48,7 @@ impl JsonText {
     }
 
     /// The text.
-    pub(crate) fn into_bytes(self) -> Vec<u8>
+    pub fn into_bytes(self) -> Vec<u8>
         ensures text { result.items ≡ print self }
         ensures reads_back { tokens (print self) ≡ self }
         ensures utf8 { IsUtf8 (print self) }
@@ -54,58 +57,82 @@ impl JsonText {
     }
 
     /// The beginning of an object.
-    pub(crate) fn begin_object(&mut self) -> Result<(), NoMemory>
+    pub fn begin_object(&mut self) -> Result<(), NoMemory>
         ensures { OnOk result (self.new ≡ self.old ++ begin_object ∷ []) }
     {
         Ok(self.writer.begin_object()?)
     }
 
     /// The end of an object.
-    pub(crate) fn end_object(&mut self) -> Result<(), NoMemory>
+    pub fn end_object(&mut self) -> Result<(), NoMemory>
         ensures { OnOk result (self.new ≡ self.old ++ end_object ∷ []) }
     {
         Ok(self.writer.end_object()?)
     }
 
     /// The beginning of an array.
-    pub(crate) fn begin_array(&mut self) -> Result<(), NoMemory>
+    pub fn begin_array(&mut self) -> Result<(), NoMemory>
         ensures { OnOk result (self.new ≡ self.old ++ begin_array ∷ []) }
     {
         Ok(self.writer.begin_array()?)
     }
 
     /// The end of an array.
-    pub(crate) fn end_array(&mut self) -> Result<(), NoMemory>
+    pub fn end_array(&mut self) -> Result<(), NoMemory>
         ensures { OnOk result (self.new ≡ self.old ++ end_array ∷ []) }
     {
         Ok(self.writer.end_array()?)
     }
 
     /// A key.
-    pub(crate) fn key(&mut self, name: &str) -> Result<(), NoMemory>
+    pub fn key(&mut self, name: &str) -> Result<(), NoMemory>
         ensures { OnOk result (self.new ≡ self.old ++ key name.now ∷ []) }
     {
         Ok(self.writer.key(name)?)
     }
 
     /// A text.
-    pub(crate) fn string(&mut self, text: &str) -> Result<(), NoMemory>
+    pub fn string(&mut self, text: &str) -> Result<(), NoMemory>
         ensures { OnOk result (self.new ≡ self.old ++ string text.now ∷ []) }
     {
         Ok(self.writer.string(text)?)
     }
 
     /// A whole number.
-    pub(crate) fn number(&mut self, value: u64) -> Result<(), NoMemory>
+    pub fn number(&mut self, value: u64) -> Result<(), NoMemory>
         ensures { OnOk result (self.new ≡ self.old ++ number (decimal value) ∷ []) }
     {
         Ok(self.writer.u64(value)?)
     }
 
     /// Yes or no.
-    pub(crate) fn boolean(&mut self, value: bool) -> Result<(), NoMemory>
+    pub fn boolean(&mut self, value: bool) -> Result<(), NoMemory>
         ensures { OnOk result (self.new ≡ self.old ++ boolean value ∷ []) }
     {
         Ok(self.writer.boolean(value)?)
+    }
+
+    /// A member that is a text.
+    pub fn put_text(&mut self, key: &str, text: &str) -> Result<(), NoMemory>
+        ensures { OnOk result (self.new ≡ after_field self.old (key.now, values.string text.now)) }
+    {
+        self.key(key)?;
+        self.string(text)
+    }
+
+    /// A member that is a whole number.
+    pub fn put_number(&mut self, key: &str, number: u64) -> Result<(), NoMemory>
+        ensures { OnOk result (self.new ≡ after_field self.old (key.now, whole number)) }
+    {
+        self.key(key)?;
+        self.number(number)
+    }
+
+    /// A member that is yes or no.
+    pub fn put_boolean(&mut self, key: &str, value: bool) -> Result<(), NoMemory>
+        ensures { OnOk result (self.new ≡ after_field self.old (key.now, values.boolean value)) }
+    {
+        self.key(key)?;
+        self.boolean(value)
     }
 }

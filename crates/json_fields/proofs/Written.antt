@@ -12,13 +12,10 @@ use Rattle.serde_json.specs.Data.{Data}
 use Rattle.serde_json.specs.Read.{of_json, read}
 use Rattle.serde_json.specs.Written.{outline, items_outline, members_outline, compact_text}
 use Rattle.serde_json.proofs.Texts.{print-outline}
-use Rattle.units.specs.declared.block.Block.{Block}
-use Rattle.units.specs.declared.block.RawBlock.{RawBlock}
-use Rattle.status.specs.Content.{raws}
-use Rattle.wire.specs.Objects.{Field, blocks, block_items, members_of, numbers, object_of, whole_items}
-use Rattle.wire.specs.Writing.{after_field, after_fields, block_token, data_tokens, number_token}
+use Rattle.json_fields.specs.Objects.{Field, array_with, items_with, members_of, object_of}
+use Rattle.json_fields.specs.Writing.{after_field, after_fields, data_tokens, each_tokens}
 
--- what holds once a call has returned, by what its clause says then
+-- what holds after a call has returned, by what its clause says then
 pub then_ok : {E : Type 0} (r : Result (Unit {0}) E) {P Q : Type 0} → (P → Q) → OnOk r P → OnOk r Q
 then_ok (Ok x) f p = f p
 then_ok (Err e) f p = p
@@ -36,38 +33,32 @@ pub fields_more : (ts : List Token) (fs gs : List Field) → after_fields (after
 fields_more ts [] gs = refl
 fields_more ts (f ∷ fs) gs = fields_more (after_field ts f) fs gs
 
-pub object_written : (ts : List Token) (fs : List Field) → after_fields (ts ++ begin_object ∷ []) fs ++ end_object ∷ [] ≡ ts ++ data_tokens (object_of fs)
+object_written : (ts : List Token) (fs : List Field) → after_fields (ts ++ begin_object ∷ []) fs ++ end_object ∷ [] ≡ ts ++ data_tokens (object_of fs)
 object_written ts fs = fields_written (ts ++ begin_object ∷ []) fs ∙ append_assoc ts (begin_object ∷ []) (members_tokens (members_outline (members_of fs)))
 
--- ---- lists
+-- as calls write them one after another
+pub object_put : (fs : List Field) (ts begun filled ended : List Token) → begun ≡ ts ++ begin_object ∷ [] → filled ≡ after_fields begun fs → ended ≡ filled ++ end_object ∷ []
+    → ended ≡ ts ++ data_tokens (object_of fs)
+object_put fs ts begun filled ended begins fills ends = ends ∙ ap (λ us. us ++ end_object ∷ []) (fills ∙ ap (λ us. after_fields us fs) begins) ∙ object_written ts fs
 
-blocks_tokens : (bs : List RawBlock) → map block_token bs ++ end_array ∷ [] ≡ items_tokens (items_outline (block_items bs))
-blocks_tokens [] = refl
-blocks_tokens (b ∷ bs) = ap (λ ts. block_token b ∷ ts) (blocks_tokens bs)
+-- ---- arrays
 
-numbers_tokens : (ns : List ℕ) → map number_token ns ++ end_array ∷ [] ≡ items_tokens (items_outline (whole_items ns))
-numbers_tokens [] = refl
-numbers_tokens (n ∷ ns) = ap (λ ts. number_token n ∷ ts) (numbers_tokens ns)
+items_written : {X : Type 0} (f : X → Data) (xs : List X) → each_tokens f xs ++ end_array ∷ [] ≡ items_tokens (items_outline (items_with f xs))
+items_written f [] = refl
+items_written f (x ∷ xs) = append_assoc (data_tokens (f x)) (each_tokens f xs) (end_array ∷ []) ∙ ap (λ ts. data_tokens (f x) ++ ts) (items_written f xs)
 
-list_written : (ts : List Token) (k : List ℕ) (is us : List Token) → is ++ end_array ∷ [] ≡ us
-    → (((ts ++ key k ∷ []) ++ begin_array ∷ []) ++ is) ++ end_array ∷ [] ≡ (ts ++ key k ∷ []) ++ begin_array ∷ us
-list_written ts k is us same =
-    append_assoc ((ts ++ key k ∷ []) ++ begin_array ∷ []) is (end_array ∷ []) ∙ append_assoc (ts ++ key k ∷ []) (begin_array ∷ []) (is ++ end_array ∷ [])
-    ∙ ap (λ vs. (ts ++ key k ∷ []) ++ begin_array ∷ vs) same
+-- a field that is an array with a value for each element
+array_written : {X : Type 0} (ts : List Token) (k : List ℕ) (f : X → Data) (xs : List X)
+    → (((ts ++ key k ∷ []) ++ begin_array ∷ []) ++ each_tokens f xs) ++ end_array ∷ [] ≡ after_field ts (k, array_with f xs)
+array_written ts k f xs =
+    append_assoc ((ts ++ key k ∷ []) ++ begin_array ∷ []) (each_tokens f xs) (end_array ∷ []) ∙ append_assoc (ts ++ key k ∷ []) (begin_array ∷ []) (each_tokens f xs ++ end_array ∷ [])
+    ∙ ap (λ vs. (ts ++ key k ∷ []) ++ begin_array ∷ vs) (items_written f xs)
 
-pub blocks_written : (ts : List Token) (k : List ℕ) (bs : List RawBlock) → (((ts ++ key k ∷ []) ++ begin_array ∷ []) ++ map block_token bs) ++ end_array ∷ [] ≡ after_field ts (k, blocks bs)
-blocks_written ts k bs = list_written ts k (map block_token bs) (items_tokens (items_outline (block_items bs))) (blocks_tokens bs)
-
-pub numbers_written : (ts : List Token) (k : List ℕ) (ns : List ℕ) → (((ts ++ key k ∷ []) ++ begin_array ∷ []) ++ map number_token ns) ++ end_array ∷ [] ≡ after_field ts (k, numbers ns)
-numbers_written ts k ns = list_written ts k (map number_token ns) (items_tokens (items_outline (whole_items ns))) (numbers_tokens ns)
-
-pub raw_tokens : (bs : List Block) → map (λ (b : Block). block_token b.raw) bs ≡ map block_token (raws bs)
-raw_tokens [] = refl
-raw_tokens (b ∷ bs) = ap (λ ts. block_token b.raw ∷ ts) (raw_tokens bs)
-
-module _ {X : Type 0} (f : X → Token) where
-  pub written_all : (ts now : List Token) (xs : List X) (i : ℕ) → length xs ≤ i → now ≡ ts ++ map f (take i xs) → now ≡ ts ++ map f xs
-  written_all ts now xs i le so_far = so_far ∙ ap (λ ys. ts ++ map f ys) (take_all i xs le)
+-- as calls write it one after another
+pub array_put : {X : Type 0} (k : List ℕ) (f : X → Data) (xs : List X) (ts named begun filled ended : List Token)
+    → named ≡ ts ++ key k ∷ [] → begun ≡ named ++ begin_array ∷ [] → filled ≡ begun ++ each_tokens f xs → ended ≡ filled ++ end_array ∷ [] → ended ≡ after_field ts (k, array_with f xs)
+array_put k f xs ts named begun filled ended names begins fills ends =
+    ends ∙ ap (λ us. us ++ end_array ∷ []) (fills ∙ ap (λ us. us ++ each_tokens f xs) (begins ∙ ap (λ us. us ++ begin_array ∷ []) names)) ∙ array_written ts k f xs
 
 -- ---- texts
 

@@ -1,0 +1,21 @@
+-- The table of a run that was listed is one of an audit.
+use Rattle.std.proofs.Common.{◌≡◌, ◌++◌, ℕ, List, sym, subst}
+use Rattle.protocol.specs.Input.{Input}
+use Rattle.protocol.specs.Scheme.{Scheme}
+use Rattle.protocol.specs.World.{opening, outcomes}
+use Rattle.protocol.specs.declared.event.WorldEvent.{WorldEvent}
+use Rattle.report.specs.Table.{IsSafeTable}
+use Rattle.rehearse.specs.Rehearsal.{IsRehearsal}
+use Rattle.rehearse.specs.Report.{IsReport, outcome_lines}
+use Rattle.rehearse.proofs.OneRehearsal.{one_rehearsal}
+use Rattle.audit.specs.Audits.{IsAuditTable}
+use Rattle.events.specs.Listing.{ListsRun}
+use Rattle.events.specs.Runs.{IsWithinLimits}
+use Rattle.events.proofs.Lines.{rehearsal_of}
+
+pub table_of_audit : (scheme : Scheme) (journals : List (List Input)) (text : List ℕ) → ListsRun scheme journals text → IsWithinLimits text → (s : Scheme) (events : List WorldEvent) (report : List ℕ)
+    → IsRehearsal text s events → IsReport s events report → (outcomes : List ℕ) × (table : List ℕ) × (report ≡ outcomes ++ table) × IsAuditTable scheme journals table
+table_of_audit scheme journals text lists limits s events report is reports =
+    let same = one_rehearsal text s scheme events lists.events is (rehearsal_of text scheme lists.events lists.is_run limits) in
+    let safe : IsSafeTable scheme lists.events reports.table = subst (λ xs. IsSafeTable scheme xs reports.table) same.1 (subst (λ t. IsSafeTable t events reports.table) same.0 reports.is_table) in
+    (outcome_lines 1 (outcomes (opening s) events), reports.table, reports.spelled, record { events = lists.events; projects = lists.projects; is_table = safe })

@@ -81,3 +81,19 @@ IsStuck w journals =
 abbrev pub StuckIsFinal : World → (Node → List Input) → Type 0
 StuckIsFinal w journals = IsQuiet w → ArePrefixes (λ n. committed_part (station w n)) journals → IsStuck w journals
     → (others : List WorldEvent) → Projects w.scheme others journals → (n : Node) → committed_part (station w n) ≡ journals n
+
+-- ---- how far journals are explained
+
+-- the journals that the events commit
+abbrev pub committed_by : Scheme → List WorldEvent → Node → List Input
+committed_by scheme events n = committed_part (station (run (opening scheme) events) n)
+
+-- the events commit first records of these journals, and of all events that do, they commit the most at every node
+pub record IsFurthestCut (scheme : Scheme) (journals : Node → List Input) (events : List WorldEvent) : Type 0 where
+  pub within : ArePrefixes (committed_by scheme events) journals
+  pub furthest : (others : List WorldEvent) → ArePrefixes (committed_by scheme others) journals → ArePrefixes (committed_by scheme others) (committed_by scheme events)
+
+-- where a quiet world is stuck, no events whose journals are first records of these commit more at any node
+abbrev pub StuckIsFurthest : World → (Node → List Input) → Type 0
+StuckIsFurthest w journals = IsQuiet w → ArePrefixes (λ n. committed_part (station w n)) journals → IsStuck w journals
+    → (others : List WorldEvent) → ArePrefixes (committed_by w.scheme others) journals → ArePrefixes (committed_by w.scheme others) (λ n. committed_part (station w n))

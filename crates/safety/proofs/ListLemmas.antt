@@ -1,5 +1,6 @@
--- What tests of sameness say of codes and statuses, a label for all units of blocks, and what is found first in a list.
+-- What tests of sameness say of codes, statuses and messages, a label for all units of blocks, and what is found first in a list.
 -- Counts in lists and the units of blocks are in the crate `protocol`, what is general in `units`, in `Lists`.
 pub mod TestsOfSameness
+pub mod SameMessages
 pub mod LabelledBlocks
 pub mod FirstFound

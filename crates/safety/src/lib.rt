@@ -24,4 +24,4 @@ pub use log::log_alone;
 pub use one_place::units_stand_in_one_place;
 pub use owning::{holders_own, owners_move_by_completions, units_have_one_owner};
 pub use resolution::there_is_a_way_out;
-pub use weaving::{journals_weave, plausible_is_not_enough};
+pub use weaving::{journals_weave, plausible_is_not_enough, there_is_a_furthest_cut};

@@ -4,7 +4,7 @@ ghost use Rattle.units.specs.declared.code.Node.{Node};
 ghost use Rattle.wire.specs.declared.input.Input.{Input};
 ghost use Rattle.scheme.specs.declared.registries.Scheme.{Scheme};
 ghost use Rattle.protocol.specs.Plausible.{IsPlausible};
-ghost use Rattle.protocol.specs.Weave.{ArePrefixes, HasNext, InTurn, Placed, Projects, StuckIsFinal, journals_of};
+ghost use Rattle.protocol.specs.Weave.{ArePrefixes, HasNext, InTurn, IsFurthestCut, Placed, Projects, StuckIsFinal, StuckIsFurthest, committed_by, journals_of};
 ghost use Rattle.protocol.specs.World.{opening, run};
 ghost use Rattle.protocol.specs.declared.event.WorldEvent.{WorldEvent};
 
@@ -22,6 +22,18 @@ pub fn journals_weave()
         ⊎ HasNext scheme past journals }
     ensures stuck { (scheme : Scheme) (events : List WorldEvent) (journals : Node → List Input)
         → StuckIsFinal (run (opening scheme) events) journals }
+{}
+
+/// Of all lists of events that commit first records of given journals, one commits the most at every node at once, and
+/// all that do so commit the same. Where following them is stuck, no events commit more at any node.
+pub fn there_is_a_furthest_cut()
+    ensures exists { (scheme : Scheme) (journals : Node → List Input) → (events : List WorldEvent)
+        × IsFurthestCut scheme journals events }
+    ensures one { (scheme : Scheme) (journals : Node → List Input) (one other : List WorldEvent)
+        → IsFurthestCut scheme journals one → IsFurthestCut scheme journals other
+        → (n : Node) → committed_by scheme one n ≡ committed_by scheme other n }
+    ensures stuck { (scheme : Scheme) (events : List WorldEvent) (journals : Node → List Input)
+        → StuckIsFurthest (run (opening scheme) events) journals }
 {}
 
 /// That each record is recorded on its journal, and each received message is among all that its sender

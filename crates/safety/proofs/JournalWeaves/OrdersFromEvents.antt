@@ -20,7 +20,7 @@ use Rattle.protocol.specs.Deciding.{Verdict, IsRecorded, IsRepeat, IsLate, IsRef
 use Rattle.protocol.specs.History.{Transition, sends}
 use Rattle.protocol.specs.Registries.{is_node}
 use Rattle.protocol.specs.Verdict.{verdict, history}
-use Rattle.protocol.specs.Weave.{Projects, Placed, journals_of, WasSent, IsNext, InTurn, ArePrefixes, HasNext}
+use Rattle.protocol.specs.Weave.{Projects, Placed, journals_of, WasSent, IsNext, InTurn, ArePrefixes, HasNext, committed_by}
 use Rattle.protocol.specs.World.{World, Station, Turn, station, journal, put, stays, opening, rests, answered, take_input, commit, crash, restart, sent, at_node, is_order, posted, deliver, step, run}
 use Rattle.protocol.specs.declared.event.Outcome.TheVariants.{Done, NotPossible}
 use Rattle.protocol.specs.declared.event.Posted.{Posted}
@@ -274,11 +274,14 @@ opening_ordered scheme = record {
       subst (λ zs. Waiting scheme n s.committed zs) (sym (right_empty s.committed s.tail e)) tt;
 }
 
+pub ordered_run : (scheme : Scheme) (events : List WorldEvent) → (order : List Placed) × InTurn scheme order × ((n : Node) → journals_of order n ≡ committed_by scheme events n)
+ordered_run scheme events =
+    let o = run_ordered (opening scheme) events (opening_sound scheme) (opening_placed scheme) (opening_ordered scheme) in
+    (o.order, subst (λ (z : Scheme). InTurn z o.order) (reached_scheme scheme events) o.turn, o.same)
+
 pub ordered : (scheme : Scheme) (events : List WorldEvent) (journals : Node → List Input) → Projects scheme events journals
     → (order : List Placed) × InTurn scheme order × ((n : Node) → journals_of order n ≡ journals n)
-ordered scheme events journals h =
-    let o = run_ordered (opening scheme) events (opening_sound scheme) (opening_placed scheme) (opening_ordered scheme) in
-    (o.order, subst (λ (z : Scheme). InTurn z o.order) (reached_scheme scheme events) o.turn, λ n. o.same n ∙ (h n).0)
+ordered scheme events journals h = let o = ordered_run scheme events in (o.0, o.1, λ n. o.2 n ∙ (h n).0)
 
 pub always_next : (scheme : Scheme) (events : List WorldEvent) (journals past : Node → List Input) → Projects scheme events journals → ArePrefixes past journals → ((n : Node) → past n ≡ journals n) ⊎ HasNext scheme past journals
 always_next scheme events journals past h on = let o = ordered scheme events journals h in never_stuck scheme o.0 past journals o.1 o.2 on

@@ -43,9 +43,13 @@ sent_later scheme a b on n (Ack key) h = tt
 sent_later scheme a b on n (CleanUp moment) h = tt
 sent_later scheme a b on n (Eligible c may) h = tt
 
+-- first records of the same journals
+pub prefixes_alike : (a b whole : Node → List Input) → ((n : Node) → a n ≡ b n) → ArePrefixes b whole → ArePrefixes a whole
+prefixes_alike a b whole same on n = ((on n).0, subst (λ xs. whole n ≡ xs ++ (on n).0) (sym (same n)) (on n).1)
+
 module _ (scheme : Scheme) (past whole : Node → List Input) (on : ArePrefixes past whole) where
   -- either the journals so far have all records of the order, or one of them is next
-  greedy_to : (order : List Placed) → InTurn scheme order → ArePrefixes (journals_of order) whole → ArePrefixes (journals_of order) past ⊎ HasNext scheme past whole
+  pub greedy_to : (order : List Placed) → InTurn scheme order → ArePrefixes (journals_of order) whole → ArePrefixes (journals_of order) past ⊎ HasNext scheme past whole
   greedy_to [] turn inside = inl (λ n. (past n, refl))
   greedy_to (r ∷ rs) turn inside =
       elim (greedy_to rs turn.1 older) [

@@ -1,7 +1,7 @@
--- A world that is stuck short of some journals shows that no events lead to them. If some events led to the
--- journals, then one record would be next after what the world has committed (`always_next`). The world is quiet,
--- and all that was sent is in its bag, so one event makes the node record it. A stuck world has no such event.
-use Rattle.std.proofs.Common.{◌≡◌, ℕ, ◌<◌, List, true, inl, inr, refl, ap, subst, ◌∙◌, length}
+-- A world that is stuck short of some journals shows that no events lead to them, and that none lead further. If some
+-- events did, then one record would be next after what the world has committed (`always_next`, `greedy_to`). The world
+-- is quiet, and all that was sent is in its bag, so one event makes the node record it. A stuck world has no such event.
+use Rattle.std.proofs.Common.{◌≡◌, ℕ, ◌<◌, List, true, inl, inr, refl, sym, ap, subst, ◌∙◌, length}
 use Rattle.std.specs.Prelude.{◌&&◌, ◌==◌}
 use Rattle.std.proofs.lemmas.Bool.{cond-true, and_from, eq-eqb}
 use Rattle.units.proofs.Same.{same_node-refl}
@@ -15,7 +15,7 @@ use Rattle.protocol.specs.Deciding.{IsRecorded}
 use Rattle.protocol.specs.History.{Transition, sends}
 use Rattle.protocol.specs.Registries.{is_node}
 use Rattle.protocol.specs.Verdict.{verdict, history}
-use Rattle.protocol.specs.Weave.{WasSent, IsQuiet, Gives, StuckIsFinal}
+use Rattle.protocol.specs.Weave.{WasSent, IsQuiet, IsStuck, Gives, HasNext, StuckIsFinal, StuckIsFurthest, committed_by, journals_of}
 use Rattle.protocol.specs.World.{World, Turn, Stepped, station, stays, take_input, at_node, is_order, was_posted, deliver, step}
 use Rattle.protocol.specs.declared.event.Outcome.TheVariants.{Recorded, NotPossible}
 use Rattle.protocol.specs.declared.event.Posted.{Posted}
@@ -23,7 +23,8 @@ use Rattle.protocol.specs.declared.event.WorldEvent.{WorldEvent}
 use Rattle.protocol.specs.declared.event.WorldEvent.TheVariants.{Take, Deliver}
 use Rattle.units.proofs.Lists.SomePass.{list_any_in}
 use Rattle.safety.proofs.JournalWeaves.EventsFromOrders.{ack_below}
-use Rattle.safety.proofs.JournalWeaves.OrdersFromEvents.{always_next}
+use Rattle.safety.proofs.JournalWeaves.OrdersFromEvents.{always_next, ordered_run}
+use Rattle.safety.proofs.JournalWeaves.RecordOrders.{greedy_to, prefixes_alike}
 use Rattle.units.proofs.Lists.Positions.{In_contains, index_of, some_at}
 use Rattle.safety.proofs.WorldLemmas.QuietWorlds.{takes}
 use Rattle.safety.proofs.WorldLemmas.StationsAfterPut.{found_at_node}
@@ -91,13 +92,24 @@ module _ (w : World) (all : IsQuiet w) where
   next_recorded Itl (OpenAccount account) xs node says sent = absurd (cc (says))
   next_recorded Itl (CloseAccount account) xs node says sent = absurd (cc (says))
 
+-- a stuck world has no record that is next
+none_next : (w : World) (journals : Node → List Input) → IsQuiet w → IsStuck w journals → HasNext w.scheme (λ n. committed_part (station w n)) journals → ⊥
+none_next w journals all stuck next =
+    let r = next.0 in
+    let g = next_recorded w all r.node r.input next.1.1.0 next.1.0 next.1.1.1 next.1.2 in
+    stuck r.node r.input next.2.0 g.0 g.2.0 next.2.1 g.1 g.2.1
+
 pub stuck_is_final : (w : World) (journals : Node → List Input) → StuckIsFinal w journals
 stuck_is_final w journals all on stuck others h =
     elim (always_next w.scheme others journals (λ n. committed_part (station w n)) h on) [
       | inl same ↦ same
-      | inr next ↦
-          absurd
-          (let r = next.0 in
-          let g = next_recorded w all r.node r.input next.1.1.0 next.1.0 next.1.1.1 next.1.2 in
-          stuck r.node r.input next.2.0 g.0 g.2.0 next.2.1 g.1 g.2.1)
+      | inr next ↦ absurd (none_next w journals all stuck next)
+    ]
+
+pub stuck_is_furthest : (w : World) (journals : Node → List Input) → StuckIsFurthest w journals
+stuck_is_furthest w journals all on stuck others inside =
+    let o = ordered_run w.scheme others in
+    elim (greedy_to w.scheme (λ n. committed_part (station w n)) journals on o.0 o.1 (prefixes_alike (journals_of o.0) (committed_by w.scheme others) journals o.2 inside)) [
+      | inl covers ↦ prefixes_alike (committed_by w.scheme others) (journals_of o.0) (λ n. committed_part (station w n)) (λ n. sym (o.2 n)) covers
+      | inr next ↦ absurd (none_next w journals all stuck next)
     ]

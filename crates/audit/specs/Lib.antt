@@ -1,5 +1,6 @@
 pub mod Stores
 pub mod Audits
+pub mod Cuts
 pub mod Opened
 pub mod Ended
 pub mod Settled

@@ -1,11 +1,13 @@
-//! The command `audit`: one run that leads to the records of all nodes' stores, and the table of its world; and the same
-//! of nodes that ran in threads, which are settled first.
+//! The command `audit`: one run that leads to the records of all nodes' stores, and the table of its world; or the
+//! furthest that one leads; and the same of nodes that ran in threads, which are settled first.
 #![tactic(auto)]
 
 mod auditing;
+mod cutting;
 mod ended;
 mod loading;
 
 pub use auditing::{audit, audit_watched, fault_of, load_run, read_first};
+pub use cutting::audit_cut;
 pub use ended::{EndedNode, report_run, table_of_ended};
 pub use loading::load_cores;

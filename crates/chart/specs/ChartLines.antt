@@ -40,15 +40,6 @@ order_text (CleanUp m) = codes "clean-up " ++ decimal m.seconds
 order_text (Eligible c may) = codes "eligible " ++ code_text c ++ codes " " ++ yes_or_no may
 order_text (Received m moment) = codes "message"
 
-abbrev pub word_of : Body → List ℕ
-word_of (body.Proposal p) = codes "proposal"
-word_of (body.Notification n) = status_text (notified_status n)
-word_of body.Request = codes "request"
-
--- a message's kind and transaction
-abbrev pub message_text : Message → List ℕ
-message_text m = word_of m.body ++ codes " " ++ id_text m.id
-
 -- ---- lines
 
 -- what a node did, and what that came to

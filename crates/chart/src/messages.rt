@@ -1,32 +1,13 @@
 //! The lines of messages.
 ghost use Rattle.std.specs.Prelude.{◌≡◌, ◌++◌, OnOk, codes, string_bytes};
-ghost use Rattle.chart.specs.ChartLines.{arrow, delivered_line, lost_line, message_text, shape_of, word_of};
+ghost use Rattle.chart.specs.ChartLines.{arrow, delivered_line, lost_line, shape_of};
 ghost use Rattle.report.specs.ReportLines.{outcome_text};
 
 use protocol::Outcome;
-use report::push_outcome_text;
+use report::{push_message, push_outcome_text};
 use std::fmt::Write;
 use units::NoMemory;
-use wire::{Body, Message};
-
-/// The kind of a message with that body.
-fn word_of(body: &Body) -> &'static str
-    ensures { result.now ≡ word_of body.now }
-{
-    match body {
-        Body::Proposal(_) => "proposal",
-        Body::Notification(notified) => notified.status().name(),
-        Body::Request => "request",
-    }
-}
-
-fn push_message(text: &mut String, message: &Message) -> Result<(), NoMemory>
-    ensures { OnOk result (string_bytes text.new ≡ string_bytes text.old ++ message_text message.now) }
-{
-    let word = word_of(&message.body);
-    write!(text, "{word} {}", message.id)?;
-    Ok(())
-}
+use wire::Message;
 
 fn push_arrow(text: &mut String, shape: &str, message: &Message) -> Result<(), NoMemory>
     ensures { OnOk result (string_bytes text.new ≡ string_bytes text.old ++ arrow shape.now message.now) }

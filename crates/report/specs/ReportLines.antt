@@ -9,6 +9,10 @@ use Rattle.status.specs.Id.{id_text}
 use Rattle.status.specs.Status.{status_text}
 use Rattle.status.specs.declared.id.TransactionId.{TransactionId}
 use Rattle.status.specs.declared.status.Status.{Status}
+use Rattle.wire.specs.NotifiedStatuses.{notified_status}
+use Rattle.wire.specs.declared.message.Body.{Body}
+use Rattle.wire.specs.declared.message.Body.TheVariants as body
+use Rattle.wire.specs.declared.message.Message.{Message}
 use Rattle.registry_core.specs.HeldBlock.{HeldBlock}
 use Rattle.protocol.specs.Table.{ProposedTransfer}
 use Rattle.protocol.specs.declared.event.Outcome.{Outcome}
@@ -29,6 +33,17 @@ outcome_text NotPossible = codes "not possible"
 -- the line of the event with that number
 abbrev pub outcome_line : ℕ → Outcome → List ℕ
 outcome_line event outcome = decimal event ++ codes " " ++ outcome_text outcome ++ codes "\n"
+
+-- ---- messages
+
+abbrev pub message_word : Body → List ℕ
+message_word (body.Proposal p) = codes "proposal"
+message_word (body.Notification n) = status_text (notified_status n)
+message_word body.Request = codes "request"
+
+-- a message's kind and transaction
+abbrev pub message_text : Message → List ℕ
+message_text m = message_word m.body ++ codes " " ++ id_text m.id
 
 -- ---- transactions
 

@@ -50,7 +50,7 @@ no_more (x ∷ xs) e = absurd (omega arith)
 -- ---- no node is pending
 
 module _ (scheme : Scheme) (journals : Node → List Input) (w : World) (events : List WorldEvent) (numbers : TransactionId → List ℕ) (posted : List ℕ) (f : Follows scheme journals w events numbers posted []) (quiet : IsQuiet w) where
-  stuck : IsStuck w journals
+  pub stuck : IsStuck w journals
   stuck n input rest e place left gives recorded =
       elim (f.waits n) [
         | inl h ↦ absurd (In_contains [] n h)
@@ -189,16 +189,16 @@ shorter scheme js ks n (inr a) = omega (arith, ap length a.1.is, length-append (
 
 module _ (scheme : Scheme) (js ks : List (List Input)) (f : Following) (i : IsFollowing scheme f) (none_pending : f.pending.items ≡ []) (whole_is : (n : Node) → whole_at f.world n ≡ journal_of scheme ks n) (ahead : AreAhead scheme js ks)
     (counts : List ℕ) (counts_are : counts ≡ map (λ j. length j) js) (ns : List Node) (are : ns ≡ nodes scheme) where
-  scheme_kept : f.world.scheme ≡ scheme
+  pub scheme_kept : f.world.scheme ≡ scheme
   scheme_kept = ap (λ (z : World). z.scheme) i.follows.follows.led ∙ run_scheme (opening scheme) f.events.items
 
-  over : Follows scheme (journal_of scheme js) (without_tails f.world) f.events.items (numbers_of f) f.posted.items []
+  pub over : Follows scheme (journal_of scheme js) (without_tails f.world) f.events.items (numbers_of f) f.posted.items []
   over =
       follows_beyond scheme (journal_of scheme js) (journal_of scheme ks) (without_tails f.world) f.events.items (numbers_of f) f.posted.items [] i.quiet scheme_kept (goes_on scheme js ks ahead)
       (follows_journals scheme (whole_at f.world) (journal_of scheme ks) (without_tails f.world) f.events.items (numbers_of f) f.posted.items [] (λ n. sym (whole_is n))
       (subst (λ z. Follows scheme (whole_at f.world) (without_tails f.world) f.events.items (numbers_of f) f.posted.items z) none_pending i.follows.follows))
 
-  count_is : (n : Node) → count_at scheme counts n ≡ length (journal_of scheme js n)
+  pub count_is : (n : Node) → count_at scheme counts n ≡ length (journal_of scheme js n)
   count_is n = ap (λ (ks : List ℕ). count_at scheme ks n) counts_are ∙ counted scheme js n
 
   pub fault_of : (n : Node) (place : ℕ) → IsLeft f.world (count_at scheme counts) ns n place → IsStuckAt scheme (journal_of scheme js) n place × HasNoEvents scheme (journal_of scheme js)
@@ -221,7 +221,7 @@ module _ (scheme : Scheme) (js ks : List (List Input)) (f : Following) (i : IsFo
         let few = done k m (subst (λ (zs : List Node). k < length zs) (sym are) below) (subst (λ (zs : List Node). slice_get zs k ≡ Some m) (sym are) is) in
         omega (arith, few, count_is m, ap length (committed_same f.world m))
 
-    projected : Projects scheme f.events.items (journal_of scheme js)
+    pub projected : Projects scheme f.events.items (journal_of scheme js)
     projected = projects scheme (journal_of scheme js) (without_tails f.world) f.events.items (numbers_of f) f.posted.items over i.quiet (nodes_alone scheme js) all_done
 
     -- nothing is left of a tail
@@ -233,7 +233,7 @@ module _ (scheme : Scheme) (js ks : List (List Input)) (f : Following) (i : IsFo
         let few = shorter scheme js ks n (goes_on scheme js ks ahead n) in
         no_more s.tail (omega (arith, few, ap length mine, ap length all, length-append s.committed s.tail))
 
-    world_is : f.world ≡ run (opening scheme) f.events.items
+    pub world_is : f.world ≡ run (opening scheme) f.events.items
     world_is = sym (settled_is scheme f.world i.follows.nodes_are no_tail) ∙ i.follows.follows.led
 
     pub woven_of : IsWoven scheme (journal_of scheme js) f.events.items f.world

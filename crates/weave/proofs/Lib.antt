@@ -12,3 +12,5 @@ pub mod Ends
 pub mod NextEvents
 pub mod Opened
 pub mod Replayed
+pub mod Rests
+pub mod CutOff

@@ -3,3 +3,4 @@ pub mod Steps
 pub mod Kept
 pub mod Left
 pub mod Ahead
+pub mod Cuts

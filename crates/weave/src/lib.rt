@@ -1,8 +1,10 @@
-//! From journals of all nodes back to one run: a list of events that leads to them, or that there is none.
+//! From journals of all nodes back to one run: a list of events that leads to them, or that there is none; and the
+//! furthest cut of them that some list of events leads to.
 #![tactic(auto)]
 
 mod committed;
 mod cores;
+mod cut;
 mod fault;
 mod following;
 mod giving;
@@ -11,6 +13,7 @@ mod numbers;
 mod watch;
 mod weaving;
 
+pub use cut::{Cut, Rest, cut_cores};
 pub use fault::WeaveFault;
 pub use watch::{Nobody, Watch};
 pub use weaving::{Woven, weave, weave_cores};

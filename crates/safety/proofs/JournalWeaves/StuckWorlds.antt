@@ -93,7 +93,7 @@ module _ (w : World) (all : IsQuiet w) where
   next_recorded Itl (CloseAccount account) xs node says sent = absurd (cc (says))
 
 -- a stuck world has no record that is next
-none_next : (w : World) (journals : Node → List Input) → IsQuiet w → IsStuck w journals → HasNext w.scheme (λ n. committed_part (station w n)) journals → ⊥
+pub none_next : (w : World) (journals : Node → List Input) → IsQuiet w → IsStuck w journals → HasNext w.scheme (λ n. committed_part (station w n)) journals → ⊥
 none_next w journals all stuck next =
     let r = next.0 in
     let g = next_recorded w all r.node r.input next.1.1.0 next.1.0 next.1.1.1 next.1.2 in

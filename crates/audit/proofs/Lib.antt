@@ -4,3 +4,4 @@ pub mod WovenCores
 pub mod Pairs
 pub mod Settling
 pub mod Reporting
+pub mod CutTexts

@@ -11,8 +11,8 @@ ghost use Rattle.weave.specs.Following.{journal_of};
 
 use crate::loading::load_cores;
 use command_faults::{OpFault, write_out};
-use protocol::Input;
 use protocol::scheme::Scheme;
+use protocol::wire::Input;
 use report::{push_message, push_table};
 use std::alloc::Global;
 use std::fmt::Write as _;

@@ -1,0 +1,10 @@
+//! The command `explain`: the text of the documents about a code, a status, an outcome or a fault.
+#![tactic(auto)]
+
+mod explaining;
+mod format_topics;
+mod protocol_topics;
+mod topics;
+
+pub use explaining::explain;
+pub use topics::names_differ;

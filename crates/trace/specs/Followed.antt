@@ -1,0 +1,48 @@
+-- What the code follows. No public contract cites it.
+use Rattle.std.specs.Prelude.{◌≡◌, ◌==◌, ◌&&◌, ℕ, Bool, false, List, ◌++◌, map}
+use Rattle.std.specs.List.{filter, list_any}
+use Rattle.units.specs.Code.{same_node}
+use Rattle.units.specs.declared.code.Node.{Node}
+use Rattle.status.specs.Id.{same_id}
+use Rattle.status.specs.declared.id.TransactionId.{TransactionId}
+use Rattle.wire.specs.declared.input.Input.{Input}
+use Rattle.wire.specs.declared.input.Input.TheVariants.{Ack}
+use Rattle.protocol.specs.World.{step}
+use Rattle.protocol.specs.declared.event.Posted.{Posted}
+use Rattle.protocol.specs.declared.event.WorldEvent.{WorldEvent}
+use Rattle.trace.specs.Lines.{AreRowLines}
+use Rattle.trace.specs.Rows.{Row, row_by}
+use Rattle.trace.specs.declared.following.Tracing.{Tracing}
+use Rattle.trace.specs.declared.sent.Sent.{Sent}
+
+-- ---- the messages about a transaction that nodes posted
+
+abbrev pub sent_of : Posted → Sent
+sent_of p = record { node = p.node; key = p.key }
+
+abbrev pub sent_about : TransactionId → List Posted → List Sent
+sent_about id bag = map sent_of (filter (λ p. same_id p.message.id id) bag)
+
+abbrev pub is_sent : List Sent → Node → ℕ → Bool
+is_sent sent n key = list_any (λ s. same_node s.node n && (s.key == key)) sent
+
+-- the input acknowledges one of these messages
+abbrev pub acknowledges_one : List Sent → Node → Input → Bool
+acknowledges_one sent n (Ack key) = is_sent sent n key.value
+acknowledges_one sent n _ = false
+
+-- ---- one event
+
+-- the text has lines of the rows more
+abbrev pub HasLines : (old new : List ℕ) → List Row → Type 0
+HasLines old new rs = (lines : List ℕ) × AreRowLines lines rs × (new ≡ old ++ lines)
+
+abbrev pub KnowsSent : Tracing → Type 0
+KnowsSent t = t.sent.items ≡ sent_about t.id t.world.bag
+
+-- the event has happened, and the text has the line of its row more
+pub record HasFollowed (old new : Tracing) (e : WorldEvent) : Type 0 where
+  pub id : new.id ≡ old.id
+  pub world : new.world ≡ (step old.world e).world
+  pub sent : KnowsSent new
+  pub lines : HasLines old.text.items new.text.items (row_by old.world old.id e)

@@ -1,17 +1,20 @@
 -- What the code follows. No public contract cites it.
-use Rattle.std.specs.Prelude.{◌≡◌, ◌==◌, ◌&&◌, ℕ, Bool, false, List, ◌++◌, map}
+use Rattle.std.specs.Prelude.{◌≡◌, ◌==◌, ◌&&◌, ◌||◌, not, ℕ, Bool, false, List, ◌++◌, map, Option, Some, None}
 use Rattle.std.specs.List.{filter, list_any}
 use Rattle.units.specs.Code.{same_node}
 use Rattle.units.specs.declared.code.Node.{Node}
 use Rattle.status.specs.Id.{same_id}
 use Rattle.status.specs.declared.id.TransactionId.{TransactionId}
+use Rattle.status.specs.declared.status.Status.{Status}
 use Rattle.wire.specs.declared.input.Input.{Input}
 use Rattle.wire.specs.declared.input.Input.TheVariants.{Ack}
-use Rattle.protocol.specs.World.{step}
+use Rattle.protocol.specs.World.{World, step}
+use Rattle.protocol.specs.declared.event.Outcome.{Outcome}
+use Rattle.protocol.specs.declared.event.Outcome.TheVariants.{Recorded}
 use Rattle.protocol.specs.declared.event.Posted.{Posted}
 use Rattle.protocol.specs.declared.event.WorldEvent.{WorldEvent}
 use Rattle.trace.specs.Lines.{AreRowLines}
-use Rattle.trace.specs.Rows.{Row, row_by}
+use Rattle.trace.specs.Rows.{Row, names, row_by, rows, same_standing}
 use Rattle.trace.specs.declared.following.Tracing.{Tracing}
 use Rattle.trace.specs.declared.sent.Sent.{Sent}
 
@@ -33,6 +36,15 @@ acknowledges_one sent n _ = false
 
 -- ---- one event
 
+-- the place at which it was recorded
+abbrev pub place_of : Outcome → Option ℕ
+place_of (Recorded place) = Some place
+place_of _ = None
+
+-- a record of the transaction, told by what the code has found
+abbrev pub is_traced : List Sent → TransactionId → Node → Input → (before now : Option Status) → Bool
+is_traced sent id n input before now = names id input || (acknowledges_one sent n input || not (same_standing before now))
+
 -- the text has lines of the rows more
 abbrev pub HasLines : (old new : List ℕ) → List Row → Type 0
 HasLines old new rs = (lines : List ℕ) × AreRowLines lines rs × (new ≡ old ++ lines)
@@ -46,3 +58,8 @@ pub record HasFollowed (old new : Tracing) (e : WorldEvent) : Type 0 where
   pub world : new.world ≡ (step old.world e).world
   pub sent : KnowsSent new
   pub lines : HasLines old.text.items new.text.items (row_by old.world old.id e)
+
+-- the rows of the whole list of events, from the first world on, are those that were written and those of the events
+-- that are left
+abbrev pub IsWritten : (start now : List ℕ) (first w : World) → TransactionId → (whole left : List WorldEvent) → Type 0
+IsWritten start now first w id whole left = (rs : List Row) × HasLines start now rs × (rows first id whole ≡ rs ++ rows w id left)

@@ -1,5 +1,5 @@
 //! The events of a run one after another, and the lines of the transaction's records.
-ghost use Rattle.std.specs.Prelude.{◌≡◌, ◌∷◌, ◌++◌, [], IfOk, List, OnErr, OnOk, Some, None, option_copied, option_map, slice_get, codes};
+ghost use Rattle.std.specs.Prelude.{◌≡◌, ◌∷◌, ◌++◌, [], IfOk, List, OnErr, OnOk, Some, None, option_copied, option_map, slice_get, drop, length, ◌≤◌};
 ghost use Rattle.protocol.specs.Claims.{whole};
 ghost use Rattle.protocol.specs.Scheme.{Scheme as Registries};
 ghost use Rattle.protocol.specs.Weave.{Placed};
@@ -7,14 +7,14 @@ ghost use Rattle.protocol.specs.World.{World as Place, opening, station, step};
 ghost use Rattle.protocol.specs.declared.event.Outcome.TheVariants.{Recorded};
 ghost use Rattle.status.specs.Id.{same_id};
 ghost use Rattle.status.specs.Status.{same_status};
-ghost use Rattle.trace.specs.Followed.{HasFollowed, HasLines, KnowsSent, acknowledges_one, sent_about};
+ghost use Rattle.trace.specs.Followed.{HasFollowed, HasLines, KnowsSent, is_traced, place_of, sent_about};
 ghost use Rattle.trace.specs.Lines.{AreRowLines, IsTrace};
 ghost use Rattle.trace.specs.Rows.{given, names, row_of, rows, same_standing, standing};
 
 use crate::sent::{Sent, acknowledges, add_sent};
 use crate::text::push_row;
 use protocol::scheme::Scheme;
-use protocol::{Outcome, WorldEvent};
+use protocol::{Outcome, Posted, WorldEvent};
 use status::{Status, TransactionId};
 use std::alloc::Global;
 use units::{NoMemory, Node};
@@ -102,11 +102,45 @@ fn is_same_standing(a: Option<Status>, b: Option<Status>) -> bool
     }
 }
 
+/// Whether the input is a record of the transaction at the node, where it stood so before it, and stands so now.
+fn is_traced(
+    sent: &[Sent],
+    id: TransactionId,
+    node: Node,
+    input: &Input,
+    before: Option<Status>,
+    now: Option<Status>,
+) -> bool
+    ensures { result ≡ is_traced sent.now id node input.now before now }
+{
+    names(id, input) || acknowledges(sent, node, input) || !is_same_standing(before, now)
+}
+
+/// The place at which an input was recorded, if it was.
+fn place_of(outcome: Outcome) -> Option<u64>
+    ensures { result ≡ place_of outcome }
+{
+    match outcome {
+        Outcome::Recorded(place) => Some(place),
+        _ => None,
+    }
+}
+
+/// The messages of the bag from that number on.
+fn bag_from(world: &World, first: usize) -> &[Posted]
+    requires { first ≤ length world.now.bag }
+    ensures { result.now ≡ drop first world.now.bag }
+{
+    &world.bag()[first..]
+}
+
 impl Tracing {
     /// The opening world, in which nothing is recorded.
     fn new(alloc: Global, scheme: &Scheme, id: TransactionId) -> Result<Tracing, NoMemory>
-        ensures { IfOk result (λ t. (t.id ≡ id) × (t.world ≡ opening scheme.now) × (t.sent.items ≡ [])
-            × (t.text.items ≡ [])) }
+        ensures id { IfOk result (λ t. t.id ≡ id) }
+        ensures world { IfOk result (λ t. t.world ≡ opening scheme.now) }
+        ensures sent { IfOk result KnowsSent }
+        ensures text { IfOk result (λ t. t.text.items ≡ []) }
     {
         Ok(Tracing {
             alloc,
@@ -131,12 +165,9 @@ impl Tracing {
         let Some(input) = record_at(&self.world, node, place) else {
             return Ok(());
         };
-        let status = self.world.status(node, self.id);
-        if names(self.id, input)
-            || acknowledges(self.sent.as_slice(), node, input)
-            || !is_same_standing(before, status)
-        {
-            push_row(self.alloc, &mut self.text, node, place, input, status)?;
+        let now = self.world.status(node, self.id);
+        if is_traced(self.sent.as_slice(), self.id, node, input, before, now) {
+            push_row(self.alloc, &mut self.text, node, place, input, now)?;
         }
         Ok(())
     }
@@ -148,10 +179,11 @@ impl Tracing {
         ensures { OnOk result (HasFollowed self.old self.new event.now) }
     {
         let before = self.world.status(node, self.id);
-        match self.world.apply(event)? {
-            Outcome::Recorded(place) => self.add_record(node, place, before),
-            _ => Ok(()),
+        let outcome = self.world.apply(event)?;
+        if let Some(place) = place_of(outcome) {
+            self.add_record(node, place, before)?;
         }
+        Ok(())
     }
 
     /// Goes on by an event that gives no node an input.
@@ -162,7 +194,8 @@ impl Tracing {
     {
         let before = self.world.bag().len();
         self.world.apply(event)?;
-        add_sent(&mut self.sent, self.id, &self.world.bag()[before..])
+        add_sent(&mut self.sent, self.id, bag_from(&self.world, before))?;
+        Ok(())
     }
 
     /// Goes on by an event.

@@ -1,5 +1,5 @@
 //! The messages about one transaction that nodes posted.
-ghost use Rattle.std.specs.Prelude.{◌≡◌, ◌++◌, OnOk};
+ghost use Rattle.std.specs.Prelude.{◌≡◌, ◌∷◌, ◌++◌, [], OnOk};
 ghost use Rattle.status.specs.Id.{same_id};
 ghost use Rattle.trace.specs.Followed.{acknowledges_one, is_sent, sent_about};
 
@@ -21,6 +21,19 @@ fn is_same_id(a: TransactionId, b: TransactionId) -> bool
     a == b
 }
 
+/// Adds the message if it is about the transaction.
+fn add_one(sent: &mut Vec<Sent>, id: TransactionId, posted: &Posted) -> Result<(), NoMemory>
+    ensures { OnOk result (sent.new.items ≡ sent.old.items ++ sent_about id (posted.now ∷ [])) }
+{
+    if is_same_id(posted.message.id, id) {
+        sent.push(Sent {
+            node: posted.node,
+            key: posted.key,
+        })?;
+    }
+    Ok(())
+}
+
 /// Adds those of the messages that are about the transaction.
 pub(crate) fn add_sent(
     sent: &mut Vec<Sent>,
@@ -29,13 +42,8 @@ pub(crate) fn add_sent(
 ) -> Result<(), NoMemory>
     ensures { OnOk result (sent.new.items ≡ sent.old.items ++ sent_about id posted.now) }
 {
-    for posted in posted {
-        if is_same_id(posted.message.id, id) {
-            sent.push(Sent {
-                node: posted.node,
-                key: posted.key,
-            })?;
-        }
+    for message in posted {
+        add_one(sent, id, message)?;
     }
     Ok(())
 }

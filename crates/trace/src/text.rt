@@ -64,22 +64,18 @@ fn status_word(status: Option<Status>) -> &'static str
     }
 }
 
-/// Adds the words before the record's text.
-fn push_head(
+/// The words before the record's text, each with a space after it.
+fn head_of(
     alloc: Global,
-    text: &mut Vec<u8>,
     node: Node,
     place: u64,
     moment: &str,
-    status: Option<Status>,
-) -> Result<(), NoMemory>
-    ensures { OnOk result (text.new.items ≡ text.old.items ++ node_text node ++ codes " " ++ decimal place ++ codes " "
-        ++ moment.now ++ codes " " ++ status_or_none status ++ codes " ") }
+    status: &str,
+) -> Result<String, NoMemory>
+    ensures { IfOk result (λ s. string_bytes s ≡ node_text node ++ codes " " ++ decimal place ++ codes " "
+        ++ moment.now ++ codes " " ++ status.now ++ codes " ") }
 {
-    let status = status_word(status);
-    let head = format!(in alloc; "{node} {place} {moment} {status} ")?;
-    text.extend_from_slice(head.as_bytes())?;
-    Ok(())
+    Ok(format!(in alloc; "{node} {place} {moment} {status} ")?)
 }
 
 /// Adds the line of a record at that place of the node's journal, after which the transaction stands so.
@@ -102,7 +98,8 @@ pub(crate) fn push_row(
 {
     let moment = moment_of(alloc, input)?;
     let record = encode_input(alloc, input)?;
-    push_head(alloc, text, node, place, moment.as_str(), status)?;
+    let head = head_of(alloc, node, place, moment.as_str(), status_word(status))?;
+    text.extend_from_slice(head.as_bytes())?;
     text.extend_from_slice(record.as_slice())?;
     text.extend_from_slice(b"\n")?;
     Ok(())

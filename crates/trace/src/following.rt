@@ -1,17 +1,15 @@
 //! The events of a run one after another, and the lines of the transaction's records.
-ghost use Rattle.std.specs.Prelude.{◌≡◌, ◌∷◌, ◌++◌, [], IfOk, List, OnErr, OnOk, Some, None, option_copied, option_map, slice_get, drop, length, ◌≤◌};
+ghost use Rattle.std.specs.Prelude.{◌≡◌, ◌≤◌, [], IfOk, None, OnOk, Some, drop, length, option_copied, option_map, slice_get};
 ghost use Rattle.protocol.specs.Claims.{whole};
-ghost use Rattle.protocol.specs.Scheme.{Scheme as Registries};
 ghost use Rattle.protocol.specs.Weave.{Placed};
-ghost use Rattle.protocol.specs.World.{World as Place, opening, station, step};
+ghost use Rattle.protocol.specs.World.{World as Place, opening, station};
 ghost use Rattle.protocol.specs.declared.event.Outcome.TheVariants.{Recorded};
-ghost use Rattle.status.specs.Id.{same_id};
 ghost use Rattle.status.specs.Status.{same_status};
 ghost use Rattle.trace.specs.Followed.{HasFollowed, HasLines, KnowsSent, is_traced, place_of, sent_about};
 ghost use Rattle.trace.specs.Lines.{AreRowLines, IsTrace};
 ghost use Rattle.trace.specs.Rows.{given, names, row_of, rows, same_standing, standing};
 
-use crate::sent::{Sent, acknowledges, add_sent};
+use crate::sent::{Sent, acknowledges, add_sent, is_same_id};
 use crate::text::push_row;
 use protocol::scheme::Scheme;
 use protocol::{Outcome, Posted, WorldEvent};
@@ -69,12 +67,6 @@ fn record_at(world: &World, node: Node, place: u64) -> Option<&Input>
     journal.get(place as usize)
 }
 
-fn is_same_id(a: TransactionId, b: TransactionId) -> bool
-    ensures { result ≡ same_id a b }
-{
-    a == b
-}
-
 /// Whether the input is a message about the transaction, or a request for its cancellation.
 fn names(id: TransactionId, input: &Input) -> bool
     ensures { result ≡ names id input.now }
@@ -102,7 +94,7 @@ fn is_same_standing(a: Option<Status>, b: Option<Status>) -> bool
     }
 }
 
-/// Whether the input is a record of the transaction at the node, where it stood so before it, and stands so now.
+/// Whether the input is a record of the transaction, which stood so at the node before it and stands so now.
 fn is_traced(
     sent: &[Sent],
     id: TransactionId,
@@ -151,8 +143,8 @@ impl Tracing {
         })
     }
 
-    /// Adds the line of the record at that place of the node's journal, if it is of the transaction, which stood so at
-    /// the node before.
+    /// Adds the line of the record at that place of the node's journal, if it is of the transaction. Before it the
+    /// transaction stood so at the node.
     fn add_record(&mut self, node: Node, place: u64, before: Option<Status>) -> Result<(), NoMemory>
         ensures lines { (w : Place) (r : Placed) → r.node ≡ node
             → slice_get (whole (station self.old.world node)) place ≡ Some r.input
@@ -172,7 +164,7 @@ impl Tracing {
         Ok(())
     }
 
-    /// Goes on by an event that gives the node an input.
+    /// Goes on by an event that gives the node an input. It posts nothing.
     fn give(&mut self, node: Node, event: &WorldEvent) -> Result<(), NoMemory>
         requires sent { KnowsSent self.old }
         requires given { option_map (λ r. r.node) (given self.old.world event.now) ≡ Some node }

@@ -15,7 +15,7 @@ pub(crate) struct Sent {
     pub key: u64,
 }
 
-fn is_same_id(a: TransactionId, b: TransactionId) -> bool
+pub(crate) fn is_same_id(a: TransactionId, b: TransactionId) -> bool
     ensures { result ≡ same_id a b }
 {
     a == b

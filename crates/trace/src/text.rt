@@ -30,8 +30,8 @@ fn is_word(text: &str) -> bool
     cut(text, ' ').is_none() && cut(text, '\n').is_none()
 }
 
-/// The moment as a word. It is read back before it is returned, since no contract says what `jiff` prints. A text that
-/// isn't read back is no text of it, and fails with `NoMemory` too.
+/// The moment as a word. It is read back before it is returned, since no contract says how `jiff` prints it. Fails with
+/// `NoMemory` where there is no room, and where the word isn't read back, which no moment is known to be.
 fn moment_word(alloc: Global, moment: Moment) -> Result<String, NoMemory>
     ensures { IfOk result (λ s. IsMomentWord (string_bytes s) moment) }
 {
@@ -55,6 +55,7 @@ fn moment_of(alloc: Global, input: &Input) -> Result<String, NoMemory>
     }
 }
 
+/// The status, or `none`.
 fn status_word(status: Option<Status>) -> &'static str
     ensures { result.now ≡ status_or_none status }
 {
@@ -82,8 +83,8 @@ fn head_of(
 ///
 /// # Errors
 ///
-/// Fails with `NoMemory` where there is no room for the line, and where no word is read as its moment, of which there
-/// is none.
+/// Fails with `NoMemory` where there is no room for the line, which may then be there in part, and where `moment_word`
+/// does.
 pub(crate) fn push_row(
     alloc: Global,
     text: &mut Vec<u8>,

@@ -35,7 +35,10 @@ fn text_of_woven(
         → IfErr result (FailsToWeave scheme.now journals) }
 {
     match woven {
-        Ok(woven) => Ok(trace_text(alloc, scheme, woven.events.as_slice(), id)?),
+        Ok(woven) => {
+            drop(woven.world);
+            Ok(trace_text(alloc, scheme, woven.events.as_slice(), id)?)
+        }
         Err(fault) => Err(fault_of(fault)),
     }
 }
@@ -58,13 +61,15 @@ fn text_of_cores<P: Watch>(
 
 /// Reads the stores, one for each node: the log's, then those of the registries in the scheme's order. Finds a run that
 /// leads to all their records and to no others, and writes the records of the transaction in the order of that run,
-/// and then the line `end`. Tells of the records as they are read and woven.
+/// and then the line `end`. Where no record is of the transaction, that line is all. Tells of the records as they are
+/// read and woven.
 ///
-/// A record is of the transaction where it names it (a message about it, or a request for its cancellation), where it
-/// acknowledges a message about it, and where it changes how the transaction stands at its node (an order to transfer
-/// units that gets this identifier, or a clean-up that cancels it). Its line has the node, the place in the node's
-/// journal, the moment of a received message or of a clean-up (`-` for another record), how the transaction stands at
-/// that node after it (`none` where it isn't known there), and the record's text.
+/// A record is of the transaction exactly when it names it (a message about it, or a request for its cancellation),
+/// acknowledges a message about it, or changes where it stands at the record's node (an order to transfer units that
+/// gets this identifier, or a clean-up that cancels it). Its line has the node, the place in the node's journal, the
+/// moment of a received message or of a clean-up (`-` for other records), where the transaction stands at that node
+/// after it (`none` where it isn't known there), and the record's text. A moment is any text that `Moment::read` reads
+/// as it, without a space.
 ///
 /// The stores are read by pages, and nothing is written to them.
 ///

@@ -1,8 +1,7 @@
 -- What an event gives to a node: where it is recorded, and what becomes of the bag.
-use Rattle.std.proofs.Common.{◌≡◌, ◌≤◌, ℕ, Bool, true, false, cond, List, [], ◌∷◌, ◌++◌, length, drop, Option, Some, None, option_map, refl, sym, ap, subst, ◌∙◌, append_assoc, arith, length-append}
+use Rattle.std.proofs.Common.{◌≡◌, ℕ, Bool, true, false, cond, List, [], ◌∷◌, ◌++◌, length, Option, Some, None, option_map, refl, sym, ap, ◌∙◌, append_assoc}
 use Rattle.std.specs.Prelude.{slice_get, option_and_then}
 use Rattle.std.proofs.lemmas.List.{append-nil}
-use Rattle.std.proofs.Math.Seq.{drop-append_seam}
 use Rattle.units.proofs.Lists.Positions.{last_at}
 use Rattle.units.specs.declared.code.Node.{Node}
 use Rattle.status.specs.declared.moment.Moment.{Moment}
@@ -14,7 +13,6 @@ use Rattle.protocol.specs.Deciding.{Verdict, IsRecorded, IsRepeat, IsLate, IsRef
 use Rattle.protocol.specs.Verdict.{verdict, history}
 use Rattle.protocol.specs.Weave.{Gives, Placed}
 use Rattle.protocol.specs.World.{World, Station, Stepped, Turn, station, journal, put, stays, rests, answered, take_input, commit, crash, restart, sent, at_node, is_order, posted, deliver, step}
-use Rattle.protocol.specs.declared.event.Outcome.{Outcome}
 use Rattle.protocol.specs.declared.event.Outcome.TheVariants.{Recorded, Repeat, Late, Refused, NotPossible}
 use Rattle.protocol.specs.declared.event.Posted.{Posted}
 use Rattle.protocol.specs.declared.event.WorldEvent.{WorldEvent}

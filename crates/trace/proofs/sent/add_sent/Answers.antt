@@ -1,4 +1,4 @@
-use Rattle.std.proofs.Common.{◌≡◌, ◌∷◌, ◌++◌, [], take, ap, sym, ◌∙◌, append_assoc}
+use Rattle.std.proofs.Common.{◌∷◌, ◌++◌, [], take, ap, sym, ◌∙◌, append_assoc}
 use Rattle.trace.specs.Followed.{sent_about}
 use Rattle.trace.proofs.PostedMessages.{sent_more}
 use Rattle.trace.proofs.sent.add_sent.Goals as goal

@@ -1,4 +1,4 @@
-use Rattle.std.proofs.Common.{◌≡◌, ◌++◌, ap, ◌∙◌, codes, decimal, rules}
+use Rattle.std.proofs.Common.{◌++◌, ap, ◌∙◌, codes, decimal, rules}
 use Rattle.units.specs.Code.{node_text}
 use Rattle.trace.proofs.RowLines.{row_line}
 use Rattle.trace.proofs.text.push_row.Goals as goal

@@ -1,4 +1,4 @@
-use Rattle.std.proofs.Common.{◌≡◌, refl, sym, ◌∙◌}
+use Rattle.std.proofs.Common.{refl, sym, ◌∙◌}
 use Rattle.trace.proofs.EventRows.{input_is, with_row, without_row}
 use Rattle.trace.proofs.following.Tracing.add_record.Goals as goal
 

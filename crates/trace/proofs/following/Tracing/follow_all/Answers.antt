@@ -1,4 +1,4 @@
-use Rattle.std.proofs.Common.{◌≡◌, ◌∙◌}
+use Rattle.std.proofs.Common.{◌∙◌}
 use Rattle.trace.proofs.EventRows.{all_written, written_next}
 use Rattle.trace.proofs.following.Tracing.follow_all.Goals as goal
 

@@ -1,4 +1,4 @@
-use Rattle.std.proofs.Common.{◌≡◌, refl, sym, ap, subst, ◌∙◌}
+use Rattle.std.proofs.Common.{refl, sym, ap, subst, ◌∙◌}
 use Rattle.protocol.specs.declared.event.Outcome.TheVariants.{Recorded}
 use Rattle.trace.specs.Followed.{HasLines}
 use Rattle.trace.proofs.EventRows.{after, gave, recorded_at, recorded_place, row_unrecorded}

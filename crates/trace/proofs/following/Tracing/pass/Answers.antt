@@ -1,4 +1,4 @@
-use Rattle.std.proofs.Common.{◌≡◌, ◌++◌, drop, length, refl, sym, ap, ◌∙◌}
+use Rattle.std.proofs.Common.{◌++◌, drop, length, refl, ap, ◌∙◌}
 use Rattle.trace.specs.Followed.{sent_about}
 use Rattle.trace.proofs.EventRows.{passed, room_after}
 use Rattle.trace.proofs.following.Tracing.pass.Goals as goal

@@ -253,7 +253,7 @@ fn lines_of(
 ///
 /// # Errors
 ///
-/// Fails with `NoMemory` where there is no room for the text.
+/// Fails with `NoMemory` where there is no room for the text or for the world, and where `push_row` does.
 pub(crate) fn trace_text(
     alloc: Global,
     scheme: &Scheme,

@@ -31,7 +31,7 @@ fn is_word(text: &str) -> bool
 }
 
 /// The moment as a word. It is read back before it is returned, since no contract says how `jiff` prints it. Fails with
-/// `NoMemory` where there is no room, and where the word isn't read back, which no moment is known to be.
+/// `NoMemory` where there is no room, and where the word isn't read back. No such moment is known.
 fn moment_word(alloc: Global, moment: Moment) -> Result<String, NoMemory>
     ensures { IfOk result (λ s. IsMomentWord (string_bytes s) moment) }
 {

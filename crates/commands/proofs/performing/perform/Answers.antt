@@ -12,7 +12,7 @@ returns-in-Show-clause-err g c =
 
 pub returns-in-Audit-clause-err : goal.returns-in-Audit-clause-err
 returns-in-Audit-clause-err g c =
-    let fails = λ (path : List ℕ) (folder : List ℕ) (e : OpFault). FailsToAuditTo g.A.Archive c.args.archive.now g.A.File.Read.remaining g.A.Store.NodeStore c.in-Audit.extent.now path folder e (g.W.Write.contents c.args.writer.now) (g.W.Write.contents c.audit_to.new.writer) in
+    let fails = λ (path : List ℕ) (folder : List ℕ) (e : OpFault). FailsToAuditTo g.A.Archive c.args.archive.now g.A.File.Read.remaining g.A.Store.NodeStore c.in-Audit.extent path folder e (g.W.Write.contents c.args.writer.now) (g.W.Write.contents c.audit_to.new.writer) in
     let path = c.as_str-in-Audit in
     let folder = c.as_str-in-Audit-2 in
     if_err {P = fails path.result.now folder.result.now} c.audit_to.result

@@ -5,6 +5,12 @@ use Rattle.audit.proofs.Reporting.{if_err, keeps_same, on_ok}
 use Rattle.commands.proofs.InFolder.{count_of}
 use Rattle.commands.proofs.performing.trace_folder.Goals as goal
 
+pub returns-in_err-id-clause-err : goal.returns-in_err-id-clause-err
+returns-in_err-id-clause-err g c =
+    let p = err_from_is_err_and c.from_residual-in_err-id.result c.from_residual-in_err-id.ensures.1 in
+    let scheme = c.in_ok-scheme in
+    rw (p.1, p.2) (inr (scheme.scheme, scheme.ensures.ok, inl (c.in_err-id.ensures.err, keeps_same _)))
+
 pub returns-in_err-stores-clause-err : goal.returns-in_err-stores-clause-err
 returns-in_err-stores-clause-err g c =
     let p = err_from_is_err_and c.from_residual-in_err-stores.result c.from_residual-in_err-stores.ensures.1 in

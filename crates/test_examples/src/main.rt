@@ -151,36 +151,28 @@ fn is_traced(rt: &HostRuntime, folder: &str, line: &str) -> io::Result<bool> {
     }
 }
 
-/// Runs the check on the text of the folder's file of that name. `None` where there is no such file.
-fn with_file(
-    rt: &HostRuntime,
-    folder: &str,
-    name: &str,
-    check: fn(&HostRuntime, &str, &str) -> io::Result<bool>,
-) -> io::Result<Option<bool>> {
-    let bytes = match file_in(rt, folder, name) {
-        Ok(bytes) => bytes,
-        Err(error) if error.kind() == ErrorKind::NotFound => return Ok(None),
-        Err(error) => return Err(error),
-    };
-    match str::from_utf8(bytes.as_slice()) {
-        Ok(text) => Ok(Some(check(rt, folder, text)?)),
-        Err(_) => Ok(Some(false)),
+/// The text of the folder's file of that name. `None` where there is no such file.
+fn text_in(rt: &HostRuntime, folder: &str, name: &str) -> io::Result<Option<String>> {
+    let path = format!(in rt.alloc(); "{folder}/{name}")?;
+    match fs::read_to_string(rt, path.as_str()) {
+        Ok(text) => Ok(Some(text)),
+        Err(error) if error.kind() == ErrorKind::NotFound => Ok(None),
+        Err(error) => Err(error),
     }
 }
 
 fn is_as_written(rt: &HostRuntime, folder: &str) -> io::Result<bool> {
-    if let Some(comes) = with_file(rt, folder, "words", is_told)? {
-        return Ok(comes);
+    if let Some(lines) = text_in(rt, folder, "words")? {
+        return is_told(rt, folder, lines.as_str());
     }
-    if let Some(comes) = with_file(rt, folder, "word", is_explained)? {
-        return Ok(comes);
+    if let Some(line) = text_in(rt, folder, "word")? {
+        return is_explained(rt, folder, line.as_str());
     }
-    if let Some(comes) = with_file(rt, folder, "kept", is_cut)? {
-        return Ok(comes);
+    if let Some(kept) = text_in(rt, folder, "kept")? {
+        return is_cut(rt, folder, kept.as_str());
     }
-    if let Some(comes) = with_file(rt, folder, "id", is_traced)? {
-        return Ok(comes);
+    if let Some(line) = text_in(rt, folder, "id")? {
+        return is_traced(rt, folder, line.as_str());
     }
     is_so(rt, folder)
 }

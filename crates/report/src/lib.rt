@@ -3,6 +3,7 @@
 #![tactic(auto)]
 
 mod debts;
+mod form;
 mod holdings;
 mod messages;
 mod outcomes;
@@ -11,6 +12,7 @@ mod table;
 mod totals;
 mod transactions;
 
+pub use form::Form;
 pub use messages::push_message;
 pub use outcomes::{push_outcome, push_outcome_text};
 pub use table::push_table;

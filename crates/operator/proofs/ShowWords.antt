@@ -10,10 +10,10 @@ use Rattle.operator.specs.Words.{NamesAction, HasValues, IsOf, argument_of}
 same_values : (v w : List ℕ → Option (List ℕ)) → ((name : List ℕ) → v name ≡ w name) → (a : Action) → HasValues v a → HasValues w a
 same_values v w same Rehearse has = has
 same_values v w same Chart has = has
-same_values v w same (Show scheme folder node) has = (sym (same _) ∙ has.0, sym (same _) ∙ has.1, sym (same _) ∙ has.2)
-same_values v w same (Audit scheme folder extent) has = (sym (same _) ∙ has.0, sym (same _) ∙ has.1, sym (same _) ∙ has.2)
-same_values v w same (Events scheme folder) has = (sym (same _) ∙ has.0, sym (same _) ∙ has.1)
-same_values v w same (Trace scheme folder id) has = (sym (same _) ∙ has.0, sym (same _) ∙ has.1, sym (same _) ∙ has.2)
+same_values v w same (Show scheme folder node form) has = (sym (same _) ∙ has.0, sym (same _) ∙ has.1, sym (same _) ∙ has.2, sym (same _) ∙ has.3)
+same_values v w same (Audit scheme folder extent form) has = (sym (same _) ∙ has.0, sym (same _) ∙ has.1, sym (same _) ∙ has.2, sym (same _) ∙ has.3)
+same_values v w same (Events scheme folder form) has = (sym (same _) ∙ has.0, sym (same _) ∙ has.1, sym (same _) ∙ has.2)
+same_values v w same (Trace scheme folder id form) has = (sym (same _) ∙ has.0, sym (same _) ∙ has.1, sym (same _) ∙ has.2, sym (same _) ∙ has.3)
 same_values v w same (Explain topic) has = sym (same _) ∙ has
 same_values v w same (Run scheme folder script) has = (sym (same _) ∙ has.0, sym (same _) ∙ has.1, sym (same _) ∙ has.2)
 

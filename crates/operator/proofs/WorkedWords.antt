@@ -98,6 +98,14 @@ pub cut_last : option_and_then (λ p. first_of (codes "cut") p.1) (subcommand_of
 unfolding clap_on_literals
 cut_last = refl
 
+pub no_json : option_and_then (λ p. first_of (codes "json") p.1) (subcommand_of kyoto_link audit_words) ≡ Some (codes "false")
+unfolding clap_on_literals
+no_json = refl
+
+pub both_flags : option_and_then (λ p. first_of (codes "json") p.1) (subcommand_of kyoto_link (codes "kyoto-link" ∷ codes "audit" ∷ codes "--json" ∷ codes "s.json" ∷ codes "d" ∷ codes "--cut" ∷ [])) ≡ Some (codes "true")
+unfolding clap_on_literals
+both_flags = refl
+
 pub no_folder : faults_in (codes "kyoto-link" ∷ codes "audit" ∷ codes "s.json" ∷ []) ≡ MissingRequiredArgument ∷ []
 unfolding clap_on_literals
 no_folder = refl

@@ -13,6 +13,8 @@ use Rattle.operator.specs.declared.command_line.Action.{Action}
 use Rattle.operator.specs.declared.command_line.Action.TheVariants.{Audit, Chart, Events, Explain, Rehearse, Run, Show, Trace}
 use Rattle.operator.specs.declared.command_line.Extent.{Extent}
 use Rattle.operator.specs.declared.command_line.Extent.TheVariants.{Furthest, Whole}
+use Rattle.report.specs.declared.form.Form.{Form}
+use Rattle.report.specs.declared.form.Form.TheVariants.{Json, Lines}
 use Rattle.operator.specs.declared.command_line.UsageFault.{UsageFault}
 use Rattle.operator.specs.declared.command_line.UsageFault.TheVariants.{Usage, Help, NoMemory}
 
@@ -29,16 +31,16 @@ abbrev pub flag : List ℕ → Rule
 flag name = record (new_rule name) { long = Some name; action = Some SetTrue }
 
 abbrev pub show_shape : Shape
-show_shape = record (new_shape (codes "show")) { rules = positional (codes "SCHEME") ∷ positional (codes "DIR") ∷ positional (codes "NODE") ∷ [] }
+show_shape = record (new_shape (codes "show")) { rules = positional (codes "SCHEME") ∷ positional (codes "DIR") ∷ positional (codes "NODE") ∷ flag (codes "json") ∷ [] }
 
 abbrev pub audit_shape : Shape
-audit_shape = record (new_shape (codes "audit")) { rules = positional (codes "SCHEME") ∷ positional (codes "DIR") ∷ flag (codes "cut") ∷ [] }
+audit_shape = record (new_shape (codes "audit")) { rules = positional (codes "SCHEME") ∷ positional (codes "DIR") ∷ flag (codes "cut") ∷ flag (codes "json") ∷ [] }
 
 abbrev pub events_shape : Shape
-events_shape = record (new_shape (codes "events")) { rules = positional (codes "SCHEME") ∷ positional (codes "DIR") ∷ [] }
+events_shape = record (new_shape (codes "events")) { rules = positional (codes "SCHEME") ∷ positional (codes "DIR") ∷ flag (codes "json") ∷ [] }
 
 abbrev pub trace_shape : Shape
-trace_shape = record (new_shape (codes "trace")) { rules = positional (codes "SCHEME") ∷ positional (codes "DIR") ∷ positional (codes "ID") ∷ [] }
+trace_shape = record (new_shape (codes "trace")) { rules = positional (codes "SCHEME") ∷ positional (codes "DIR") ∷ positional (codes "ID") ∷ flag (codes "json") ∷ [] }
 
 abbrev pub explain_shape : Shape
 explain_shape = record (new_shape (codes "explain")) { rules = positional (codes "TOPIC") ∷ [] }
@@ -81,17 +83,23 @@ abbrev pub extent_word : Extent → List ℕ
 extent_word Whole = codes "false"
 extent_word Furthest = codes "true"
 
+-- the value of the flag `json`
+abbrev pub form_word : Form → List ℕ
+form_word Lines = codes "false"
+form_word Json = codes "true"
+
 -- the words of the action are the values of the arguments
 abbrev pub HasValues : (List ℕ → Option (List ℕ)) → Action → Type 0
 HasValues value Rehearse = Unit {0}
 HasValues value Chart = Unit {0}
-HasValues value (Show scheme folder node) =
-    (value (codes "SCHEME") ≡ Some (string_bytes scheme)) × (value (codes "DIR") ≡ Some (string_bytes folder)) × (value (codes "NODE") ≡ Some (string_bytes node))
-HasValues value (Audit scheme folder extent) =
-    (value (codes "SCHEME") ≡ Some (string_bytes scheme)) × (value (codes "DIR") ≡ Some (string_bytes folder)) × (value (codes "cut") ≡ Some (extent_word extent))
-HasValues value (Events scheme folder) = (value (codes "SCHEME") ≡ Some (string_bytes scheme)) × (value (codes "DIR") ≡ Some (string_bytes folder))
-HasValues value (Trace scheme folder id) =
-    (value (codes "SCHEME") ≡ Some (string_bytes scheme)) × (value (codes "DIR") ≡ Some (string_bytes folder)) × (value (codes "ID") ≡ Some (string_bytes id))
+HasValues value (Show scheme folder node form) =
+    (value (codes "SCHEME") ≡ Some (string_bytes scheme)) × (value (codes "DIR") ≡ Some (string_bytes folder)) × (value (codes "NODE") ≡ Some (string_bytes node)) × (value (codes "json") ≡ Some (form_word form))
+HasValues value (Audit scheme folder extent form) =
+    (value (codes "SCHEME") ≡ Some (string_bytes scheme)) × (value (codes "DIR") ≡ Some (string_bytes folder)) × (value (codes "cut") ≡ Some (extent_word extent)) × (value (codes "json") ≡ Some (form_word form))
+HasValues value (Events scheme folder form) =
+    (value (codes "SCHEME") ≡ Some (string_bytes scheme)) × (value (codes "DIR") ≡ Some (string_bytes folder)) × (value (codes "json") ≡ Some (form_word form))
+HasValues value (Trace scheme folder id form) =
+    (value (codes "SCHEME") ≡ Some (string_bytes scheme)) × (value (codes "DIR") ≡ Some (string_bytes folder)) × (value (codes "ID") ≡ Some (string_bytes id)) × (value (codes "json") ≡ Some (form_word form))
 HasValues value (Explain topic) = value (codes "TOPIC") ≡ Some (string_bytes topic)
 HasValues value (Run scheme folder script) =
     (value (codes "SCHEME") ≡ Some (string_bytes scheme)) × (value (codes "DIR") ≡ Some (string_bytes folder)) × (value (codes "SCRIPT") ≡ Some (string_bytes script))
@@ -99,10 +107,10 @@ HasValues value (Run scheme folder script) =
 abbrev pub command_name : Action → List ℕ
 command_name Rehearse = codes "rehearse"
 command_name Chart = codes "chart"
-command_name (Show scheme folder node) = codes "show"
-command_name (Audit scheme folder extent) = codes "audit"
-command_name (Events scheme folder) = codes "events"
-command_name (Trace scheme folder id) = codes "trace"
+command_name (Show scheme folder node form) = codes "show"
+command_name (Audit scheme folder extent form) = codes "audit"
+command_name (Events scheme folder form) = codes "events"
+command_name (Trace scheme folder id form) = codes "trace"
 command_name (Explain topic) = codes "explain"
 command_name (Run scheme folder script) = codes "run"
 

@@ -5,7 +5,7 @@ ghost use Rattle.clap.specs.Values.{kind_of};
 ghost use Rattle.clap.specs.Words.{App, HasMatchesOf, first_value, found_of, rule_of, with_subcommand};
 ghost use Rattle.clap.specs.declared.error.kind.ErrorKind.TheVariants.{OutOfMemory};
 ghost use Rattle.clap.specs.declared.parser.matches.ArgMatches.{ArgMatches};
-ghost use Rattle.operator.specs.Words.{NamesAction, IsCommand, IsFaultOf, IsOf, IsSubcommand, IsUsageFault, extent_word, faults_in, flag, kyoto_link, positional, program};
+ghost use Rattle.operator.specs.Words.{NamesAction, IsCommand, IsFaultOf, IsOf, IsSubcommand, IsUsageFault, extent_word, faults_in, flag, form_word, kyoto_link, positional, program};
 ghost use Rattle.operator.specs.Subcommands.{described, rule_in};
 
 use crate::notes::{
@@ -14,6 +14,7 @@ use crate::notes::{
 };
 use clap::error::ErrorKind;
 use clap::{Arg, ArgAction, ArgMatches, Command, Error};
+use report::Form as Writing;
 use std::alloc::{AllocError, Global};
 use std::convert::AsStr;
 
@@ -42,6 +43,7 @@ pub enum Action {
         scheme: String,
         folder: String,
         node: String,
+        form: Writing,
     },
     /// Write the table of a run that leads to the records of the stores in the folder `folder`, to all of them or to as
     /// many as a run explains. The file `scheme` has the scheme.
@@ -49,12 +51,14 @@ pub enum Action {
         scheme: String,
         folder: String,
         extent: Extent,
+        form: Writing,
     },
     /// Write the scheme and the events of a run that leads to the records of the stores in the folder `folder`. The file
     /// `scheme` has the scheme.
     Events {
         scheme: String,
         folder: String,
+        form: Writing,
     },
     /// Write the records of the transaction `id` in the stores in the folder `folder`, in the order of a run that leads
     /// to all records. The file `scheme` has the scheme.
@@ -62,6 +66,7 @@ pub enum Action {
         scheme: String,
         folder: String,
         id: String,
+        form: Writing,
     },
     /// Write the text of the documents about the topic `topic`.
     Explain {
@@ -153,6 +158,12 @@ const CUT: Argument = Argument {
     form: Form::Flag,
 };
 
+const JSON: Argument = Argument {
+    name: "json",
+    help: "Write a JSON object a line",
+    form: Form::Flag,
+};
+
 /// The subcommands, in the order of the program's help.
 const SUBCOMMANDS: &[Subcommand] = &[
     Subcommand {
@@ -171,25 +182,25 @@ const SUBCOMMANDS: &[Subcommand] = &[
         name: "show",
         about: "Write the records of a node's store, each with its place",
         notes: SHOW_NOTES,
-        arguments: &[SCHEME, DIR, NODE],
+        arguments: &[SCHEME, DIR, NODE, JSON],
     },
     Subcommand {
         name: "audit",
         about: "Find a run that leads to the records of all stores, and write the table that it leads to",
         notes: AUDIT_NOTES,
-        arguments: &[SCHEME, DIR, CUT],
+        arguments: &[SCHEME, DIR, CUT, JSON],
     },
     Subcommand {
         name: "events",
         about: "Find a run that leads to the records of all stores, and write its scheme and its events as rehearse reads them",
         notes: EVENTS_NOTES,
-        arguments: &[SCHEME, DIR],
+        arguments: &[SCHEME, DIR, JSON],
     },
     Subcommand {
         name: "trace",
         about: "Write the records of one transaction, in the order of a run that leads to the records of all stores",
         notes: TRACE_NOTES,
-        arguments: &[SCHEME, DIR, ID],
+        arguments: &[SCHEME, DIR, ID, JSON],
     },
     Subcommand {
         name: "explain",
@@ -289,16 +300,32 @@ fn value_of(alloc: Global, matches: &ArgMatches, name: &str) -> Option<String>
     String::from_str(alloc, value).ok()
 }
 
+/// In which form is to be written, by the flag `json`.
+fn form_of(matches: &ArgMatches) -> Option<Writing>
+    ensures { IfSome result (λ f. first_value (found_of matches.now) (codes "json") ≡ Some (form_word f)) }
+{
+    let value = matches.get_str("json")?;
+    if value == "true" {
+        return Some(Writing::Json);
+    }
+    if value == "false" {
+        return Some(Writing::Lines);
+    }
+    None
+}
+
 fn show_action(alloc: Global, matches: &ArgMatches) -> Option<Action>
     ensures { IfSome result (IsOf (codes "show") (first_value (found_of matches.now))) }
 {
     let scheme = value_of(alloc, matches, "SCHEME")?;
     let folder = value_of(alloc, matches, "DIR")?;
     let node = value_of(alloc, matches, "NODE")?;
+    let form = form_of(matches)?;
     Some(Action::Show {
         scheme,
         folder,
         node,
+        form,
     })
 }
 
@@ -322,10 +349,12 @@ fn audit_action(alloc: Global, matches: &ArgMatches) -> Option<Action>
     let scheme = value_of(alloc, matches, "SCHEME")?;
     let folder = value_of(alloc, matches, "DIR")?;
     let extent = extent_of(matches)?;
+    let form = form_of(matches)?;
     Some(Action::Audit {
         scheme,
         folder,
         extent,
+        form,
     })
 }
 
@@ -334,7 +363,12 @@ fn events_action(alloc: Global, matches: &ArgMatches) -> Option<Action>
 {
     let scheme = value_of(alloc, matches, "SCHEME")?;
     let folder = value_of(alloc, matches, "DIR")?;
-    Some(Action::Events { scheme, folder })
+    let form = form_of(matches)?;
+    Some(Action::Events {
+        scheme,
+        folder,
+        form,
+    })
 }
 
 fn trace_action(alloc: Global, matches: &ArgMatches) -> Option<Action>
@@ -343,7 +377,13 @@ fn trace_action(alloc: Global, matches: &ArgMatches) -> Option<Action>
     let scheme = value_of(alloc, matches, "SCHEME")?;
     let folder = value_of(alloc, matches, "DIR")?;
     let id = value_of(alloc, matches, "ID")?;
-    Some(Action::Trace { scheme, folder, id })
+    let form = form_of(matches)?;
+    Some(Action::Trace {
+        scheme,
+        folder,
+        id,
+        form,
+    })
 }
 
 fn explain_action(alloc: Global, matches: &ArgMatches) -> Option<Action>

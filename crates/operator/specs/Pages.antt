@@ -11,6 +11,7 @@ use Rattle.stores.specs.declared.fault.StoreFault.TheVariants.{Reopen, NoMemory 
 use Rattle.stores.specs.declared.node_store.NodeStore.{Ghosts}
 use Rattle.command_faults.specs.declared.fault.OpFault.{OpFault}
 use Rattle.command_faults.specs.declared.fault.OpFault.TheVariants as op_fault
+use Rattle.report.specs.declared.form.Form.{Form}
 use Rattle.operator.specs.Show.{record_lines}
 
 -- ---- the store: it is honest; what each place has; a fault waits for a reopening;
@@ -35,21 +36,21 @@ module _ {S : Type 0} (g : Ghosts S) where
     pub reopen : IsTrue (g.must_reopen old) → (fault ≡ Reopen) × (new ≡ old)
 
   -- that many records were read from the front, and their lines written, of that many bytes
-  pub record Shows (old new : S) (before after : Option (List ℕ)) (records bytes : ℕ) : Type 0 where
+  pub record Shows (form : Form) (old new : S) (before after : Option (List ℕ)) (records bytes : ℕ) : Type 0 where
     pub inputs : List Input
     pub many : length inputs ≡ records
     pub reads : Reads old new 0 inputs
-    pub size : bytes ≡ length (record_lines 0 inputs)
-    pub lines : Appends before after (record_lines 0 inputs)
+    pub size : bytes ≡ length (record_lines form 0 inputs)
+    pub lines : Appends before after (record_lines form 0 inputs)
 
 -- ---- the writer
 
 -- that many bytes were written: the first ones of the lines of the first records
-pub record IsBegun (count : ℕ) (honest : Type 0) (places : Places) (before after : Option (List ℕ)) : Type 0 where
+pub record IsBegun (form : Form) (count : ℕ) (honest : Type 0) (places : Places) (before after : Option (List ℕ)) : Type 0 where
   pub inputs : List Input
   pub are : honest → AreRecords (take (length inputs) places) inputs
-  pub within : count ≤ length (record_lines 0 inputs)
-  pub written : Appends before after (take count (record_lines 0 inputs))
+  pub within : count ≤ length (record_lines form 0 inputs)
+  pub written : Appends before after (take count (record_lines form 0 inputs))
 
 -- the fault is that of the node's store, and not that memory ran out; where all places had records, the device failed
 pub record FailsAgain (node told : Node) (fault : StoreFault) (records : ℕ) (honest : Type 0) (places : Places) : Type 0 where
@@ -58,11 +59,11 @@ pub record FailsAgain (node told : Node) (fault : StoreFault) (records : ℕ) (h
   pub device : honest → (all : List Input) → AreRecords places all → records ≤ length all → IsTrue (is_device_fault fault)
 
 -- the lines of that many records were to be written, and a fault came before the last byte
-abbrev pub FailsToWrite : OpFault → Node → ℕ → (honest : Type 0) → Places → (before after : Option (List ℕ)) → Type 0
-FailsToWrite (op_fault.Store told fault) node records honest places v w = FailsAgain node told fault records honest places × ((count : ℕ) × IsBegun count honest places v w)
-FailsToWrite op_fault.NoMemory node records honest places v w = (count : ℕ) × IsBegun count honest places v w
-FailsToWrite (op_fault.Write count) node records honest places v w = IsBegun count honest places v w
-FailsToWrite _ node records honest places v w = ⊥
+abbrev pub FailsToWrite : Form → OpFault → Node → ℕ → (honest : Type 0) → Places → (before after : Option (List ℕ)) → Type 0
+FailsToWrite form (op_fault.Store told fault) node records honest places v w = FailsAgain node told fault records honest places × ((count : ℕ) × IsBegun form count honest places v w)
+FailsToWrite form op_fault.NoMemory node records honest places v w = (count : ℕ) × IsBegun form count honest places v w
+FailsToWrite form (op_fault.Write count) node records honest places v w = IsBegun form count honest places v w
+FailsToWrite form _ node records honest places v w = ⊥
 
 -- of a text that comes after `written` bytes, the bytes up to that count were written, and not all
 pub record IsWithin (count written : ℕ) (text : List ℕ) (before after : Option (List ℕ)) : Type 0 where

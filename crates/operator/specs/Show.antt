@@ -8,21 +8,29 @@ use Rattle.stores.specs.Faults.{is_device_fault}
 use Rattle.stores.specs.Records.{Places, AreRecords, IsDamagedAt}
 use Rattle.stores.specs.declared.fault.StoreFault.{StoreFault}
 use Rattle.stores.specs.declared.fault.StoreFault.TheVariants.{Damaged, NoMemory as OutOfMemory}
+use Rattle.report.specs.declared.form.Form.{Form}
+use Rattle.report.specs.declared.form.Form.TheVariants.{Lines, Json}
 use Rattle.command_faults.specs.declared.fault.OpFault.{OpFault}
 use Rattle.command_faults.specs.declared.fault.OpFault.TheVariants as op_fault
 
--- a record after its place
-abbrev pub record_line : ℕ → Input → List ℕ
-record_line place input = decimal place ++ codes " " ++ record_text input ++ codes "\n"
+-- a record after its place, or both as JSON
+abbrev pub record_line : Form → ℕ → Input → List ℕ
+record_line Lines place input = decimal place ++ codes " " ++ record_text input ++ codes "\n"
+record_line Json place input = codes "{\"place\":" ++ decimal place ++ codes ",\"record\":" ++ record_text input ++ codes "}\n"
+
+-- the last line
+abbrev pub end_line : Form → List ℕ
+end_line Lines = codes "end\n"
+end_line Json = codes "{\"line\":\"end\"}\n"
 
 -- the lines of the records, the first of which is at that place
-abbrev pub record_lines : ℕ → List Input → List ℕ
-record_lines place [] = []
-record_lines place (input ∷ inputs) = record_line place input ++ record_lines (place + 1) inputs
+abbrev pub record_lines : Form → ℕ → List Input → List ℕ
+record_lines form place [] = []
+record_lines form place (input ∷ inputs) = record_line form place input ++ record_lines form (place + 1) inputs
 
 -- the lines of all records, and the last line
-abbrev pub shown : List Input → List ℕ
-shown inputs = record_lines 0 inputs ++ codes "end\n"
+abbrev pub shown : Form → List Input → List ℕ
+shown form inputs = record_lines form 0 inputs ++ end_line form
 
 -- the fault is that of the node's store, and not that memory ran out. Where the store is honest, a place that is
 -- told as damaged is
@@ -32,20 +40,20 @@ pub record IsToldFault (node told : Node) (fault : StoreFault) (honest : Type 0)
   pub damaged : honest → (p : ℕ) → fault ≡ Damaged p → IsDamagedAt p places
 
 -- the first bytes of what is shown were written, and not all. Where the store is honest, its records are shown
-pub record IsCutOff (count : ℕ) (honest : Type 0) (places : Places) (old new : Option (List ℕ)) : Type 0 where
+pub record IsCutOff (form : Form) (count : ℕ) (honest : Type 0) (places : Places) (old new : Option (List ℕ)) : Type 0 where
   pub inputs : List Input
   pub are : honest → AreRecords places inputs
-  pub fewer : count < length (shown inputs)
-  pub written : Appends old new (take count (shown inputs))
+  pub fewer : count < length (shown form inputs)
+  pub written : Appends old new (take count (shown form inputs))
 
 -- some of the first bytes of what is shown were written, and not all
-abbrev pub IsPartlyShown : (honest : Type 0) → Places → (old new : Option (List ℕ)) → Type 0
-IsPartlyShown honest places v w = (count : ℕ) × IsCutOff count honest places v w
+abbrev pub IsPartlyShown : Form → (honest : Type 0) → Places → (old new : Option (List ℕ)) → Type 0
+IsPartlyShown form honest places v w = (count : ℕ) × IsCutOff form count honest places v w
 
 -- a fault of the store comes before anything is written; where the store is honest, only its device's comes later too
-abbrev pub FailsToShow : OpFault → Node → (honest : Type 0) → Places → (old new : Option (List ℕ)) → Type 0
-FailsToShow (op_fault.Store told fault) node honest places v w =
-    IsToldFault node told fault honest places × (Keeps v w ⊎ ((honest → IsTrue (is_device_fault fault)) × IsPartlyShown honest places v w))
-FailsToShow op_fault.NoMemory node honest places v w = Keeps v w ⊎ IsPartlyShown honest places v w
-FailsToShow (op_fault.Write count) node honest places v w = IsCutOff count honest places v w
-FailsToShow _ node honest places v w = ⊥
+abbrev pub FailsToShow : Form → OpFault → Node → (honest : Type 0) → Places → (old new : Option (List ℕ)) → Type 0
+FailsToShow form (op_fault.Store told fault) node honest places v w =
+    IsToldFault node told fault honest places × (Keeps v w ⊎ ((honest → IsTrue (is_device_fault fault)) × IsPartlyShown form honest places v w))
+FailsToShow form op_fault.NoMemory node honest places v w = Keeps v w ⊎ IsPartlyShown form honest places v w
+FailsToShow form (op_fault.Write count) node honest places v w = IsCutOff form count honest places v w
+FailsToShow form _ node honest places v w = ⊥

@@ -1,15 +1,16 @@
 //! The command `show`: the records of one node's store, read by pages, so that one page at a time is in memory.
-ghost use Rattle.std.specs.Prelude.{◌≡◌, ◌≢◌, ◌≤◌, ◌<◌, ◌+◌, ◌-◌, ◌^◌, ◌++◌, ℕ, List, length, min, Err, IfOk, IfErr, IsTrue, OnOk, false};
+ghost use Rattle.std.specs.Prelude.{◌≡◌, ◌≢◌, ◌≤◌, ◌<◌, ◌+◌, ◌-◌, ◌^◌, ◌++◌, ℕ, List, length, min, Err, IfOk, IfErr, IsTrue, OnOk, false, decimal};
 ghost use Rattle.std.specs.Io.KnownBytes.{Appends};
 ghost use Rattle.wire.specs.declared.input.Input.{Input};
 ghost use Rattle.stores.specs.Faults.{is_device_fault, IsReadFault};
 ghost use Rattle.stores.specs.Records.{AreRecords, IsDamagedAt, page_size};
 ghost use Rattle.stores.specs.declared.fault.StoreFault.{StoreFault};
 ghost use Rattle.operator.specs.Pages.{Reads, Stops, Shows, FailsToWrite, FailsWithin};
-ghost use Rattle.operator.specs.Show.{FailsToShow, record_line, record_lines, shown};
+ghost use Rattle.operator.specs.Show.{FailsToShow, end_line, record_line, record_lines, shown};
 
 use command_faults::{OpFault, store_fault};
 use itoa::Buffer;
+use report::Form;
 use std::alloc::Global;
 use std::io::Write;
 use stores::{NodeStore, PAGE, StoreFault};
@@ -20,28 +21,62 @@ use wire::{Input, encode_input};
 /// Each record's place is below this number.
 const PLACE_LIMIT: u64 = 9_223_372_036_854_775_808;
 
-/// Adds the line of the record at that place.
-fn push_record(alloc: Global, text: &mut Vec<u8>, place: u64, input: &Input) -> Result<(), NoMemory>
-    ensures { OnOk result (text.new.items ≡ text.old.items ++ record_line place input.now) }
+/// The last line, with its newline.
+fn end_line(form: Form) -> &'static [u8]
+    ensures { result.now ≡ end_line form }
 {
-    let record = encode_input(alloc, input)?;
+    match form {
+        Form::Lines => b"end\n",
+        Form::Json => b"{\"line\":\"end\"}\n",
+    }
+}
+
+/// Adds the digits of the place, and the text after them.
+fn push_place(text: &mut Vec<u8>, place: u64, after: &[u8]) -> Result<(), NoMemory>
+    ensures { OnOk result (text.new.items ≡ text.old.items ++ decimal place ++ after.now) }
+{
     let mut digits = Buffer::new();
     text.extend_from_slice(digits.format(place).as_bytes())?;
-    text.extend_from_slice(b" ")?;
-    text.extend_from_slice(record.as_slice())?;
-    text.extend_from_slice(b"\n")?;
+    text.extend_from_slice(after)?;
+    Ok(())
+}
+
+/// Adds the line of the record at that place.
+fn push_record(
+    alloc: Global,
+    text: &mut Vec<u8>,
+    form: Form,
+    place: u64,
+    input: &Input,
+) -> Result<(), NoMemory>
+    ensures { OnOk result (text.new.items ≡ text.old.items ++ record_line form place input.now) }
+{
+    let record = encode_input(alloc, input)?;
+    match form {
+        Form::Lines => {
+            push_place(text, place, b" ")?;
+            text.extend_from_slice(record.as_slice())?;
+            text.extend_from_slice(b"\n")?;
+        }
+        Form::Json => {
+            text.extend_from_slice(b"{\"place\":")?;
+            push_place(text, place, b",\"record\":")?;
+            text.extend_from_slice(record.as_slice())?;
+            text.extend_from_slice(b"}\n")?;
+        }
+    }
     Ok(())
 }
 
 /// The lines of the records, the first of which is at place `first`.
-fn lines_of(alloc: Global, first: u64, inputs: &[Input]) -> Result<Vec<u8>, NoMemory>
+fn lines_of(alloc: Global, form: Form, first: u64, inputs: &[Input]) -> Result<Vec<u8>, NoMemory>
     requires { first + length inputs.now < 2 ^ 64 }
-    ensures { IfOk result (λ text. text.items ≡ record_lines first inputs.now) }
+    ensures { IfOk result (λ text. text.items ≡ record_lines form first inputs.now) }
 {
     let mut text = Vec::new(alloc);
     let mut place = first;
     for input in inputs {
-        push_record(alloc, &mut text, place, input)?;
+        push_record(alloc, &mut text, form, place, input)?;
         place += 1;
     }
     Ok(text)
@@ -82,12 +117,13 @@ fn count_records<S: NodeStore>(store: &mut S) -> Result<u64, StoreFault>
 fn page_text<S: NodeStore>(
     alloc: Global,
     store: &mut S,
+    form: Form,
     place: u64,
     count: u64,
 ) -> Result<Vec<u8>, StoreFault>
     requires { place < count }
     ensures ok { IfOk result (λ text. (page : List Input) × (length page ≡ min page_size (count - place))
-        × (text.items ≡ record_lines place page)
+        × (text.items ≡ record_lines form place page)
         × Reads S.NodeStore store.old store.new place page) }
     ensures runs { OnOk result (S.must_reopen store.new ≡ false) }
     ensures err { IfErr result (λ fault. Stops S.NodeStore store.old store.new fault) }
@@ -100,7 +136,7 @@ fn page_text<S: NodeStore>(
     if page.len() < few {
         return Err(StoreFault::Damaged(place + page.len() as u64));
     }
-    let text = lines_of(alloc, place, &page.as_slice()[..few])?;
+    let text = lines_of(alloc, form, place, &page.as_slice()[..few])?;
     Ok(text)
 }
 
@@ -132,13 +168,14 @@ fn write_records<S: NodeStore, W: Write>(
     node: Node,
     store: &mut S,
     writer: &mut W,
+    form: Form,
     count: u64,
 ) -> Result<u64, OpFault>
     requires { S.must_reopen store.old ≡ false }
-    ensures ok { IfOk result (λ written. Shows S.NodeStore store.old store.new (W.contents writer.old)
+    ensures ok { IfOk result (λ written. Shows S.NodeStore form store.old store.new (W.contents writer.old)
         (W.contents writer.new) count written) }
     ensures err { IfErr result
-        (λ e. FailsToWrite e node count (S.is_honest store.new) (S.content store.old) (W.contents writer.old)
+        (λ e. FailsToWrite form e node count (S.is_honest store.new) (S.content store.old) (W.contents writer.old)
         (W.contents writer.new)) }
     ensures stops { IfErr result (λ e. (fault : StoreFault) × Stops S.NodeStore store.old store.new fault
         × ((f : StoreFault) → e ≡ OpFault.Store node f → f ≡ fault)) }
@@ -146,7 +183,7 @@ fn write_records<S: NodeStore, W: Write>(
     let mut place = 0;
     let mut written = 0;
     while place < count {
-        let text = match page_text(alloc, store, place, count) {
+        let text = match page_text(alloc, store, form, place, count) {
             Ok(text) => text,
             Err(fault) => return Err(store_fault(node, fault)),
         };
@@ -156,7 +193,8 @@ fn write_records<S: NodeStore, W: Write>(
     Ok(written)
 }
 
-/// Writes the records of the node's store, each as place, space and text, and then `end`.
+/// Writes the records of the node's store, each as place, space and text, and then `end`. As JSON, each line is an
+/// object: of a record with `place` and `record`, and the last one `{"line":"end"}`.
 ///
 /// It goes over the store twice, and holds one page of records at a time: first it reads all of them, so that
 /// nothing is written of a store with a damaged record; then it reads them again and writes their lines.
@@ -171,11 +209,12 @@ pub fn show<S: NodeStore, W: Write>(
     node: Node,
     store: &mut S,
     writer: &mut W,
+    form: Form,
 ) -> Result<(), OpFault>
     ensures ok { OnOk result ((inputs : List Input) × (S.is_honest store.new → AreRecords (S.content store.old) inputs)
-        × Appends (W.contents writer.old) (W.contents writer.new) (shown inputs)) }
+        × Appends (W.contents writer.old) (W.contents writer.new) (shown form inputs)) }
     ensures err { IfErr result
-        (λ e. FailsToShow e node (S.is_honest store.new) (S.content store.old) (W.contents writer.old)
+        (λ e. FailsToShow form e node (S.is_honest store.new) (S.content store.old) (W.contents writer.old)
         (W.contents writer.new)) }
     ensures reopen { IsTrue (S.must_reopen store.old) → (result ≡ Err (OpFault.Store node StoreFault.Reopen))
         × (store.new ≡ store.old) }
@@ -190,7 +229,7 @@ pub fn show<S: NodeStore, W: Write>(
         Ok(count) => count,
         Err(fault) => return Err(store_fault(node, fault)),
     };
-    let written = write_records(alloc, node, store, writer, count)?;
-    write_more(writer, written, b"end\n")?;
+    let written = write_records(alloc, node, store, writer, form, count)?;
+    write_more(writer, written, end_line(form))?;
     Ok(())
 }

@@ -30,6 +30,6 @@ returns-clause-ok g c =
     let counted : c.min-few.result ≡ min 256 (c.args.count - c.args.place) = omega arith in (
       take few page.items,
       length-take-le few page.items within ∙ counted,
-      c.in_ok-text.ensures ∙ ap (λ l. record_lines c.args.place (take few l)) c.as_slice.ensures.value,
+      c.in_ok-text.ensures ∙ ap (λ l. record_lines c.args.form c.args.place (take few l)) c.as_slice.ensures.value,
       page-reads s c.args.store.now c.load_page.new.self c.args.place few page most within c.in_ok-page.ensures.loads c.in_ok-page.ensures.count,
     )

@@ -22,11 +22,11 @@ returns-in_err-written-clause-err g c =
     let so_far = c.loop-place.invariant.shows in
     let page = c.in-Ok.ensures.ok in
     let text = c.as_slice.result.now in
-    let is : text ≡ record_lines c.loop-place.place page.0 = c.as_slice.ensures.value ∙ page.2 in
-    passed-on (λ (e : OpFault). FailsToWrite e c.args.node c.args.count (s.is_honest new) (s.content old) v w) e c.from_residual.result c.from_residual.ensures.1
-    (fails-writing e c.args.node c.args.count c.loop-place.written (s.is_honest new) (s.content old) text v x w c.in_err-written.ensures.err
-    (begun-more s old c.loop-place.store new v x w c.loop-place.place c.loop-place.written page.0 text so_far is page.3)
-    (begun-here s old c.loop-place.store new v x w c.loop-place.place c.loop-place.written so_far page.3.honest))
+    let is : text ≡ record_lines c.args.form c.loop-place.place page.0 = c.as_slice.ensures.value ∙ page.2 in
+    passed-on (λ (e : OpFault). FailsToWrite c.args.form e c.args.node c.args.count (s.is_honest new) (s.content old) v w) e c.from_residual.result c.from_residual.ensures.1
+    (fails-writing c.args.form e c.args.node c.args.count c.loop-place.written (s.is_honest new) (s.content old) text v x w c.in_err-written.ensures.err
+    (begun-more s c.args.form old c.loop-place.store new v x w c.loop-place.place c.loop-place.written page.0 text so_far is page.3)
+    (begun-here s c.args.form old c.loop-place.store new v x w c.loop-place.place c.loop-place.written so_far page.3.honest))
 
 pub returns-in_err-written-clause-stops : goal.returns-in_err-written-clause-stops
 returns-in_err-written-clause-stops g c =
@@ -39,7 +39,7 @@ returns-in_err-written-clause-stops g c =
     let e = c.in_err-written.field-0.0 in
     let so_far = c.loop-place.invariant.shows in
     let page = c.in-Ok.ensures.ok in
-    let reads = both s old c.loop-place.store new v x c.loop-place.place c.loop-place.written page.0 so_far page.3 in
+    let reads = both s c.args.form old c.loop-place.store new v x c.loop-place.place c.loop-place.written page.0 so_far page.3 in
     passed-on (λ (e : OpFault). (fault : StoreFault) × Stops s old new fault × ((f : StoreFault) → e ≡ Store c.args.node f → f ≡ fault)) e c.from_residual.result c.from_residual.ensures.1 (
       NoMemory,
       stops-here s old new 0 (so_far.inputs ++ page.0) NoMemory reads (λ w. true-false (s.must_reopen old) w c.requires) tt refl,
@@ -54,11 +54,11 @@ loop-place-preserved g c =
     let w = g.W.Write.contents c.write_more.new.writer in
     let page = c.in-Ok.ensures.ok in
     let text = c.as_slice.result.now in
-    let is : text ≡ record_lines c.loop-place.place page.0 = c.as_slice.ensures.value ∙ page.2 in
+    let is : text ≡ record_lines c.args.form c.loop-place.place page.0 = c.as_slice.ensures.value ∙ page.2 in
     let few : length page.0 ≡ c.min-place.result = omega (arith, page.1) in
     let added = c.in_ok-written.ensures.ok in
     record {
-      shows = shows-more s c.args.store.now c.loop-place.store c.page_text.new.store v x w c.loop-place.place c.loop-place.written c.min-place.result page.0 text c.loop-place.invariant.shows few is page.3
+      shows = shows-more s c.args.form c.args.store.now c.loop-place.store c.page_text.new.store v x w c.loop-place.place c.loop-place.written c.min-place.result page.0 text c.loop-place.invariant.shows few is page.3
           c.in_ok-written.written added.0 added.1;
       runs = c.in-Ok.ensures.runs;
       within = omega arith;

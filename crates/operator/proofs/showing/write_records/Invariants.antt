@@ -4,7 +4,7 @@ use Rattle.operator.proofs.showing.write_records.Given as goal
 
 abbrev pub invariant-loop-place : goal.invariant-loop-place
 invariant-loop-place g l = record {
-  shows : Shows g.S.NodeStore l.fn.store l.store (g.W.Write.contents l.fn.writer) (g.W.Write.contents l.writer) l.place l.written;
+  shows : Shows g.S.NodeStore l.form l.fn.store l.store (g.W.Write.contents l.fn.writer) (g.W.Write.contents l.writer) l.place l.written;
   runs : g.S.NodeStore.must_reopen l.store ≡ false;
   within : l.place ≤ l.count;
 }

@@ -5,5 +5,6 @@ pub mod LinesOfHoldings
 pub mod DueTransfers
 pub mod TonnesAddUp
 pub mod Texts
+mod Objects
 pub mod CountedUnits
 mod SafeTables

@@ -7,6 +7,7 @@ use Rattle.protocol.specs.Headline.{IsSafe}
 use Rattle.protocol.specs.History.{Entry}
 use Rattle.protocol.specs.World.{World, opening, run}
 use Rattle.protocol.specs.declared.event.WorldEvent.{WorldEvent}
+use Rattle.report.specs.declared.form.Form.{Form}
 use Rattle.report.specs.Table.{IsSafeTable, IsTable}
 use Rattle.report.proofs.CountedUnits.{Fits, Sums, counted}
 
@@ -14,9 +15,9 @@ use Rattle.report.proofs.CountedUnits.{Fits, Sums, counted}
 abbrev AreSafe : (World → Node → List Entry) → Type 0
 AreSafe of_world = (scheme : Scheme) (events : List WorldEvent) → IsSafe scheme (of_world (run (opening scheme) events))
 
-pub safe_table : Sums → Fits → AreSafe live_of → AreSafe committed_of → (scheme : Scheme) (events : List WorldEvent) (w : World) (text : List ℕ) → w ≡ run (opening scheme) events → IsTable w text → IsSafeTable scheme events text
-safe_table sums fits live committed scheme events w text led is =
-    let there = subst (λ (v : World). IsTable v text) led is in
+pub safe_table : (form : Form) → Sums → Fits → AreSafe live_of → AreSafe committed_of → (scheme : Scheme) (events : List WorldEvent) (w : World) (text : List ℕ) → w ≡ run (opening scheme) events → IsTable form w text → IsSafeTable form scheme events text
+safe_table form sums fits live committed scheme events w text led is =
+    let there = subst (λ (v : World). IsTable form v text) led is in
     record {
       table = there;
       counted = counted sums fits scheme events there.stocks there.are;

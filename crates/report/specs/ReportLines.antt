@@ -1,4 +1,4 @@
--- The lines of a report: one for each event's outcome, and those of a table.
+-- The lines of a report: one for each event's outcome, and those of a table, as words or as JSON objects.
 use Rattle.std.specs.Prelude.{ℕ, min, List, ◌++◌, Option, Some, None, decimal, codes, sum_by}
 use Rattle.std.specs.List.{flat_map}
 use Rattle.units.specs.Code.{code_text}
@@ -18,6 +18,8 @@ use Rattle.protocol.specs.Table.{ProposedTransfer}
 use Rattle.protocol.specs.declared.event.Outcome.{Outcome}
 use Rattle.protocol.specs.declared.event.Outcome.TheVariants.{Recorded, Repeat, Late, Refused, Done, NotPossible}
 use Rattle.report.specs.NumberOfUnits.{due_units, held_units}
+use Rattle.report.specs.declared.form.Form.{Form}
+use Rattle.report.specs.declared.form.Form.TheVariants.{Lines, Json}
 use Rattle.report.specs.declared.transactions.TransactionRow.{TransactionRow}
 
 -- ---- outcomes
@@ -52,12 +54,22 @@ abbrev pub status_or_none : Option Status → List ℕ
 status_or_none (Some status) = status_text status
 status_or_none None = codes "none"
 
-abbrev pub transaction_line : TransactionRow → List ℕ
-transaction_line s =
+-- the same as a JSON value
+abbrev pub status_or_null : Option Status → List ℕ
+status_or_null (Some status) = codes "\"" ++ status_text status ++ codes "\""
+status_or_null None = codes "null"
+
+abbrev pub transaction_line : Form → TransactionRow → List ℕ
+transaction_line Lines s =
     codes "transaction " ++ id_text s.id
     ++ codes " " ++ code_text s.id.code ++ codes " " ++ status_or_none s.at_initiator
     ++ codes " ITL " ++ status_or_none s.at_log
     ++ codes " " ++ code_text s.acquirer ++ codes " " ++ status_or_none s.at_acquirer ++ codes "\n"
+transaction_line Json s =
+    codes "{\"acquirer\":\"" ++ code_text s.acquirer ++ codes "\",\"acquirer_status\":" ++ status_or_null s.at_acquirer
+    ++ codes ",\"initiator\":\"" ++ code_text s.id.code ++ codes "\",\"initiator_status\":" ++ status_or_null s.at_initiator
+    ++ codes ",\"line\":\"transaction\",\"log_status\":" ++ status_or_null s.at_log
+    ++ codes ",\"transaction\":\"" ++ id_text s.id ++ codes "\"}\n"
 
 -- ---- numbers of units
 
@@ -88,32 +100,48 @@ owed_shown proposals = shown (sum_by due_units proposals)
 
 -- ---- what a registry holds: its numbers of units, and each line of its holdings
 
-abbrev pub registry_line : Code → ℕ → ℕ → List ℕ
-registry_line code held free =
+abbrev pub registry_line : Form → Code → ℕ → ℕ → List ℕ
+registry_line Lines code held free =
     codes "registry " ++ code_text code ++ codes " held " ++ decimal held ++ codes " spendable " ++ decimal free ++ codes "\n"
+registry_line Json code held free =
+    codes "{\"held\":" ++ decimal held ++ codes ",\"line\":\"registry\",\"registry\":\"" ++ code_text code ++ codes "\",\"spendable\":" ++ decimal free ++ codes "}\n"
 
 -- the transaction that reserves the units, or free
 abbrev pub reserving_text : Option TransactionId → List ℕ
 reserving_text (Some id) = id_text id
 reserving_text None = codes "free"
 
-abbrev pub holding_line : Code → HeldBlock → List ℕ
-holding_line code l =
-    codes "holds " ++ code_text code ++ codes " " ++ decimal l.account ++ codes " " ++ raw_text l.block.raw ++ codes " " ++ reserving_text l.reserving ++ codes "\n"
+-- the same as a JSON value
+abbrev pub reserving_or_null : Option TransactionId → List ℕ
+reserving_or_null (Some id) = codes "\"" ++ id_text id ++ codes "\""
+reserving_or_null None = codes "null"
 
-abbrev pub registry_lines : Code → List HeldBlock → List ℕ
-registry_lines code lines = registry_line code (held_shown lines) (free_shown lines) ++ flat_map (holding_line code) lines
+abbrev pub holding_line : Form → Code → HeldBlock → List ℕ
+holding_line Lines code l =
+    codes "holds " ++ code_text code ++ codes " " ++ decimal l.account ++ codes " " ++ raw_text l.block.raw ++ codes " " ++ reserving_text l.reserving ++ codes "\n"
+holding_line Json code l =
+    codes "{\"account\":" ++ decimal l.account ++ codes ",\"line\":\"holds\",\"registry\":\"" ++ code_text code ++ codes "\",\"transaction\":" ++ reserving_or_null l.reserving ++ codes ",\"units\":\""
+    ++ raw_text l.block.raw ++ codes "\"}\n"
+
+abbrev pub registry_lines : Form → Code → List HeldBlock → List ℕ
+registry_lines form code lines = registry_line form code (held_shown lines) (free_shown lines) ++ flat_map (holding_line form code) lines
 
 -- ---- what is owed: the number of units, and each block of each transfer; then the report's end
 
-abbrev pub due_line : TransactionId → RawBlock → List ℕ
-due_line id block = codes "due " ++ id_text id ++ codes " " ++ raw_text block ++ codes "\n"
+abbrev pub due_line : Form → TransactionId → RawBlock → List ℕ
+due_line Lines id block = codes "due " ++ id_text id ++ codes " " ++ raw_text block ++ codes "\n"
+due_line Json id block = codes "{\"line\":\"due\",\"transaction\":\"" ++ id_text id ++ codes "\",\"units\":\"" ++ raw_text block ++ codes "\"}\n"
 
-abbrev pub due_lines : ProposedTransfer → List ℕ
-due_lines p = flat_map (due_line p.id) p.content.units
+abbrev pub due_lines : Form → ProposedTransfer → List ℕ
+due_lines form p = flat_map (due_line form p.id) p.content.units
 
-abbrev pub owed_line : List ProposedTransfer → List ℕ
-owed_line proposals = codes "owed " ++ decimal (owed_shown proposals) ++ codes "\n"
+abbrev pub owed_line : Form → List ProposedTransfer → List ℕ
+owed_line Lines proposals = codes "owed " ++ decimal (owed_shown proposals) ++ codes "\n"
+owed_line Json proposals = codes "{\"line\":\"owed\",\"owed\":" ++ decimal (owed_shown proposals) ++ codes "}\n"
 
-abbrev pub owed_lines : List ProposedTransfer → List ℕ
-owed_lines proposals = owed_line proposals ++ flat_map due_lines proposals ++ codes "end\n"
+abbrev pub end_line : Form → List ℕ
+end_line Lines = codes "end\n"
+end_line Json = codes "{\"line\":\"end\"}\n"
+
+abbrev pub owed_lines : Form → List ProposedTransfer → List ℕ
+owed_lines form proposals = owed_line form proposals ++ flat_map (due_lines form) proposals ++ end_line form

@@ -9,6 +9,7 @@ use Rattle.protocol.specs.Table.{ProposedTransfer, due, transactions}
 use Rattle.protocol.specs.World.{World, opening, run}
 use Rattle.protocol.specs.declared.event.WorldEvent.{WorldEvent}
 use Rattle.report.specs.NumberOfUnits.{allotted_units}
+use Rattle.report.specs.declared.form.Form.{Form}
 use Rattle.world.specs.Stocks.{AreStocks}
 use Rattle.world.specs.declared.views.Stock.{Stock}
 use Rattle.report.specs.ReportLines.{held_shown, owed_lines, owed_shown, registry_lines, transaction_line}
@@ -25,17 +26,17 @@ row_of w p = record {
 }
 
 -- a line for each transfer, by code and then by number
-abbrev pub transaction_lines : World → List ℕ
-transaction_lines w = flat_map (λ p. transaction_line (row_of w p)) (transactions w)
+abbrev pub transaction_lines : Form → World → List ℕ
+transaction_lines form w = flat_map (λ p. transaction_line form (row_of w p)) (transactions w)
 
-abbrev pub stock_lines : Stock → List ℕ
-stock_lines s = registry_lines s.code s.lines
+abbrev pub stock_lines : Form → Stock → List ℕ
+stock_lines form s = registry_lines form s.code s.lines
 
 -- the transfers, what each registry holds, and what is owed
-pub record IsTable (w : World) (text : List ℕ) : Type 0 where
+pub record IsTable (form : Form) (w : World) (text : List ℕ) : Type 0 where
   pub stocks : List Stock
   pub are : AreStocks w w.scheme.members stocks
-  pub spelled : text ≡ transaction_lines w ++ (flat_map stock_lines stocks ++ owed_lines (due w))
+  pub spelled : text ≡ transaction_lines form w ++ (flat_map (stock_lines form) stocks ++ owed_lines form (due w))
 
 -- the numbers after `held` of all registries and the one after `owed` are together the number of units that the
 -- scheme allots
@@ -44,8 +45,8 @@ AddUp scheme stocks owing = sum_by (λ s. held_shown s.lines) stocks + owed_show
 
 -- the text is the table of the world that the events lead to from the opening one. It counts every tonne once; and by
 -- journals with their tails, and by committed journals, no tonne is in two places and none is lost
-pub record IsSafeTable (scheme : Scheme) (events : List WorldEvent) (text : List ℕ) : Type 0 where
-  pub table : IsTable (run (opening scheme) events) text
+pub record IsSafeTable (form : Form) (scheme : Scheme) (events : List WorldEvent) (text : List ℕ) : Type 0 where
+  pub table : IsTable form (run (opening scheme) events) text
   pub counted : AddUp scheme table.stocks (due (run (opening scheme) events))
   pub live : IsSafe scheme (live_of (run (opening scheme) events))
   pub committed : IsSafe scheme (committed_of (run (opening scheme) events))

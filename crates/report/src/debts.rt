@@ -4,8 +4,9 @@ ghost use Rattle.std.specs.List.{flat_map};
 ghost use Rattle.status.specs.Content.{raws};
 ghost use Rattle.report.specs.NumberOfUnits.{units_of};
 ghost use Rattle.world.specs.Transfers.{transfer_of};
-ghost use Rattle.report.specs.ReportLines.{due_line, due_lines, owed_line, owed_lines, owed_shown, shown};
+ghost use Rattle.report.specs.ReportLines.{due_line, due_lines, end_line, owed_line, owed_lines, owed_shown, shown};
 
+use crate::form::Form;
 use status::TransactionId;
 use std::fmt::Write;
 use units::{Block, NoMemory};
@@ -33,38 +34,84 @@ fn owed_in(transfers: &[ProposedTransfer<'_>]) -> u64
     count
 }
 
-fn push_blocks(text: &mut String, id: TransactionId, blocks: &[Block]) -> Result<(), NoMemory>
-    ensures { OnOk result (string_bytes text.new ≡ string_bytes text.old ++ flat_map (due_line id) (raws blocks.now)) }
+/// Adds the line of a block that the transfer of that identifier owes.
+fn push_block(
+    text: &mut String,
+    id: TransactionId,
+    block: Block,
+    form: Form,
+) -> Result<(), NoMemory>
+    ensures { OnOk result (string_bytes text.new ≡ string_bytes text.old ++ due_line form id block.raw) }
 {
-    for block in blocks {
-        writeln!(text, "due {id} {block}")?;
+    match form {
+        Form::Lines => writeln!(text, "due {id} {block}")?,
+        Form::Json => writeln!(
+            text,
+            "{{\"line\":\"due\",\"transaction\":\"{id}\",\"units\":\"{block}\"}}"
+        )?,
     }
     Ok(())
 }
 
-fn push_due(text: &mut String, transfer: ProposedTransfer<'_>) -> Result<(), NoMemory>
-    ensures { OnOk result (string_bytes text.new ≡ string_bytes text.old ++ due_lines (transfer_of transfer.entry)) }
+fn push_blocks(
+    text: &mut String,
+    id: TransactionId,
+    blocks: &[Block],
+    form: Form,
+) -> Result<(), NoMemory>
+    ensures { OnOk result (string_bytes text.new ≡ string_bytes text.old ++ flat_map (due_line form id) (raws blocks.now)) }
 {
-    push_blocks(text, transfer.id, transfer.content.units())
+    for block in blocks {
+        push_block(text, id, *block, form)?;
+    }
+    Ok(())
 }
 
-fn push_each_due(text: &mut String, transfers: &[ProposedTransfer<'_>]) -> Result<(), NoMemory>
+fn push_due(text: &mut String, transfer: ProposedTransfer<'_>, form: Form) -> Result<(), NoMemory>
+    ensures { OnOk result (string_bytes text.new ≡ string_bytes text.old ++ due_lines form (transfer_of transfer.entry)) }
+{
+    push_blocks(text, transfer.id, transfer.content.units(), form)
+}
+
+fn push_each_due(
+    text: &mut String,
+    transfers: &[ProposedTransfer<'_>],
+    form: Form,
+) -> Result<(), NoMemory>
     ensures { OnOk result (string_bytes text.new ≡ string_bytes text.old ++
-        flat_map due_lines (map transfer_of transfers.now)) }
+        flat_map (due_lines form) (map transfer_of transfers.now)) }
 {
     for transfer in transfers {
-        push_due(text, *transfer)?;
+        push_due(text, *transfer, form)?;
     }
     Ok(())
 }
 
 /// Adds the line of the number of units.
-fn push_number(text: &mut String, transfers: &[ProposedTransfer<'_>]) -> Result<(), NoMemory>
+fn push_number(
+    text: &mut String,
+    transfers: &[ProposedTransfer<'_>],
+    form: Form,
+) -> Result<(), NoMemory>
     ensures { OnOk result
-        (string_bytes text.new ≡ string_bytes text.old ++ owed_line (map transfer_of transfers.now)) }
+        (string_bytes text.new ≡ string_bytes text.old ++ owed_line form (map transfer_of transfers.now)) }
 {
     let owed = owed_in(transfers);
-    writeln!(text, "owed {owed}")?;
+    match form {
+        Form::Lines => writeln!(text, "owed {owed}")?,
+        Form::Json => writeln!(text, "{{\"line\":\"owed\",\"owed\":{owed}}}")?,
+    }
+    Ok(())
+}
+
+/// Adds the report's last line.
+fn push_end(text: &mut String, form: Form) -> Result<(), NoMemory>
+    ensures { OnOk result (string_bytes text.new ≡ string_bytes text.old ++ end_line form) }
+{
+    match form {
+        Form::Lines => writeln!(text, "end")?,
+        Form::Json => writeln!(text, "{{\"line\":\"end\"}}")?,
+    }
     Ok(())
 }
 
@@ -77,12 +124,12 @@ fn push_number(text: &mut String, transfers: &[ProposedTransfer<'_>]) -> Result<
 pub(crate) fn push_owed(
     text: &mut String,
     transfers: &[ProposedTransfer<'_>],
+    form: Form,
 ) -> Result<(), NoMemory>
     ensures { OnOk result
-        (string_bytes text.new ≡ string_bytes text.old ++ owed_lines (map transfer_of transfers.now)) }
+        (string_bytes text.new ≡ string_bytes text.old ++ owed_lines form (map transfer_of transfers.now)) }
 {
-    push_number(text, transfers)?;
-    push_each_due(text, transfers)?;
-    writeln!(text, "end")?;
-    Ok(())
+    push_number(text, transfers, form)?;
+    push_each_due(text, transfers, form)?;
+    push_end(text, form)
 }

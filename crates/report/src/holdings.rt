@@ -2,7 +2,9 @@
 ghost use Rattle.std.specs.Prelude.{◌≡◌, ◌++◌, OnOk, string_bytes};
 ghost use Rattle.std.specs.List.{flat_map};
 ghost use Rattle.report.specs.ReportLines.{free_shown, free_units, held_shown, holding_line, registry_line, registry_lines};
+ghost use Rattle.report.specs.declared.form.Form.TheVariants.{Json, Lines};
 
+use crate::form::Form;
 use registry_core::accounts::HeldBlock;
 use status::TransactionId;
 use std::fmt;
@@ -22,6 +24,23 @@ impl fmt::Display for ReservingText {
         match self.0 {
             Some(id) => write!(f, "{id}"),
             None => write!(f, "free"),
+        }
+    }
+}
+
+#[derive(Drop)]
+struct ReservingOrNull(Option<TransactionId>);
+
+impl fmt::Display for ReservingOrNull {
+    ghost use Rattle.std.specs.Prelude.{Some};
+    ghost use Rattle.report.specs.ReportLines.{reserving_or_null};
+
+    ghost output = { λ t. Some (reserving_or_null t.0) };
+
+    fn fmt<W: fmt::Write>(&self, f: &mut fmt::Formatter<W>) -> fmt::Result {
+        match self.0 {
+            Some(id) => write!(f, "\"{id}\""),
+            None => write!(f, "null"),
         }
     }
 }
@@ -59,15 +78,27 @@ fn free_in(lines: &[HeldBlock]) -> u64
 }
 
 /// Adds the line of a registry's numbers of units.
-fn push_numbers(text: &mut String, code: Code, held: u64, free: u64) -> Result<(), NoMemory>
-    ensures { OnOk result (string_bytes text.new ≡ string_bytes text.old ++ registry_line code held free) }
+fn push_numbers(
+    text: &mut String,
+    code: Code,
+    held: u64,
+    free: u64,
+    form: Form,
+) -> Result<(), NoMemory>
+    ensures { OnOk result (string_bytes text.new ≡ string_bytes text.old ++ registry_line form code held free) }
 {
-    writeln!(text, "registry {code} held {held} spendable {free}")?;
+    match form {
+        Form::Lines => writeln!(text, "registry {code} held {held} spendable {free}")?,
+        Form::Json => writeln!(
+            text,
+            "{{\"held\":{held},\"line\":\"registry\",\"registry\":\"{code}\",\"spendable\":{free}}}"
+        )?,
+    }
     Ok(())
 }
 
-fn push_line(text: &mut String, code: Code, line: &HeldBlock) -> Result<(), NoMemory>
-    ensures { OnOk result (string_bytes text.new ≡ string_bytes text.old ++ holding_line code line.now) }
+fn push_words(text: &mut String, code: Code, line: &HeldBlock) -> Result<(), NoMemory>
+    ensures { OnOk result (string_bytes text.new ≡ string_bytes text.old ++ holding_line Lines code line.now) }
 {
     let account = line.account;
     let block = line.block;
@@ -76,11 +107,38 @@ fn push_line(text: &mut String, code: Code, line: &HeldBlock) -> Result<(), NoMe
     Ok(())
 }
 
-fn push_lines(text: &mut String, code: Code, lines: &[HeldBlock]) -> Result<(), NoMemory>
-    ensures { OnOk result (string_bytes text.new ≡ string_bytes text.old ++ flat_map (holding_line code) lines.now) }
+fn push_object(text: &mut String, code: Code, line: &HeldBlock) -> Result<(), NoMemory>
+    ensures { OnOk result (string_bytes text.new ≡ string_bytes text.old ++ holding_line Json code line.now) }
+{
+    let account = line.account;
+    let block = line.block;
+    let reserving = ReservingOrNull(line.reserving);
+    writeln!(
+        text,
+        "{{\"account\":{account},\"line\":\"holds\",\"registry\":\"{code}\",\"transaction\":{reserving},\"units\":\"{block}\"}}"
+    )?;
+    Ok(())
+}
+
+fn push_line(text: &mut String, code: Code, line: &HeldBlock, form: Form) -> Result<(), NoMemory>
+    ensures { OnOk result (string_bytes text.new ≡ string_bytes text.old ++ holding_line form code line.now) }
+{
+    match form {
+        Form::Lines => push_words(text, code, line),
+        Form::Json => push_object(text, code, line),
+    }
+}
+
+fn push_lines(
+    text: &mut String,
+    code: Code,
+    lines: &[HeldBlock],
+    form: Form,
+) -> Result<(), NoMemory>
+    ensures { OnOk result (string_bytes text.new ≡ string_bytes text.old ++ flat_map (holding_line form code) lines.now) }
 {
     for line in lines {
-        push_line(text, code, line)?;
+        push_line(text, code, line, form)?;
     }
     Ok(())
 }
@@ -95,9 +153,10 @@ pub(crate) fn push_registry(
     text: &mut String,
     code: Code,
     lines: &[HeldBlock],
+    form: Form,
 ) -> Result<(), NoMemory>
-    ensures { OnOk result (string_bytes text.new ≡ string_bytes text.old ++ registry_lines code lines.now) }
+    ensures { OnOk result (string_bytes text.new ≡ string_bytes text.old ++ registry_lines form code lines.now) }
 {
-    push_numbers(text, code, held_in(lines), free_in(lines))?;
-    push_lines(text, code, lines)
+    push_numbers(text, code, held_in(lines), free_in(lines), form)?;
+    push_lines(text, code, lines, form)
 }

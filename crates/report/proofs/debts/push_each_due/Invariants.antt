@@ -5,4 +5,4 @@ use Rattle.report.specs.ReportLines.{due_lines}
 use Rattle.report.proofs.debts.push_each_due.Given as goal
 
 abbrev pub invariant-loop-transfer : goal.invariant-loop-transfer
-invariant-loop-transfer l = string_bytes l.text ≡ string_bytes l.fn.text ++ flat_map due_lines (map transfer_of (take l.transfer-index l.transfers))
+invariant-loop-transfer l = string_bytes l.text ≡ string_bytes l.fn.text ++ flat_map (due_lines l.form) (map transfer_of (take l.transfer-index l.transfers))

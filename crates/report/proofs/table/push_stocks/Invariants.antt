@@ -4,4 +4,4 @@ use Rattle.report.specs.Table.{stock_lines}
 use Rattle.report.proofs.table.push_stocks.Given as goal
 
 abbrev pub invariant-loop-stock : goal.invariant-loop-stock
-invariant-loop-stock l = string_bytes l.text ≡ string_bytes l.fn.text ++ flat_map stock_lines (take l.stock-index l.stocks)
+invariant-loop-stock l = string_bytes l.text ≡ string_bytes l.fn.text ++ flat_map (stock_lines l.form) (take l.stock-index l.stocks)

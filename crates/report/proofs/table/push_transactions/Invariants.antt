@@ -6,4 +6,4 @@ use Rattle.report.specs.Table.{row_of}
 use Rattle.report.proofs.table.push_transactions.Given as goal
 
 abbrev pub invariant-loop-transfer : goal.invariant-loop-transfer
-invariant-loop-transfer l = string_bytes l.text ≡ string_bytes l.fn.text ++ flat_map (λ p. transaction_line (row_of l.world p)) (map transfer_of (take l.transfer-index l.transfer-items))
+invariant-loop-transfer l = string_bytes l.text ≡ string_bytes l.fn.text ++ flat_map (λ p. transaction_line l.form (row_of l.world p)) (map transfer_of (take l.transfer-index l.transfer-items))

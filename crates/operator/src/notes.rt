@@ -49,7 +49,10 @@ docs/FORMATS.md describes schemes, events and charts.";
 /// The end of the help of `show`.
 pub(crate) const SHOW_NOTES: &str =
     "The store of a node is the file DIR/NODE.db. A missing store is made, and is empty. A store of format 1 is migrated
-to format 2, which needs room for twice its size beside it.
+to format 2, which needs room for twice its size beside it. With --json each line is an object, the last one too:
+
+  {\"place\":0,\"record\":{\"account\":8,\"input\":\"open\",\"v\":2}}
+  {\"line\":\"end\"}
 
 Example:
   kyoto-link show scheme.json stores NZ
@@ -75,6 +78,8 @@ first of them waits for:
   left JP 1 2
   waits JP 1 Completed NZ1 from ITL
 
+With --json each line is an object, whose key line has the line's first word.
+
 Example:
   kyoto-link audit scheme.json stores
 
@@ -93,7 +98,7 @@ pub(crate) const EVENTS_NOTES: &str =
     "The store of a node is the file DIR/NODE.db: one for the log, and one for each registry of the scheme. A missing
 store is made, and is empty. A store of format 1 is migrated to format 2, which needs room for twice its size beside it.
 The scheme is written as one line, and then a line for each event of a run which leads to the records of all stores, and
-to no others. rehearse reads it, and its table is the one that audit writes.
+to no others. rehearse reads it, and its table is the one that audit writes. With --json each event is an object.
 
 Example:
   kyoto-link events scheme.json stores | kyoto-link chart > run.mmd
@@ -111,7 +116,7 @@ docs/FORMATS.md describes schemes, records, stores and events, and how long an i
 pub(crate) const TRACE_NOTES: &str =
     "The store of a node is the file DIR/NODE.db, as for audit. A line is written for each record of the transaction, in
 the order of a run which leads to the records of all stores: node, place, moment, where the transaction stands at that
-node from then on, and the record. The last line is end.
+node from then on, and the record. The last line is end. With --json each line is an object.
 
 Example:
   kyoto-link trace scheme.json stores NZ1

@@ -6,6 +6,7 @@ use Rattle.protocol.specs.declared.event.Outcome.{Outcome}
 use Rattle.protocol.specs.declared.event.WorldEvent.{WorldEvent}
 use Rattle.report.specs.ReportLines.{outcome_line}
 use Rattle.report.specs.Table.{IsSafeTable}
+use Rattle.report.specs.declared.form.Form.TheVariants.{Lines}
 
 -- a line for each outcome, numbered from n on
 abbrev pub outcome_lines : ℕ → List Outcome → List ℕ
@@ -15,5 +16,5 @@ outcome_lines n (o ∷ os) = outcome_line n o ++ outcome_lines (n + 1) os
 -- the text is the report of the events under the scheme: their outcomes, then the table of the world that they lead to
 pub record IsReport (scheme : Scheme) (events : List WorldEvent) (text : List ℕ) : Type 0 where
   pub table : List ℕ
-  pub is_table : IsSafeTable scheme events table
+  pub is_table : IsSafeTable Lines scheme events table
   pub spelled : text ≡ outcome_lines 1 (outcomes (opening scheme) events) ++ table

@@ -10,7 +10,7 @@ ghost use Rattle.rehearse.specs.Report.{IsReport};
 use crate::reporting::{Reporter, report_input};
 use command_faults::OpFault;
 use protocol::WorldEvent;
-use report::{push_outcome, push_table};
+use report::{Form, push_outcome, push_table};
 use scheme::Scheme;
 use std::alloc::Global;
 use std::io::{Read, Write};
@@ -65,7 +65,7 @@ impl Reporter for Rehearsal {
 
     fn text(self) -> Result<String, NoMemory> {
         let mut text = self.lines;
-        push_table(self.alloc, &mut text, &self.world)?;
+        push_table(self.alloc, &mut text, &self.world, Form::Lines)?;
         Ok(text)
     }
 }

@@ -4,16 +4,16 @@ use Rattle.clap.specs.Words.{App, Rule, Shape, with_subcommand}
 use Rattle.clap.specs.Simple.{new_shape}
 use Rattle.operator.specs.Words.{flag, positional}
 use Rattle.operator.specs.declared.command_line.Argument.{Argument}
-use Rattle.operator.specs.declared.command_line.Form.{Form}
-use Rattle.operator.specs.declared.command_line.Form.TheVariants.{Flag, Positional}
+use Rattle.operator.specs.declared.command_line.ArgumentKind.{ArgumentKind}
+use Rattle.operator.specs.declared.command_line.ArgumentKind.TheVariants.{Flag, Positional}
 use Rattle.operator.specs.declared.command_line.Subcommand.{Subcommand}
 
-abbrev pub rule_with : Form → List ℕ → Rule
+abbrev pub rule_with : ArgumentKind → List ℕ → Rule
 rule_with Positional name = positional name
 rule_with Flag name = flag name
 
 abbrev pub rule_in : Argument → Rule
-rule_in a = rule_with a.form a.name.now
+rule_in a = rule_with a.kind a.name.now
 
 -- the arguments in their order
 abbrev pub rules_of : List Argument → List Rule

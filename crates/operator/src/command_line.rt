@@ -14,7 +14,7 @@ use crate::notes::{
 };
 use clap::error::ErrorKind;
 use clap::{Arg, ArgAction, ArgMatches, Command, Error};
-use report::Form as Writing;
+use report::Form;
 use std::alloc::{AllocError, Global};
 use std::convert::AsStr;
 
@@ -43,7 +43,7 @@ pub enum Action {
         scheme: String,
         folder: String,
         node: String,
-        form: Writing,
+        form: Form,
     },
     /// Write the table of a run that leads to the records of the stores in the folder `folder`, to all of them or to as
     /// many as a run explains. The file `scheme` has the scheme.
@@ -51,14 +51,14 @@ pub enum Action {
         scheme: String,
         folder: String,
         extent: Extent,
-        form: Writing,
+        form: Form,
     },
     /// Write the scheme and the events of a run that leads to the records of the stores in the folder `folder`. The file
     /// `scheme` has the scheme.
     Events {
         scheme: String,
         folder: String,
-        form: Writing,
+        form: Form,
     },
     /// Write the records of the transaction `id` in the stores in the folder `folder`, in the order of a run that leads
     /// to all records. The file `scheme` has the scheme.
@@ -66,7 +66,7 @@ pub enum Action {
         scheme: String,
         folder: String,
         id: String,
-        form: Writing,
+        form: Form,
     },
     /// Write the text of the documents about the topic `topic`.
     Explain {
@@ -94,7 +94,7 @@ pub enum UsageFault {
 
 /// How an argument is given.
 #[derive(Clone, Copy)]
-enum Form {
+enum ArgumentKind {
     /// As a word, which must be given.
     Positional,
     /// As a flag, `--` before its name, or not at all.
@@ -105,7 +105,7 @@ enum Form {
 struct Argument {
     name: &'static str,
     help: &'static str,
-    form: Form,
+    kind: ArgumentKind,
 }
 
 /// A subcommand, with the end of its help.
@@ -119,49 +119,49 @@ struct Subcommand {
 const SCHEME: Argument = Argument {
     name: "SCHEME",
     help: "The file with the scheme",
-    form: Form::Positional,
+    kind: ArgumentKind::Positional,
 };
 
 const DIR: Argument = Argument {
     name: "DIR",
     help: "The folder with the nodes' stores",
-    form: Form::Positional,
+    kind: ArgumentKind::Positional,
 };
 
 const NODE: Argument = Argument {
     name: "NODE",
     help: "The node: ITL, or the code of a registry of the scheme",
-    form: Form::Positional,
+    kind: ArgumentKind::Positional,
 };
 
 const SCRIPT: Argument = Argument {
     name: "SCRIPT",
     help: "The file with a line for each order and each question",
-    form: Form::Positional,
+    kind: ArgumentKind::Positional,
 };
 
 const ID: Argument = Argument {
     name: "ID",
     help: "The transaction: its initiator's code and its number, as NZ1",
-    form: Form::Positional,
+    kind: ArgumentKind::Positional,
 };
 
 const TOPIC: Argument = Argument {
     name: "TOPIC",
     help: "A code, a status, an outcome, or a word of a fault line",
-    form: Form::Positional,
+    kind: ArgumentKind::Positional,
 };
 
 const CUT: Argument = Argument {
     name: "cut",
     help: "Write the table of the run that leads furthest, and which records are left",
-    form: Form::Flag,
+    kind: ArgumentKind::Flag,
 };
 
 const JSON: Argument = Argument {
     name: "json",
     help: "Write a JSON object a line",
-    form: Form::Flag,
+    kind: ArgumentKind::Flag,
 };
 
 /// The subcommands, in the order of the program's help.
@@ -238,9 +238,9 @@ impl Argument {
         ensures rule { rule_of result ≡ rule_in self.now }
         ensures global { result.global ≡ false }
     {
-        match self.form {
-            Form::Positional => positional(alloc, self.name, self.help),
-            Form::Flag => flag(alloc, self.name, self.help),
+        match self.kind {
+            ArgumentKind::Positional => positional(alloc, self.name, self.help),
+            ArgumentKind::Flag => flag(alloc, self.name, self.help),
         }
     }
 }
@@ -301,15 +301,15 @@ fn value_of(alloc: Global, matches: &ArgMatches, name: &str) -> Option<String>
 }
 
 /// In which form is to be written, by the flag `json`.
-fn form_of(matches: &ArgMatches) -> Option<Writing>
+fn form_of(matches: &ArgMatches) -> Option<Form>
     ensures { IfSome result (λ f. first_value (found_of matches.now) (codes "json") ≡ Some (form_word f)) }
 {
     let value = matches.get_str("json")?;
     if value == "true" {
-        return Some(Writing::Json);
+        return Some(Form::Json);
     }
     if value == "false" {
-        return Some(Writing::Lines);
+        return Some(Form::Lines);
     }
     None
 }

@@ -6,4 +6,5 @@ mod notes;
 mod showing;
 
 pub use command_line::{Action, Extent, UsageFault, parse_words};
+pub use report::Form;
 pub use showing::show;

@@ -5,7 +5,7 @@ use crate::old_stores::{
 use crate::same::{assert_same, room};
 use crate::sample_records::{ACCEPTED, PROPOSE};
 use desk::stores::{NodeStore, StoreFault};
-use operator::show;
+use operator::{Form, show};
 use std::alloc::Global;
 use std::process::Abort;
 use test_support::{READING, again};
@@ -48,7 +48,7 @@ fn shown<S: NodeStore>(
     store: &mut S,
     written: &mut Vec<u8>,
 ) -> Result<(), u8> {
-    match show(alloc, registry(rt, "NZ"), store, written) {
+    match show(alloc, registry(rt, "NZ"), store, written, Form::Lines) {
         Ok(()) => Ok(()),
         Err(fault) => Err(fault.status()),
     }

@@ -1,7 +1,7 @@
 use crate::limit_rows::{EVENT, SCHEME};
 use crate::same::{assert_same, room};
 use command_faults::{Cause, OpFault};
-use operator::{Action, Extent, UsageFault, parse_words};
+use operator::{Action, Extent, Form, UsageFault, parse_words};
 use rehearse::rehearse;
 use std::alloc::Global;
 use std::io::{self, ErrorKind, Read, Write};
@@ -202,10 +202,10 @@ fn writes_on_after_interruptions(rt: HostRuntime) {
 enum Outcome {
     Rehearse,
     Chart,
-    Show,
-    Audit(Extent),
-    Events,
-    Trace,
+    Show(Form),
+    Audit(Extent, Form),
+    Events(Form),
+    Trace(Form),
     Explain,
     Run,
     Help,
@@ -218,10 +218,10 @@ fn parsed_once(alloc: Global, words: &[&str]) -> Outcome {
     let outcome = match &parsed {
         Ok(Action::Rehearse) => Outcome::Rehearse,
         Ok(Action::Chart) => Outcome::Chart,
-        Ok(Action::Show { .. }) => Outcome::Show,
-        Ok(Action::Audit { extent, .. }) => Outcome::Audit(*extent),
-        Ok(Action::Events { .. }) => Outcome::Events,
-        Ok(Action::Trace { .. }) => Outcome::Trace,
+        Ok(Action::Show { form, .. }) => Outcome::Show(*form),
+        Ok(Action::Audit { extent, form, .. }) => Outcome::Audit(*extent, *form),
+        Ok(Action::Events { form, .. }) => Outcome::Events(*form),
+        Ok(Action::Trace { form, .. }) => Outcome::Trace(*form),
         Ok(Action::Explain { .. }) => Outcome::Explain,
         Ok(Action::Run { .. }) => Outcome::Run,
         Err(UsageFault::Help(_)) => Outcome::Help,
@@ -249,15 +249,15 @@ const COMMANDS: &[(&[&str], Outcome)] = &[
     (&["kyoto-link", "audit", "s.json"], Outcome::Usage),
     (
         &["kyoto-link", "audit", "s.json", "d"],
-        Outcome::Audit(Extent::Whole),
+        Outcome::Audit(Extent::Whole, Form::Lines),
     ),
     (
         &["kyoto-link", "audit", "--cut", "s.json", "d"],
-        Outcome::Audit(Extent::Furthest),
+        Outcome::Audit(Extent::Furthest, Form::Lines),
     ),
     (
         &["kyoto-link", "audit", "s.json", "d", "--cut"],
-        Outcome::Audit(Extent::Furthest),
+        Outcome::Audit(Extent::Furthest, Form::Lines),
     ),
     (
         &["kyoto-link", "audit", "s.json", "d", "--cuts"],
@@ -269,14 +269,37 @@ const COMMANDS: &[(&[&str], Outcome)] = &[
     ),
     (
         &["kyoto-link", "trace", "s.json", "d", "NZ1"],
-        Outcome::Trace,
+        Outcome::Trace(Form::Lines),
     ),
     (&["kyoto-link", "trace", "s.json", "d"], Outcome::Usage),
     (&["kyoto-link", "explain", "106"], Outcome::Explain),
     (&["kyoto-link", "explain"], Outcome::Usage),
     (&["kyoto-link", "events"], Outcome::Usage),
     (&["kyoto-link", "events", "s.json"], Outcome::Usage),
-    (&["kyoto-link", "events", "s.json", "d"], Outcome::Events),
+    (
+        &["kyoto-link", "events", "s.json", "d"],
+        Outcome::Events(Form::Lines),
+    ),
+    (
+        &["kyoto-link", "events", "s.json", "--json", "d"],
+        Outcome::Events(Form::Json),
+    ),
+    (
+        &["kyoto-link", "audit", "--json", "s.json", "d", "--cut"],
+        Outcome::Audit(Extent::Furthest, Form::Json),
+    ),
+    (
+        &["kyoto-link", "trace", "--json", "s.json", "d", "NZ1"],
+        Outcome::Trace(Form::Json),
+    ),
+    (
+        &["kyoto-link", "show", "s.json", "d", "NZ", "--json"],
+        Outcome::Show(Form::Json),
+    ),
+    (
+        &["kyoto-link", "run", "--json", "s.json", "d", "l"],
+        Outcome::Usage,
+    ),
     (
         &["kyoto-link", "events", "s.json", "d", "ITL"],
         Outcome::Usage,
@@ -324,6 +347,7 @@ fn assert_show(rt: &impl Abort, action: &Action, words: [&str; 3]) {
             scheme,
             folder,
             node,
+            form: Form::Lines,
         } => {
             let found = [scheme.as_str(), folder.as_str(), node.as_str()];
             assert!(rt; found == words);

@@ -2,7 +2,7 @@ use crate::given::Given::{self, Event, Message};
 use crate::given::{PROPOSE, inputs};
 use crate::same::{assert_same, room};
 use command_faults::{Cause, OpFault, node_of, read_scheme};
-use operator::show;
+use operator::{Form, show};
 use protocol::scheme::Scheme;
 use protocol::units::{Code, Node};
 use std::alloc::Global;
@@ -57,7 +57,7 @@ fn append_two(
 fn assert_shown(rt: &impl Abort, alloc: Global, node: Node, store: &mut MemoryStore, text: &str) {
     let mut writer = room(rt, alloc);
     let shown = again!(
-        show(alloc, node, store, &mut writer),
+        show(alloc, node, store, &mut writer, Form::Lines),
         Err(OpFault::NoMemory) => assert!(rt; writer.is_empty())
     );
     assert_same(rt, shown, Ok(()));
@@ -81,7 +81,7 @@ fn tells_how_much_was_shown(rt: HostRuntime) {
     append_two(&rt, alloc, &mut store, Ok(()));
     let mut writer = Full { room: 103 };
     let shown = again!(
-        show(alloc, nz(&rt), &mut store, &mut writer),
+        show(alloc, nz(&rt), &mut store, &mut writer, Form::Lines),
         Err(OpFault::NoMemory) => assert_same(&rt, writer.room, 103)
     );
     assert_same(&rt, shown, Err(OpFault::Write(103)));
@@ -95,7 +95,7 @@ fn shows_no_store_that_waits(rt: HostRuntime) {
     let mut writer = room(&rt, alloc);
     let fault = StoreFault::Reopen;
     let shown = again!(
-        show(alloc, node, &mut store, &mut writer),
+        show(alloc, node, &mut store, &mut writer, Form::Lines),
         Err(OpFault::NoMemory) => assert!(rt; writer.is_empty())
     );
     assert_same(&rt, shown, Err(OpFault::Store { node, fault }));

@@ -17,6 +17,7 @@ use Rattle.command_faults.specs.Faults.{of_store}
 use Rattle.command_faults.specs.declared.fault.Cause.TheVariants.{Order}
 use Rattle.command_faults.specs.declared.fault.OpFault.{OpFault}
 use Rattle.command_faults.specs.declared.fault.OpFault.TheVariants.{Input as InputFault, Read, NoMemory}
+use Rattle.report.specs.declared.form.Form.{Form}
 use Rattle.rehearse.specs.Rehearsal.{FailsSo, Reports}
 use Rattle.rehearse.specs.Report.{IsReport}
 use Rattle.chart.specs.Chart.{IsChart}
@@ -134,7 +135,7 @@ module _ {A F S : Type 0} (g : Ghosts A F S) (archive : A) (remaining : F → Op
     pub none : (n : Node) → IsNamed scheme word n → ⊥
 
   -- the records of the store of the node that the word names were written
-  pub record ShowsNode (path folder word : List ℕ) (before after : Option (List ℕ)) : Type 0 where
+  pub record ShowsNode (form : Form) (path folder word : List ℕ) (before after : Option (List ℕ)) : Type 0 where
     pub scheme : Scheme
     pub has_scheme : HasScheme g archive remaining path scheme
     pub node : Node
@@ -145,17 +146,17 @@ module _ {A F S : Type 0} (g : Ghosts A F S) (archive : A) (remaining : F → Op
     pub opened : IsStoreIn g archive of folder node store
     pub inputs : List Input
     pub records : of.is_honest left → AreRecords (of.content store) inputs
-    pub written : Appends before after (shown inputs)
+    pub written : Appends before after (shown form inputs)
 
-  abbrev pub FailsFromStore : List ℕ → Node → Failing
-  FailsFromStore folder n fault v w = (IsShut g archive folder n fault × Keeps v w) ⊎ ((store left : S) × IsStoreIn g archive of folder n store × FailsToShow fault n (of.is_honest left) (of.content store) v w)
+  abbrev pub FailsFromStore : Form → List ℕ → Node → Failing
+  FailsFromStore form folder n fault v w = (IsShut g archive folder n fault × Keeps v w) ⊎ ((store left : S) × IsStoreIn g archive of folder n store × FailsToShow form fault n (of.is_honest left) (of.content store) v w)
 
   abbrev pub FailsFromWord : List ℕ → Scheme → (Node → Failing) → Failing
   FailsFromWord word scheme Later fault v w = (NamesNone scheme word fault × Keeps v w) ⊎ ((n : Node) × IsNamed scheme word n × Later n fault v w)
 
   -- the first fault of the scheme, the node's word, the folder, the store and its records
-  abbrev pub FailsToShowNode : (path folder word : List ℕ) → Failing
-  FailsToShowNode path folder word = FailsFromScheme path (λ scheme. FailsFromWord word scheme (λ n. FailsFromFolder folder (FailsFromStore folder n)))
+  abbrev pub FailsToShowNode : Form → (path folder word : List ℕ) → Failing
+  FailsToShowNode form path folder word = FailsFromScheme path (λ scheme. FailsFromWord word scheme (λ n. FailsFromFolder folder (FailsFromStore form folder n)))
 
   -- ---- `audit`, `events` and `trace`
 
@@ -173,26 +174,26 @@ module _ {A F S : Type 0} (g : Ghosts A F S) (archive : A) (remaining : F → Op
     pub written : Appends before after text
 
   -- the table of a run that leads to their records
-  abbrev pub AuditsFolder : (path folder : List ℕ) (before after : Option (List ℕ)) → Type 0
-  AuditsFolder path folder v w = ReportsFolder (Audits of) path folder v w
+  abbrev pub AuditsFolder : Form → (path folder : List ℕ) (before after : Option (List ℕ)) → Type 0
+  AuditsFolder form path folder v w = ReportsFolder (Audits of form) path folder v w
 
   -- the table of the furthest run whose journals are first parts of their records, of which none is left
-  abbrev pub CutsFolder : (path folder : List ℕ) (before after : Option (List ℕ)) → Type 0
-  CutsFolder path folder v w = ReportsFolder (λ scheme olds news text. CutsOff of scheme olds news [] text) path folder v w
+  abbrev pub CutsFolder : Form → (path folder : List ℕ) (before after : Option (List ℕ)) → Type 0
+  CutsFolder form path folder v w = ReportsFolder (λ scheme olds news text. CutsOff of form scheme olds news [] text) path folder v w
 
-  abbrev pub AuditsTo : Extent → (path folder : List ℕ) (before after : Option (List ℕ)) → Type 0
-  AuditsTo Whole path folder v w = AuditsFolder path folder v w
-  AuditsTo Furthest path folder v w = CutsFolder path folder v w
+  abbrev pub AuditsTo : Extent → Form → (path folder : List ℕ) (before after : Option (List ℕ)) → Type 0
+  AuditsTo Whole form path folder v w = AuditsFolder form path folder v w
+  AuditsTo Furthest form path folder v w = CutsFolder form path folder v w
 
   -- the records of the transaction that the word names
-  pub record TracesFolder (path folder word : List ℕ) (before after : Option (List ℕ)) : Type 0 where
+  pub record TracesFolder (form : Form) (path folder word : List ℕ) (before after : Option (List ℕ)) : Type 0 where
     pub id : TransactionId
     pub named : word ≡ id_text id
-    pub reports : ReportsFolder (λ scheme olds news text. Traces of scheme olds news id text) path folder before after
+    pub reports : ReportsFolder (λ scheme olds news text. Traces of form scheme olds news id text) path folder before after
 
   -- the events of a run that leads to their records
-  abbrev pub ListsFolder : (path folder : List ℕ) (before after : Option (List ℕ)) → Type 0
-  ListsFolder path folder v w = ReportsFolder (Lists of) path folder v w
+  abbrev pub ListsFolder : Form → (path folder : List ℕ) (before after : Option (List ℕ)) → Type 0
+  ListsFolder form path folder v w = ReportsFolder (Lists of form) path folder v w
 
   abbrev pub FailsFromStores : (OpFault → Scheme → List S → List S → (before after : Option (List ℕ)) → Type 0) → List ℕ → Scheme → Failing
   FailsFromStores Fails folder scheme fault v w =
@@ -200,26 +201,26 @@ module _ {A F S : Type 0} (g : Ghosts A F S) (archive : A) (remaining : F → Op
       ⊎ ((stores left : List S) × AreStoresIn g archive of folder (nodes scheme) stores × Fails fault scheme stores left v w × AreUnwritten of stores left)
 
   -- the first fault of the scheme, the folder, the stores and their records
-  abbrev pub FailsToAuditFolder : (path folder : List ℕ) → Failing
-  FailsToAuditFolder path folder = FailsFromScheme path (λ scheme. FailsFromFolder folder (FailsFromStores (FailsToAudit of) folder scheme))
+  abbrev pub FailsToAuditFolder : Form → (path folder : List ℕ) → Failing
+  FailsToAuditFolder form path folder = FailsFromScheme path (λ scheme. FailsFromFolder folder (FailsFromStores (FailsToAudit of form) folder scheme))
 
-  abbrev pub FailsToListFolder : (path folder : List ℕ) → Failing
-  FailsToListFolder path folder = FailsFromScheme path (λ scheme. FailsFromFolder folder (FailsFromStores (FailsToList of) folder scheme))
+  abbrev pub FailsToListFolder : Form → (path folder : List ℕ) → Failing
+  FailsToListFolder form path folder = FailsFromScheme path (λ scheme. FailsFromFolder folder (FailsFromStores (FailsToList of form) folder scheme))
 
-  abbrev pub FailsToCutFolder : (path folder : List ℕ) → Failing
-  FailsToCutFolder path folder = FailsFromScheme path (λ scheme. FailsFromFolder folder (FailsFromStores (FailsToCutOff of) folder scheme))
+  abbrev pub FailsToCutFolder : Form → (path folder : List ℕ) → Failing
+  FailsToCutFolder form path folder = FailsFromScheme path (λ scheme. FailsFromFolder folder (FailsFromStores (FailsToCutOff of form) folder scheme))
 
-  abbrev pub FailsToAuditTo : Extent → (path folder : List ℕ) → Failing
-  FailsToAuditTo Whole path folder = FailsToAuditFolder path folder
-  FailsToAuditTo Furthest path folder = FailsToCutFolder path folder
+  abbrev pub FailsToAuditTo : Extent → Form → (path folder : List ℕ) → Failing
+  FailsToAuditTo Whole form path folder = FailsToAuditFolder form path folder
+  FailsToAuditTo Furthest form path folder = FailsToCutFolder form path folder
 
   abbrev pub FailsFromId : List ℕ → (TransactionId → Failing) → Failing
   FailsFromId word Later fault v w = (NamesNoTransaction word fault × Keeps v w) ⊎ ((id : TransactionId) × (word ≡ id_text id) × Later id fault v w)
 
   -- the first fault of the scheme, the transaction's word, the folder, the stores and their records
-  abbrev pub FailsToTraceFolder : (path folder word : List ℕ) → Failing
-  FailsToTraceFolder path folder word =
-      FailsFromScheme path (λ scheme. FailsFromId word (λ id. FailsFromFolder folder (FailsFromStores (λ fault s olds news v w. FailsToTrace of fault s olds news id v w) folder scheme)))
+  abbrev pub FailsToTraceFolder : Form → (path folder word : List ℕ) → Failing
+  FailsToTraceFolder form path folder word =
+      FailsFromScheme path (λ scheme. FailsFromId word (λ id. FailsFromFolder folder (FailsFromStores (λ fault s olds news v w. FailsToTrace of form fault s olds news id v w) folder scheme)))
 
   -- ---- `run`
 
@@ -248,19 +249,19 @@ module _ {A F S : Type 0} (g : Ghosts A F S) (archive : A) (remaining : F → Op
   abbrev pub Performs : Action → (r s before after : Option (List ℕ)) → Type 0
   Performs Rehearse r s v w = (text : List ℕ) × Reports IsReport r s text × Appends v w text
   Performs Chart r s v w = (text : List ℕ) × Reports IsChart r s text × Appends v w text
-  Performs (Show scheme folder node) r s v w = ShowsNode (string_bytes scheme) (string_bytes folder) (string_bytes node) v w
-  Performs (Audit scheme folder extent) r s v w = AuditsTo extent (string_bytes scheme) (string_bytes folder) v w
-  Performs (Events scheme folder) r s v w = ListsFolder (string_bytes scheme) (string_bytes folder) v w
-  Performs (Trace scheme folder id) r s v w = TracesFolder (string_bytes scheme) (string_bytes folder) (string_bytes id) v w
+  Performs (Show scheme folder node form) r s v w = ShowsNode form (string_bytes scheme) (string_bytes folder) (string_bytes node) v w
+  Performs (Audit scheme folder extent form) r s v w = AuditsTo extent form (string_bytes scheme) (string_bytes folder) v w
+  Performs (Events scheme folder form) r s v w = ListsFolder form (string_bytes scheme) (string_bytes folder) v w
+  Performs (Trace scheme folder id form) r s v w = TracesFolder form (string_bytes scheme) (string_bytes folder) (string_bytes id) v w
   Performs (Explain topic) r s v w = (text : List ℕ) × Has topics (string_bytes topic) text × Appends v w text
   Performs (Run scheme folder script) r s v w = RunsFolder (string_bytes scheme) (string_bytes folder) (string_bytes script) v w
 
   abbrev pub FailsToPerform : Action → OpFault → (r s before after : Option (List ℕ)) → Type 0
   FailsToPerform Rehearse fault r s v w = FailsSo IsReport fault r s v w
   FailsToPerform Chart fault r s v w = FailsSo IsChart fault r s v w
-  FailsToPerform (Show scheme folder node) fault r s v w = FailsToShowNode (string_bytes scheme) (string_bytes folder) (string_bytes node) fault v w
-  FailsToPerform (Audit scheme folder extent) fault r s v w = FailsToAuditTo extent (string_bytes scheme) (string_bytes folder) fault v w
-  FailsToPerform (Events scheme folder) fault r s v w = FailsToListFolder (string_bytes scheme) (string_bytes folder) fault v w
-  FailsToPerform (Trace scheme folder id) fault r s v w = FailsToTraceFolder (string_bytes scheme) (string_bytes folder) (string_bytes id) fault v w
+  FailsToPerform (Show scheme folder node form) fault r s v w = FailsToShowNode form (string_bytes scheme) (string_bytes folder) (string_bytes node) fault v w
+  FailsToPerform (Audit scheme folder extent form) fault r s v w = FailsToAuditTo extent form (string_bytes scheme) (string_bytes folder) fault v w
+  FailsToPerform (Events scheme folder form) fault r s v w = FailsToListFolder form (string_bytes scheme) (string_bytes folder) fault v w
+  FailsToPerform (Trace scheme folder id form) fault r s v w = FailsToTraceFolder form (string_bytes scheme) (string_bytes folder) (string_bytes id) fault v w
   FailsToPerform (Explain topic) fault r s v w = FailsToExplain fault (string_bytes topic) v w
   FailsToPerform (Run scheme folder script) fault r s v w = FailsToRunFolder (string_bytes scheme) (string_bytes folder) (string_bytes script) fault v w

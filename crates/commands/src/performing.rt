@@ -12,7 +12,7 @@ use chart::chart;
 use command_faults::{Cause, OpFault, node_of};
 use events::list_events;
 use explain::explain;
-use operator::{Action, Extent, show};
+use operator::{Action, Extent, Form, show};
 use protocol::status::TransactionId;
 use rehearse::rehearse;
 use std::alloc::Global;
@@ -31,20 +31,21 @@ fn show_node<A: Archive, W: Write>(
     scheme: &str,
     folder: &str,
     word: &str,
+    form: Form,
     writer: &mut W,
 ) -> Result<(), OpFault>
     ensures ok { OnOk result
-        (ShowsNode A.Archive archive.now A.File.remaining A.Store.NodeStore scheme.now folder.now word.now
+        (ShowsNode A.Archive archive.now A.File.remaining A.Store.NodeStore form scheme.now folder.now word.now
         (W.contents writer.old) (W.contents writer.new)) }
     ensures err { IfErr result
-        (λ e. FailsToShowNode A.Archive archive.now A.File.remaining A.Store.NodeStore scheme.now folder.now word.now e
-        (W.contents writer.old) (W.contents writer.new)) }
+        (λ e. FailsToShowNode A.Archive archive.now A.File.remaining A.Store.NodeStore form scheme.now folder.now
+        word.now e (W.contents writer.old) (W.contents writer.new)) }
 {
     let scheme = scheme_at(alloc, archive, scheme)?;
     let node = node_of(&scheme, word)?;
     find_folder(archive, folder)?;
     let mut store = open_store(archive, folder, node)?;
-    show(alloc, node, &mut store, writer)
+    show(alloc, node, &mut store, writer, form)
 }
 
 /// Writes the table of a run that leads to the records of the stores in the folder.
@@ -53,21 +54,29 @@ fn audit_folder<A: Archive, W: Write, P: Progress>(
     archive: &A,
     scheme: &str,
     folder: &str,
+    form: Form,
     writer: &mut W,
     progress: &P,
 ) -> Result<(), OpFault>
     ensures ok { OnOk result
-        (AuditsFolder A.Archive archive.now A.File.remaining A.Store.NodeStore scheme.now folder.now
+        (AuditsFolder A.Archive archive.now A.File.remaining A.Store.NodeStore form scheme.now folder.now
         (W.contents writer.old) (W.contents writer.new)) }
     ensures err { IfErr result
-        (λ e. FailsToAuditFolder A.Archive archive.now A.File.remaining A.Store.NodeStore scheme.now folder.now e
+        (λ e. FailsToAuditFolder A.Archive archive.now A.File.remaining A.Store.NodeStore form scheme.now folder.now e
         (W.contents writer.old) (W.contents writer.new)) }
 {
     let scheme = scheme_at(alloc, archive, scheme)?;
     find_folder(archive, folder)?;
     let mut stores = open_stores(alloc, archive, &scheme, folder)?;
     let mut watch = progress.of_audit();
-    let done = audit_watched(alloc, &scheme, stores.as_mut_slice(), writer, &mut watch);
+    let done = audit_watched(
+        alloc,
+        &scheme,
+        stores.as_mut_slice(),
+        writer,
+        form,
+        &mut watch,
+    );
     watch.finished();
     done
 }
@@ -79,21 +88,29 @@ fn cut_folder<A: Archive, W: Write, P: Progress>(
     archive: &A,
     scheme: &str,
     folder: &str,
+    form: Form,
     writer: &mut W,
     progress: &P,
 ) -> Result<(), OpFault>
     ensures ok { OnOk result
-        (CutsFolder A.Archive archive.now A.File.remaining A.Store.NodeStore scheme.now folder.now
+        (CutsFolder A.Archive archive.now A.File.remaining A.Store.NodeStore form scheme.now folder.now
         (W.contents writer.old) (W.contents writer.new)) }
     ensures err { IfErr result
-        (λ e. FailsToCutFolder A.Archive archive.now A.File.remaining A.Store.NodeStore scheme.now folder.now e
+        (λ e. FailsToCutFolder A.Archive archive.now A.File.remaining A.Store.NodeStore form scheme.now folder.now e
         (W.contents writer.old) (W.contents writer.new)) }
 {
     let scheme = scheme_at(alloc, archive, scheme)?;
     find_folder(archive, folder)?;
     let mut stores = open_stores(alloc, archive, &scheme, folder)?;
     let mut watch = progress.of_audit();
-    let done = audit_cut(alloc, &scheme, stores.as_mut_slice(), writer, &mut watch);
+    let done = audit_cut(
+        alloc,
+        &scheme,
+        stores.as_mut_slice(),
+        writer,
+        form,
+        &mut watch,
+    );
     watch.finished();
     done
 }
@@ -105,19 +122,20 @@ fn audit_to<A: Archive, W: Write, P: Progress>(
     scheme: &str,
     folder: &str,
     extent: Extent,
+    form: Form,
     writer: &mut W,
     progress: &P,
 ) -> Result<(), OpFault>
     ensures ok { OnOk result
-        (AuditsTo A.Archive archive.now A.File.remaining A.Store.NodeStore extent scheme.now folder.now
+        (AuditsTo A.Archive archive.now A.File.remaining A.Store.NodeStore extent form scheme.now folder.now
         (W.contents writer.old) (W.contents writer.new)) }
     ensures err { IfErr result
-        (λ e. FailsToAuditTo A.Archive archive.now A.File.remaining A.Store.NodeStore extent scheme.now folder.now e
+        (λ e. FailsToAuditTo A.Archive archive.now A.File.remaining A.Store.NodeStore extent form scheme.now folder.now e
         (W.contents writer.old) (W.contents writer.new)) }
 {
     match extent {
-        Extent::Whole => audit_folder(alloc, archive, scheme, folder, writer, progress),
-        Extent::Furthest => cut_folder(alloc, archive, scheme, folder, writer, progress),
+        Extent::Whole => audit_folder(alloc, archive, scheme, folder, form, writer, progress),
+        Extent::Furthest => cut_folder(alloc, archive, scheme, folder, form, writer, progress),
     }
 }
 
@@ -127,21 +145,29 @@ fn list_folder<A: Archive, W: Write, P: Progress>(
     archive: &A,
     scheme: &str,
     folder: &str,
+    form: Form,
     writer: &mut W,
     progress: &P,
 ) -> Result<(), OpFault>
     ensures ok { OnOk result
-        (ListsFolder A.Archive archive.now A.File.remaining A.Store.NodeStore scheme.now folder.now
+        (ListsFolder A.Archive archive.now A.File.remaining A.Store.NodeStore form scheme.now folder.now
         (W.contents writer.old) (W.contents writer.new)) }
     ensures err { IfErr result
-        (λ e. FailsToListFolder A.Archive archive.now A.File.remaining A.Store.NodeStore scheme.now folder.now e
+        (λ e. FailsToListFolder A.Archive archive.now A.File.remaining A.Store.NodeStore form scheme.now folder.now e
         (W.contents writer.old) (W.contents writer.new)) }
 {
     let scheme = scheme_at(alloc, archive, scheme)?;
     find_folder(archive, folder)?;
     let mut stores = open_stores(alloc, archive, &scheme, folder)?;
     let mut watch = progress.of_audit();
-    let done = list_events(alloc, &scheme, stores.as_mut_slice(), writer, &mut watch);
+    let done = list_events(
+        alloc,
+        &scheme,
+        stores.as_mut_slice(),
+        writer,
+        form,
+        &mut watch,
+    );
     watch.finished();
     done
 }
@@ -168,14 +194,15 @@ fn trace_folder<A: Archive, W: Write, P: Progress>(
     scheme: &str,
     folder: &str,
     word: &str,
+    form: Form,
     writer: &mut W,
     progress: &P,
 ) -> Result<(), OpFault>
     ensures ok { OnOk result
-        (TracesFolder A.Archive archive.now A.File.remaining A.Store.NodeStore scheme.now folder.now word.now
+        (TracesFolder A.Archive archive.now A.File.remaining A.Store.NodeStore form scheme.now folder.now word.now
         (W.contents writer.old) (W.contents writer.new)) }
     ensures err { IfErr result
-        (λ e. FailsToTraceFolder A.Archive archive.now A.File.remaining A.Store.NodeStore scheme.now folder.now
+        (λ e. FailsToTraceFolder A.Archive archive.now A.File.remaining A.Store.NodeStore form scheme.now folder.now
         word.now e (W.contents writer.old) (W.contents writer.new)) }
 {
     let scheme = scheme_at(alloc, archive, scheme)?;
@@ -189,6 +216,7 @@ fn trace_folder<A: Archive, W: Write, P: Progress>(
         stores.as_mut_slice(),
         id,
         writer,
+        form,
         &mut watch,
     );
     watch.finished();
@@ -230,41 +258,56 @@ where
             scheme,
             folder,
             node,
+            form,
         } => show_node(
             alloc,
             archive,
             scheme.as_str(),
             folder.as_str(),
             node.as_str(),
+            *form,
             writer,
         ),
         Action::Audit {
             scheme,
             folder,
             extent,
+            form,
         } => audit_to(
             alloc,
             archive,
             scheme.as_str(),
             folder.as_str(),
             *extent,
+            *form,
             writer,
             progress,
         ),
-        Action::Events { scheme, folder } => list_folder(
+        Action::Events {
+            scheme,
+            folder,
+            form,
+        } => list_folder(
             alloc,
             archive,
             scheme.as_str(),
             folder.as_str(),
+            *form,
             writer,
             progress,
         ),
-        Action::Trace { scheme, folder, id } => trace_folder(
+        Action::Trace {
+            scheme,
+            folder,
+            id,
+            form,
+        } => trace_folder(
             alloc,
             archive,
             scheme.as_str(),
             folder.as_str(),
             id.as_str(),
+            *form,
             writer,
             progress,
         ),

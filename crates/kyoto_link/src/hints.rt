@@ -26,6 +26,7 @@ fn named_by(action: &Action) -> Option<Named<'_>> {
             scheme,
             folder,
             node,
+            ..
         } => Some(Named {
             scheme: scheme.as_str(),
             folder: folder.as_str(),
@@ -33,14 +34,21 @@ fn named_by(action: &Action) -> Option<Named<'_>> {
             id: None,
             script: None,
         }),
-        Action::Audit { scheme, folder, .. } | Action::Events { scheme, folder } => Some(Named {
-            scheme: scheme.as_str(),
-            folder: folder.as_str(),
-            node: None,
-            id: None,
-            script: None,
-        }),
-        Action::Trace { scheme, folder, id } => Some(Named {
+        Action::Audit { scheme, folder, .. } | Action::Events { scheme, folder, .. } => Some(
+            Named {
+                scheme: scheme.as_str(),
+                folder: folder.as_str(),
+                node: None,
+                id: None,
+                script: None,
+            },
+        ),
+        Action::Trace {
+            scheme,
+            folder,
+            id,
+            ..
+        } => Some(Named {
             scheme: scheme.as_str(),
             folder: folder.as_str(),
             node: None,

@@ -7,12 +7,12 @@ use Rattle.commands.proofs.performing.perform.Goals as goal
 
 pub returns-in-Show-clause-err : goal.returns-in-Show-clause-err
 returns-in-Show-clause-err g c =
-    if_err {P = λ e. FailsToShowNode g.A.Archive c.args.archive.now g.A.File.Read.remaining g.A.Store.NodeStore c.as_str.result.now c.as_str-in-Show.result.now c.as_str-in-Show-2.result.now e (g.W.Write.contents c.args.writer.now) (g.W.Write.contents c.show_node.new.writer)} c.show_node.result
+    if_err {P = λ e. FailsToShowNode g.A.Archive c.args.archive.now g.A.File.Read.remaining g.A.Store.NodeStore c.in-Show.form c.as_str.result.now c.as_str-in-Show.result.now c.as_str-in-Show-2.result.now e (g.W.Write.contents c.args.writer.now) (g.W.Write.contents c.show_node.new.writer)} c.show_node.result
     (λ e h. rw (c.in-Show.is, sym c.as_str.ensures.value, sym c.as_str-in-Show.ensures.value, sym c.as_str-in-Show-2.ensures.value) h) c.show_node.ensures.err
 
 pub returns-in-Audit-clause-err : goal.returns-in-Audit-clause-err
 returns-in-Audit-clause-err g c =
-    let fails = λ (path : List ℕ) (folder : List ℕ) (e : OpFault). FailsToAuditTo g.A.Archive c.args.archive.now g.A.File.Read.remaining g.A.Store.NodeStore c.in-Audit.extent path folder e (g.W.Write.contents c.args.writer.now) (g.W.Write.contents c.audit_to.new.writer) in
+    let fails = λ (path : List ℕ) (folder : List ℕ) (e : OpFault). FailsToAuditTo g.A.Archive c.args.archive.now g.A.File.Read.remaining g.A.Store.NodeStore c.in-Audit.extent c.in-Audit.form path folder e (g.W.Write.contents c.args.writer.now) (g.W.Write.contents c.audit_to.new.writer) in
     let path = c.as_str-in-Audit in
     let folder = c.as_str-in-Audit-2 in
     if_err {P = fails path.result.now folder.result.now} c.audit_to.result
@@ -22,7 +22,7 @@ returns-in-Audit-clause-err g c =
 
 pub returns-in-Events-clause-err : goal.returns-in-Events-clause-err
 returns-in-Events-clause-err g c =
-    let fails = λ (path : List ℕ) (folder : List ℕ) (e : OpFault). FailsToListFolder g.A.Archive c.args.archive.now g.A.File.Read.remaining g.A.Store.NodeStore path folder e (g.W.Write.contents c.args.writer.now) (g.W.Write.contents c.list_folder.new.writer) in
+    let fails = λ (path : List ℕ) (folder : List ℕ) (e : OpFault). FailsToListFolder g.A.Archive c.args.archive.now g.A.File.Read.remaining g.A.Store.NodeStore c.in-Events.form path folder e (g.W.Write.contents c.args.writer.now) (g.W.Write.contents c.list_folder.new.writer) in
     let path = c.as_str-in-Events in
     let folder = c.as_str-in-Events-2 in
     if_err {P = fails path.result.now folder.result.now} c.list_folder.result
@@ -32,7 +32,7 @@ returns-in-Events-clause-err g c =
 
 pub returns-in-Trace-clause-err : goal.returns-in-Trace-clause-err
 returns-in-Trace-clause-err g c =
-    let fails = λ (path : List ℕ) (folder : List ℕ) (id : List ℕ) (e : OpFault). FailsToTraceFolder g.A.Archive c.args.archive.now g.A.File.Read.remaining g.A.Store.NodeStore path folder id e (g.W.Write.contents c.args.writer.now) (g.W.Write.contents c.trace_folder.new.writer) in
+    let fails = λ (path : List ℕ) (folder : List ℕ) (id : List ℕ) (e : OpFault). FailsToTraceFolder g.A.Archive c.args.archive.now g.A.File.Read.remaining g.A.Store.NodeStore c.in-Trace.form path folder id e (g.W.Write.contents c.args.writer.now) (g.W.Write.contents c.trace_folder.new.writer) in
     let path = c.as_str-in-Trace in
     let folder = c.as_str-in-Trace-2 in
     let id = c.as_str-in-Trace-3 in

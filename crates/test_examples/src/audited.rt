@@ -7,8 +7,11 @@ use crate::stored::{scheme_in, stores_of, world_of};
 use audit::{audit, audit_cut};
 use command_faults::OpFault;
 use events::list_events;
+use operator::{Form, show};
+use protocol::index_of;
 use protocol::scheme::Scheme;
 use protocol::status::TransactionId;
+use protocol::units::Node;
 use rehearse::rehearse;
 use std::alloc::Global;
 use std::str;
@@ -40,7 +43,7 @@ fn is_listed(alloc: Global, scheme: &Scheme, stores: &mut [MemoryStore], table: 
     requires { length stores.old ≡ length (nodes scheme.now) }
 {
     let mut listed = Vec::new(alloc);
-    if list_events(alloc, scheme, stores, &mut listed, &mut Nobody).is_err() {
+    if list_events(alloc, scheme, stores, &mut listed, Form::Lines, &mut Nobody).is_err() {
         return false;
     }
     let mut reader = listed.as_slice();
@@ -53,7 +56,8 @@ fn is_whole(alloc: Global, scheme: &Scheme, stores: &mut [MemoryStore], table: &
     requires { length stores.old ≡ length (nodes scheme.now) }
 {
     let mut cut = Vec::new(alloc);
-    audit_cut(alloc, scheme, stores, &mut cut, &mut Nobody).is_ok() && cut.as_slice() == table
+    audit_cut(alloc, scheme, stores, &mut cut, Form::Lines, &mut Nobody).is_ok()
+        && cut.as_slice() == table
 }
 
 /// What an audit of the world's journals comes to.
@@ -66,7 +70,13 @@ fn audit_world(
 ) -> Option<Audited> {
     let mut stores = stores_of(alloc, scheme, world, "")?;
     let mut written = Vec::new(alloc);
-    let done = audit(alloc, scheme, stores.as_mut_slice(), &mut written);
+    let done = audit(
+        alloc,
+        scheme,
+        stores.as_mut_slice(),
+        &mut written,
+        Form::Lines,
+    );
     let listed = is_listed(alloc, scheme, stores.as_mut_slice(), written.as_slice());
     let whole = is_whole(alloc, scheme, stores.as_mut_slice(), written.as_slice());
     let table = str::from_utf8(written.as_slice()).ok()?;
@@ -93,7 +103,12 @@ pub fn audit_journals(alloc: Global, input: &str, output: &str) -> Audited {
 
 /// What `audit --cut` writes of the stores that the events of the input lead to, of which some keep first records alone,
 /// and its fault. `None` where there are no such stores.
-pub fn cut_of(alloc: Global, input: &str, kept: &str) -> Option<(Vec<u8>, Result<(), OpFault>)> {
+pub fn cut_of(
+    alloc: Global,
+    input: &str,
+    kept: &str,
+    form: Form,
+) -> Option<(Vec<u8>, Result<(), OpFault>)> {
     let (scheme, lines) = scheme_in(alloc, input)?;
     let world = world_of(alloc, &scheme, lines)?;
     let mut stores = stores_of(alloc, &scheme, &world, kept)?;
@@ -103,26 +118,60 @@ pub fn cut_of(alloc: Global, input: &str, kept: &str) -> Option<(Vec<u8>, Result
         &scheme,
         stores.as_mut_slice(),
         &mut written,
+        form,
         &mut Nobody,
     );
     Some((written, done))
 }
 
-/// What `trace` writes of a transaction in the stores that the events of the input lead to. `None` where there are no such
-/// stores, or it fails.
-pub fn trace_of(alloc: Global, input: &str, id: TransactionId) -> Option<Vec<u8>> {
+/// A command that writes what it finds in stores.
+#[derive(Clone, Copy, Debug, PartialEq, Eq)]
+pub enum Command {
+    Audit,
+    Events,
+    Trace,
+    /// Of the initiator.
+    Show,
+}
+
+/// Has the command write what it finds of the transaction in the stores. `None` where it fails, or there is no store of
+/// the initiator.
+fn write_found(
+    alloc: Global,
+    scheme: &Scheme,
+    stores: &mut [MemoryStore],
+    id: TransactionId,
+    command: Command,
+    form: Form,
+) -> Option<Vec<u8>>
+    requires { length stores.old ≡ length (nodes scheme.now) }
+{
+    let mut written = Vec::new(alloc);
+    let done = match command {
+        Command::Audit => audit(alloc, scheme, stores, &mut written, form),
+        Command::Events => list_events(alloc, scheme, stores, &mut written, form, &mut Nobody),
+        Command::Trace => trace(alloc, scheme, stores, id, &mut written, form, &mut Nobody),
+        Command::Show => {
+            let node = Node::Registry(id.code);
+            let store = stores.get_mut(index_of(scheme, node)?)?;
+            show(alloc, node, store, &mut written, form)
+        }
+    };
+    done.ok()?;
+    Some(written)
+}
+
+/// What the command writes of the transaction in the stores that the events of the input lead to. `None` where there are
+/// no such stores, or it fails.
+pub fn found_in(
+    alloc: Global,
+    input: &str,
+    id: TransactionId,
+    command: Command,
+    form: Form,
+) -> Option<Vec<u8>> {
     let (scheme, lines) = scheme_in(alloc, input)?;
     let world = world_of(alloc, &scheme, lines)?;
     let mut stores = stores_of(alloc, &scheme, &world, "")?;
-    let mut written = Vec::new(alloc);
-    trace(
-        alloc,
-        &scheme,
-        stores.as_mut_slice(),
-        id,
-        &mut written,
-        &mut Nobody,
-    )
-    .ok()?;
-    Some(written)
+    write_found(alloc, &scheme, stores.as_mut_slice(), id, command, form)
 }

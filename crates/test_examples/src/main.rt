@@ -7,17 +7,18 @@
 //! written of wrong words, before each line gets the program's name. Or it has the file `word`, a topic, and beside it
 //! `output`, what `explain` writes of it, or `error`; or `id`, a transaction, with `output`, its trace in the stores that
 //! the events of `input` lead to; or `kept`, how many records some of these stores have, with `output`, what `audit --cut`
-//! writes of them, and `error`.
+//! writes of them, and `error`. With the file `json`, which names a transaction, it has what commands write as JSON: in
+//! files named after them, or in `output` beside `kept`.
 #![tactic(auto)]
 
 mod audited;
 mod stored;
 
-use crate::audited::{Audited, audit_journals, cut_of, trace_of};
+use crate::audited::{Audited, Command, audit_journals, cut_of, found_in};
 use chart::chart;
 use command_faults::OpFault;
 use explain::explain;
-use operator::{UsageFault, parse_words};
+use operator::{Form, UsageFault, parse_words};
 use protocol::status::TransactionId;
 use rehearse::rehearse;
 use std::fmt::Display;
@@ -121,12 +122,12 @@ fn is_explained(rt: &HostRuntime, folder: &str, line: &str) -> io::Result<bool> 
 
 /// Whether the furthest cut of stores of which these lines say how many records are kept is as the folder has it, and
 /// fails with the fault that stands there.
-fn is_cut(rt: &HostRuntime, folder: &str, kept: &str) -> io::Result<bool> {
+fn is_cut(rt: &HostRuntime, folder: &str, kept: &str, form: Form) -> io::Result<bool> {
     let input = file_in(rt, folder, "input")?;
     let Ok(input) = str::from_utf8(input.as_slice()) else {
         return Ok(false);
     };
-    let Some((written, done)) = cut_of(rt.alloc(), input, kept) else {
+    let Some((written, done)) = cut_of(rt.alloc(), input, kept, form) else {
         return Ok(false);
     };
     let same = written.as_slice() == file_in(rt, folder, "output")?.as_slice();
@@ -136,8 +137,15 @@ fn is_cut(rt: &HostRuntime, folder: &str, kept: &str) -> io::Result<bool> {
     }
 }
 
-/// Whether the trace of the transaction of the line is as the folder has it.
-fn is_traced(rt: &HostRuntime, folder: &str, line: &str) -> io::Result<bool> {
+/// Whether the command writes what the folder's file of that name has, of the transaction of the line.
+fn is_found(
+    rt: &HostRuntime,
+    folder: &str,
+    line: &str,
+    command: Command,
+    form: Form,
+    name: &str,
+) -> io::Result<bool> {
     let input = file_in(rt, folder, "input")?;
     let (Ok(input), Some(id)) = (
         str::from_utf8(input.as_slice()),
@@ -145,10 +153,20 @@ fn is_traced(rt: &HostRuntime, folder: &str, line: &str) -> io::Result<bool> {
     ) else {
         return Ok(false);
     };
-    match trace_of(rt.alloc(), input, id) {
-        Some(written) => Ok(written.as_slice() == file_in(rt, folder, "output")?.as_slice()),
+    match found_in(rt.alloc(), input, id, command, form) {
+        Some(written) => Ok(written.as_slice() == file_in(rt, folder, name)?.as_slice()),
         None => Ok(false),
     }
+}
+
+/// Whether all commands write lines of JSON as the folder has them, of the transaction of the line.
+fn are_json(rt: &HostRuntime, folder: &str, line: &str) -> io::Result<bool> {
+    Ok(
+        is_found(rt, folder, line, Command::Audit, Form::Json, "audit")?
+            && is_found(rt, folder, line, Command::Events, Form::Json, "events")?
+            && is_found(rt, folder, line, Command::Trace, Form::Json, "trace")?
+            && is_found(rt, folder, line, Command::Show, Form::Json, "show")?,
+    )
 }
 
 /// The text of the folder's file of that name. `None` where there is no such file.
@@ -168,11 +186,21 @@ fn is_as_written(rt: &HostRuntime, folder: &str) -> io::Result<bool> {
     if let Some(line) = text_in(rt, folder, "word")? {
         return is_explained(rt, folder, line.as_str());
     }
+    let json = text_in(rt, folder, "json")?;
     if let Some(kept) = text_in(rt, folder, "kept")? {
-        return is_cut(rt, folder, kept.as_str());
+        let form = if json.is_some() {
+            Form::Json
+        } else {
+            Form::Lines
+        };
+        return is_cut(rt, folder, kept.as_str(), form);
+    }
+    if let Some(line) = json {
+        return are_json(rt, folder, line.as_str());
     }
     if let Some(line) = text_in(rt, folder, "id")? {
-        return is_traced(rt, folder, line.as_str());
+        let line = line.as_str();
+        return is_found(rt, folder, line, Command::Trace, Form::Lines, "output");
     }
     is_so(rt, folder)
 }

@@ -4,7 +4,7 @@ use crate::given::Given::{self, Event, Message};
 use crate::given::input_of;
 use crate::registries::{registry, worked_scheme};
 use crate::same::{assert_same, room};
-use audit::audit;
+use audit::{Form, audit};
 use command_faults::OpFault;
 use desk::stores::{MemoryStore, NodeStore, StoreFault};
 use protocol::units::Node;
@@ -109,7 +109,7 @@ pub fn audited(
     ];
     let mut written = room(rt, alloc);
     let done = again!(
-        audit(alloc, &scheme, &mut stores, &mut written),
+        audit(alloc, &scheme, &mut stores, &mut written, Form::Lines),
         Err(OpFault::NoMemory) => assert!(rt; written.is_empty())
     );
     drop(stores);

@@ -5,7 +5,7 @@ ghost use Rattle.world.specs.Cores.{journal_of};
 
 use crate::fused_files::{MemoryFiles, Stored, after_a_crash, closed, options, registry};
 use crate::same::{assert_same, room};
-use audit::audit;
+use audit::{Form, audit};
 use desk::stores::{NodeStore, StoreFault};
 use desk::{State, Told};
 use protocol::scheme::Scheme;
@@ -175,7 +175,7 @@ fn table_of<S: NodeStore>(rt: &impl Abort, alloc: Global, stores: &mut [S]) -> V
     assert!(rt; stores.len() == 3);
     let mut written = room(rt, alloc);
     let done = again!(
-        audit(alloc, &scheme, stores, &mut written),
+        audit(alloc, &scheme, stores, &mut written, Form::Lines),
         Err(_) => assert!(rt; written.is_empty())
     );
     assert_same(rt, done, Ok(()));

@@ -20,6 +20,7 @@ use Rattle.protocol.specs.declared.event.WorldEvent.TheVariants.{Take, Commit, P
 use Rattle.chart.specs.ChartLines.{lost_line, participant_line, wide_note_line}
 use Rattle.chart.specs.Chart.{Happening, HasDrawn, IsChart, IsDrawn, chart_text, delivers, first_ones, happening, happening_line, happening_nodes, happenings, is_delivered, lost, message_of, participants, parties}
 use Rattle.report.specs.Table.{IsSafeTable}
+use Rattle.report.specs.declared.form.Form.TheVariants.{Lines}
 use Rattle.rehearse.proofs.Runs.{run-snoc}
 
 flat_snoc : {X A : Type 0} (f : X → List A) (xs : List X) (x : X) → flat_map f (xs ++ x ∷ []) ≡ flat_map f xs ++ f x
@@ -133,7 +134,7 @@ module _ (scheme : Scheme) (events : List WorldEvent) (w : World) (named : List 
   abbrev all : List Happening
   all = happenings (opening scheme) events
 
-  pub charted : (never : List Message) (nodes : List Node) (front table text : List ℕ) → never ≡ lost all w.bag → nodes ≡ participants all never → IsSafeTable scheme events table
+  pub charted : (never : List Message) (nodes : List Node) (front table text : List ℕ) → never ≡ lost all w.bag → nodes ≡ participants all never → IsSafeTable Lines scheme events table
       → front ≡ codes "sequenceDiagram\n" ++ flat_map participant_line nodes ++ lines ++ flat_map lost_line never → text ≡ front ++ wide_note_line nodes table → IsChart scheme events text
   charted never nodes front table text lacks takes is begins ends =
       let v = run (opening scheme) events in

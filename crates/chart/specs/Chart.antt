@@ -14,6 +14,7 @@ use Rattle.protocol.specs.declared.event.WorldEvent.{WorldEvent}
 use Rattle.protocol.specs.declared.event.WorldEvent.TheVariants.{Take, Commit, Post, Deliver, Crash, Restart}
 use Rattle.chart.specs.ChartLines.{event_line, lost_line, participant_line, wide_note_line}
 use Rattle.report.specs.Table.{IsSafeTable}
+use Rattle.report.specs.declared.form.Form.TheVariants.{Lines}
 
 -- ---- what happened
 
@@ -102,7 +103,7 @@ chart_text hs never table =
 -- the text is the chart of the events under the scheme, with the table of the world that they lead to
 pub record IsChart (scheme : Scheme) (events : List WorldEvent) (text : List ℕ) : Type 0 where
   pub table : List ℕ
-  pub is_table : IsSafeTable scheme events table
+  pub is_table : IsSafeTable Lines scheme events table
   pub spelled : text ≡ chart_text (happenings (opening scheme) events) (lost (happenings (opening scheme) events) (run (opening scheme) events).bag) table
 
 -- ---- what the code follows; no public contract cites what stands below

@@ -14,6 +14,7 @@ ghost use Rattle.chart.specs.ChartLines.{lost_line, participant_line, wide_note_
 ghost use Rattle.chart.specs.Chart.{HasDrawn, Happening, IsChart, IsDrawn, arrives, delivers, event_nodes, first_ones, is_delivered, lost, message_of, parties};
 ghost use Rattle.rehearse.specs.Rehearsal.{Reports, FailsSo};
 ghost use Rattle.report.specs.Table.{IsSafeTable};
+ghost use Rattle.report.specs.declared.form.Form.TheVariants.{Lines};
 
 use crate::events::push_event;
 use crate::messages::push_lost;
@@ -22,7 +23,7 @@ use command_faults::OpFault;
 use protocol::scheme::Scheme;
 use protocol::{Outcome, Posted, WorldEvent};
 use rehearse::{Reporter, report_input};
-use report::push_table;
+use report::{Form, push_table};
 use std::alloc::Global;
 use std::collections::BTreeSet;
 use std::io::{Read, Write};
@@ -242,11 +243,11 @@ fn push_table_note(
 ) -> Result<(), NoMemory>
     ensures { (scheme : Scheme) (events : List WorldEvent) → world.now ≡ run (opening scheme) events
         → OnOk result
-        ((table : List ℕ) × IsSafeTable scheme events table
+        ((table : List ℕ) × IsSafeTable Lines scheme events table
         × (string_bytes text.new ≡ string_bytes text.old ++ wide_note_line nodes.now table)) }
 {
     let mut table = String::new(alloc);
-    push_table(alloc, &mut table, world)?;
+    push_table(alloc, &mut table, world, Form::Lines)?;
     push_wide_note(alloc, text, nodes, table.as_str())?;
     Ok(())
 }

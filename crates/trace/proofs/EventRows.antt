@@ -17,6 +17,7 @@ use Rattle.protocol.specs.declared.event.Outcome.{Outcome}
 use Rattle.protocol.specs.declared.event.Outcome.TheVariants.{Recorded, Repeat, Late, Refused, Done, NotPossible}
 use Rattle.protocol.specs.declared.event.Posted.{Posted}
 use Rattle.protocol.specs.declared.event.WorldEvent.{WorldEvent}
+use Rattle.report.specs.declared.form.Form.{Form}
 use Rattle.trace.specs.Followed.{HasFollowed, HasLines, IsWritten, KnowsSent, is_traced, place_of, sent_about}
 use Rattle.trace.specs.Lines.{AreRowLines, IsRowLine}
 use Rattle.trace.specs.Rows.{Row, given, is_of, moves, names, row_by, row_of, rows, standing}
@@ -110,11 +111,11 @@ module _ (w next : World) (id : TransactionId) (r : Placed) (n : Node) (place : 
   rows_absent : is_traced sent id n input before now ≡ false → row_of w next id r (Recorded place) ≡ []
   rows_absent no_record = cond-false (is_of w next id r) _ _ (sym traced_is ∙ no_record)
 
-  pub with_row : (old new : List ℕ) → is_traced sent id n input before now ≡ true → (line : List ℕ) × IsRowLine line here × (new ≡ old ++ line) → HasLines old new (row_of w next id r (Recorded place))
-  with_row old new found added = subst (HasLines old new) (sym (rows_there found)) (added.0, one_line added.0 here added.1, added.2)
+  pub with_row : (form : Form) (old new : List ℕ) → is_traced sent id n input before now ≡ true → (line : List ℕ) × IsRowLine form line here × (new ≡ old ++ line) → HasLines form old new (row_of w next id r (Recorded place))
+  with_row form old new found added = subst (HasLines form old new) (sym (rows_there found)) (added.0, one_line form added.0 here added.1, added.2)
 
-  pub without_row : (old new : List ℕ) → is_traced sent id n input before now ≡ false → new ≡ old → HasLines old new (row_of w next id r (Recorded place))
-  without_row old new no_record same = subst (HasLines old new) (sym (rows_absent no_record)) (subst (λ x. HasLines old x []) (sym same) (no_lines old))
+  pub without_row : (form : Form) (old new : List ℕ) → is_traced sent id n input before now ≡ false → new ≡ old → HasLines form old new (row_of w next id r (Recorded place))
+  without_row form old new no_record same = subst (HasLines form old new) (sym (rows_absent no_record)) (subst (λ x. HasLines form old x []) (sym same) (no_lines form old))
 
 -- ---- one event
 
@@ -123,26 +124,28 @@ module _ (old new : Tracing) (e : WorldEvent) (next : World) (o : Outcome) (know
   went = ap (λ (s : Stepped). s.world) does
 
   -- that gives a node an input
-  pub gave : (n : Node) → receiver old.world e ≡ Some n → new.id ≡ old.id → new.world ≡ next → new.sent.items ≡ old.sent.items
-      → ((r : Placed) → given old.world e ≡ Some r → r.node ≡ n → HasLines old.text.items new.text.items (row_of old.world next old.id r o)) → HasFollowed old new e
-  gave n to id world sent lines =
+  pub gave : (n : Node) → receiver old.world e ≡ Some n → new.id ≡ old.id → new.form ≡ old.form → new.world ≡ next → new.sent.items ≡ old.sent.items
+      → ((r : Placed) → given old.world e ≡ Some r → r.node ≡ n → HasLines old.form old.text.items new.text.items (row_of old.world next old.id r o)) → HasFollowed old new e
+  gave n to id form world sent lines =
       let found = given_to old.world e n to in
       let r = found.0 in record {
         id = id;
+        form = form;
         world = world ∙ went;
         sent =
             sent ∙ knows
             ∙ ap (sent_about old.id) (sym (kept_bag old.world e n to))
             ∙ ap (λ x. sent_about old.id x.bag) (sym (world ∙ went))
             ∙ ap (λ i. sent_about i new.world.bag) (sym id);
-        lines = subst (HasLines old.text.items new.text.items) (row_given old.world next old.id e r o found.1 does) (lines r found.1 found.2);
+        lines = subst (HasLines old.form old.text.items new.text.items) (row_given old.world next old.id e r o found.1 does) (lines r found.1 found.2);
       }
 
   -- that gives none
-  pub passed : receiver old.world e ≡ None → new.id ≡ old.id → new.world ≡ next → new.text.items ≡ old.text.items
+  pub passed : receiver old.world e ≡ None → new.id ≡ old.id → new.form ≡ old.form → new.world ≡ next → new.text.items ≡ old.text.items
       → new.sent.items ≡ old.sent.items ++ sent_about old.id (drop (length old.world.bag) next.bag) → HasFollowed old new e
-  passed none id world text sent = record {
+  passed none id form world text sent = record {
     id = id;
+    form = form;
     world = world ∙ went;
     sent =
         sent
@@ -151,7 +154,7 @@ module _ (old new : Tracing) (e : WorldEvent) (next : World) (o : Outcome) (know
         ∙ sent_after old.world old.id e
         ∙ ap (λ x. sent_about old.id x.bag) (sym (world ∙ went))
         ∙ ap (λ i. sent_about i new.world.bag) (sym id);
-    lines = subst (HasLines old.text.items new.text.items) (sym (row_none old.world old.id e (given_none old.world e none))) (subst (λ x. HasLines old.text.items x []) (sym text) (no_lines old.text.items));
+    lines = subst (HasLines old.form old.text.items new.text.items) (sym (row_none old.world old.id e (given_none old.world e none))) (subst (λ x. HasLines old.form old.text.items x []) (sym text) (no_lines old.form old.text.items));
   }
 
 pub recorded_at : (w next : World) (e : WorldEvent) (r : Placed) (n : Node) (o : Outcome) (place : ℕ) → after next o ≡ step w e → o ≡ Recorded place → given w e ≡ Some r → r.node ≡ n → slice_get (whole (station next n)) place ≡ Some r.input
@@ -171,25 +174,25 @@ rows_next w next id events i e low is went =
     ∙ ap (λ x. row_by w id e ++ rows x id (drop (suc i) events)) (sym went)
     ∙ ap (λ k. row_by w id e ++ rows next id (drop k events)) one
 
-pub none_written : (start : List ℕ) (first : World) (id : TransactionId) (events : List WorldEvent) → IsWritten start start first first id events events
-none_written start first id events = ([], no_lines start, refl)
+pub none_written : (form : Form) (start : List ℕ) (first : World) (id : TransactionId) (events : List WorldEvent) → IsWritten form start start first first id events events
+none_written form start first id events = ([], no_lines form start, refl)
 
-pub written_next : (start mid new : List ℕ) (first w next : World) (id own : TransactionId) (events : List WorldEvent) (i : ℕ) (e : WorldEvent) → i < length events → e ≡ get_or events i e → own ≡ id → next ≡ (step w e).world
-    → IsWritten start mid first w id events (drop i events) → HasLines mid new (row_by w own e) → IsWritten start new first next id events (drop (i + 1) events)
-written_next start mid new first w next id own events i e low is same went before more =
+pub written_next : (form : Form) (start mid new : List ℕ) (first w next : World) (id own : TransactionId) (written_as : Form) (events : List WorldEvent) (i : ℕ) (e : WorldEvent) → i < length events → e ≡ get_or events i e → own ≡ id → written_as ≡ form → next ≡ (step w e).world
+    → IsWritten form start mid first w id events (drop i events) → HasLines written_as mid new (row_by w own e) → IsWritten form start new first next id events (drop (i + 1) events)
+written_next form start mid new first w next id own written_as events i e low is same as_before went before more =
     let rs = before.0 in
-    let lines : HasLines mid new (row_by w id e) = subst (λ t. HasLines mid new (row_by w t e)) same more in (
+    let lines : HasLines form mid new (row_by w id e) = subst (λ t. HasLines form mid new (row_by w t e)) same (subst (λ f. HasLines f mid new (row_by w own e)) as_before more) in (
       rs ++ row_by w id e,
-      lines_then start mid new rs (row_by w id e) before.1 lines,
+      lines_then form start mid new rs (row_by w id e) before.1 lines,
       before.2 ∙ ap (λ x. rs ++ x) (rows_next w next id events i e low is went) ∙ sym (append_assoc rs (row_by w id e) (rows next id (drop (i + 1) events))),
     )
 
-pub all_written : (start now : List ℕ) (first w : World) (id : TransactionId) (events : List WorldEvent) (i : ℕ) → length events ≤ i → IsWritten start now first w id events (drop i events) → HasLines start now (rows first id events)
-all_written start now first w id events i past written =
+pub all_written : (form : Form) (start now : List ℕ) (first w : World) (id : TransactionId) (events : List WorldEvent) (i : ℕ) → length events ≤ i → IsWritten form start now first w id events (drop i events) → HasLines form start now (rows first id events)
+all_written form start now first w id events i past written =
     let rs = written.0 in
     let none : rows w id (drop i events) ≡ [] = ap (rows w id) (drop_of_length-le events past) in
-    subst (HasLines start now) (sym (written.2 ∙ ap (λ x. rs ++ x) none ∙ append-nil rs)) written.1
+    subst (HasLines form start now) (sym (written.2 ∙ ap (λ x. rs ++ x) none ∙ append-nil rs)) written.1
 
 -- from no text on
-pub whole_text : (now : List ℕ) (rs : List Row) → HasLines [] now rs → AreRowLines now rs
-whole_text now rs has = subst (λ x. AreRowLines x rs) (sym has.2) has.1
+pub whole_text : (form : Form) (now : List ℕ) (rs : List Row) → HasLines form [] now rs → AreRowLines form now rs
+whole_text form now rs has = subst (λ x. AreRowLines form x rs) (sym has.2) has.1

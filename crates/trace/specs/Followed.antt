@@ -13,6 +13,7 @@ use Rattle.protocol.specs.declared.event.Outcome.{Outcome}
 use Rattle.protocol.specs.declared.event.Outcome.TheVariants.{Recorded}
 use Rattle.protocol.specs.declared.event.Posted.{Posted}
 use Rattle.protocol.specs.declared.event.WorldEvent.{WorldEvent}
+use Rattle.report.specs.declared.form.Form.{Form}
 use Rattle.trace.specs.Lines.{AreRowLines}
 use Rattle.trace.specs.Rows.{Row, names, row_by, rows, same_standing}
 use Rattle.trace.specs.declared.following.Tracing.{Tracing}
@@ -46,8 +47,8 @@ abbrev pub is_traced : List Sent → TransactionId → Node → Input → (befor
 is_traced sent id n input before now = names id input || (acknowledges_one sent n input || not (same_standing before now))
 
 -- the text has lines of the rows more
-abbrev pub HasLines : (old new : List ℕ) → List Row → Type 0
-HasLines old new rs = (lines : List ℕ) × AreRowLines lines rs × (new ≡ old ++ lines)
+abbrev pub HasLines : Form → (old new : List ℕ) → List Row → Type 0
+HasLines form old new rs = (lines : List ℕ) × AreRowLines form lines rs × (new ≡ old ++ lines)
 
 abbrev pub KnowsSent : Tracing → Type 0
 KnowsSent t = t.sent.items ≡ sent_about t.id t.world.bag
@@ -55,11 +56,12 @@ KnowsSent t = t.sent.items ≡ sent_about t.id t.world.bag
 -- the event has happened, and the text has the line of its row more
 pub record HasFollowed (old new : Tracing) (e : WorldEvent) : Type 0 where
   pub id : new.id ≡ old.id
+  pub form : new.form ≡ old.form
   pub world : new.world ≡ (step old.world e).world
   pub sent : KnowsSent new
-  pub lines : HasLines old.text.items new.text.items (row_by old.world old.id e)
+  pub lines : HasLines old.form old.text.items new.text.items (row_by old.world old.id e)
 
 -- the rows of the whole list of events, from the first world on, are those that were written and those of the events
 -- that are left
-abbrev pub IsWritten : (start now : List ℕ) (first w : World) → TransactionId → (whole left : List WorldEvent) → Type 0
-IsWritten start now first w id whole left = (rs : List Row) × HasLines start now rs × (rows first id whole ≡ rs ++ rows w id left)
+abbrev pub IsWritten : Form → (start now : List ℕ) (first w : World) → TransactionId → (whole left : List WorldEvent) → Type 0
+IsWritten form start now first w id whole left = (rs : List Row) × HasLines form start now rs × (rows first id whole ≡ rs ++ rows w id left)

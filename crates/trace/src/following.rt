@@ -10,9 +10,10 @@ ghost use Rattle.trace.specs.Lines.{AreRowLines, IsTrace};
 ghost use Rattle.trace.specs.Rows.{given, names, row_of, rows, same_standing, standing};
 
 use crate::sent::{Sent, acknowledges, add_sent, is_same_id};
-use crate::text::push_row;
+use crate::text::{end_line, push_row};
 use protocol::scheme::Scheme;
 use protocol::{Outcome, Posted, WorldEvent};
+use report::Form;
 use status::{Status, TransactionId};
 use std::alloc::Global;
 use units::{NoMemory, Node};
@@ -23,6 +24,7 @@ use world::World;
 pub(crate) struct Tracing {
     pub alloc: Global,
     pub id: TransactionId,
+    pub form: Form,
     pub world: World,
     /// The messages about the transaction in the world's bag.
     pub sent: Vec<Sent>,
@@ -35,6 +37,7 @@ impl Drop for Tracing {
         let Tracing {
             alloc: _,
             id: _,
+            form: _,
             world,
             sent,
             text,
@@ -128,8 +131,14 @@ fn bag_from(world: &World, first: usize) -> &[Posted]
 
 impl Tracing {
     /// The opening world, in which nothing is recorded.
-    fn new(alloc: Global, scheme: &Scheme, id: TransactionId) -> Result<Tracing, NoMemory>
+    fn new(
+        alloc: Global,
+        scheme: &Scheme,
+        id: TransactionId,
+        form: Form,
+    ) -> Result<Tracing, NoMemory>
         ensures id { IfOk result (λ t. t.id ≡ id) }
+        ensures form { IfOk result (λ t. t.form ≡ form) }
         ensures world { IfOk result (λ t. t.world ≡ opening scheme.now) }
         ensures sent { IfOk result KnowsSent }
         ensures text { IfOk result (λ t. t.text.items ≡ []) }
@@ -137,6 +146,7 @@ impl Tracing {
         Ok(Tracing {
             alloc,
             id,
+            form,
             world: World::new(alloc, scheme)?,
             sent: Vec::new(alloc),
             text: Vec::new(alloc),
@@ -149,17 +159,18 @@ impl Tracing {
         ensures lines { (w : Place) (r : Placed) → r.node ≡ node
             → slice_get (whole (station self.old.world node)) place ≡ Some r.input
             → before ≡ standing w node self.old.id → self.old.sent.items ≡ sent_about self.old.id w.bag
-            → OnOk result (HasLines self.old.text.items self.new.text.items
+            → OnOk result (HasLines self.old.form self.old.text.items self.new.text.items
             (row_of w self.old.world self.old.id r (Recorded place))) }
         ensures same { OnOk result ((self.new.id ≡ self.old.id) × (self.new.world ≡ self.old.world)
-            × (self.new.sent.items ≡ self.old.sent.items)) }
+            × (self.new.sent.items ≡ self.old.sent.items) × (self.new.form ≡ self.old.form)) }
     {
         let Some(input) = record_at(&self.world, node, place) else {
             return Ok(());
         };
         let now = self.world.status(node, self.id);
         if is_traced(self.sent.as_slice(), self.id, node, input, before, now) {
-            push_row(self.alloc, &mut self.text, node, place, input, now)?;
+            let text = &mut self.text;
+            push_row(self.alloc, text, self.form, node, place, input, now)?;
         }
         Ok(())
     }
@@ -204,7 +215,7 @@ impl Tracing {
     /// Goes on by all the events.
     fn follow_all(&mut self, events: &[WorldEvent]) -> Result<(), NoMemory>
         requires sent { KnowsSent self.old }
-        ensures { OnOk result (HasLines self.old.text.items self.new.text.items
+        ensures { OnOk result (HasLines self.old.form self.old.text.items self.new.text.items
             (rows self.old.world self.old.id events.now)) }
     {
         for event in events {
@@ -220,6 +231,7 @@ impl Tracing {
         let Tracing {
             alloc: _,
             id: _,
+            form: _,
             world,
             sent,
             text,
@@ -236,10 +248,11 @@ fn lines_of(
     scheme: &Scheme,
     events: &[WorldEvent],
     id: TransactionId,
+    form: Form,
 ) -> Result<Vec<u8>, NoMemory>
-    ensures { IfOk result (λ v. AreRowLines v.items (rows (opening scheme.now) id events.now)) }
+    ensures { IfOk result (λ v. AreRowLines form v.items (rows (opening scheme.now) id events.now)) }
 {
-    let mut tracing = Tracing::new(alloc, scheme, id)?;
+    let mut tracing = Tracing::new(alloc, scheme, id, form)?;
     match tracing.follow_all(events) {
         Ok(()) => Ok(tracing.into_text()),
         Err(NoMemory) => {
@@ -259,10 +272,11 @@ pub(crate) fn trace_text(
     scheme: &Scheme,
     events: &[WorldEvent],
     id: TransactionId,
+    form: Form,
 ) -> Result<Vec<u8>, NoMemory>
-    ensures { IfOk result (λ v. IsTrace v.items (rows (opening scheme.now) id events.now)) }
+    ensures { IfOk result (λ v. IsTrace form v.items (rows (opening scheme.now) id events.now)) }
 {
-    let mut text = lines_of(alloc, scheme, events, id)?;
-    text.extend_from_slice(b"end\n")?;
+    let mut text = lines_of(alloc, scheme, events, id, form)?;
+    text.extend_from_slice(end_line(form))?;
     Ok(text)
 }

@@ -4,8 +4,9 @@ ghost use Rattle.units.specs.Code.{node_text};
 ghost use Rattle.units.specs.Text.{IsFreeOf};
 ghost use Rattle.status.specs.Moment.{IsMomentText};
 ghost use Rattle.report.specs.ReportLines.{status_or_none};
-ghost use Rattle.trace.specs.Lines.{IsMomentOf, IsMomentWord, IsRowLine};
+ghost use Rattle.trace.specs.Lines.{IsMomentOf, IsMomentWord, IsRowLine, IsWordLine, end_line, json_line, json_moment, json_status};
 
+use report::Form;
 use status::{Moment, Status};
 use std::alloc::Global;
 use std::fmt::Write;
@@ -79,13 +80,8 @@ fn head_of(
     Ok(format!(in alloc; "{node} {place} {moment} {status} ")?)
 }
 
-/// Adds the line of a record at that place of the node's journal, after which the transaction stands so.
-///
-/// # Errors
-///
-/// Fails with `NoMemory` where there is no room for the line, which may then be there in part, and where `moment_word`
-/// does.
-pub(crate) fn push_row(
+/// Adds the line of a record as words.
+fn push_words(
     alloc: Global,
     text: &mut Vec<u8>,
     node: Node,
@@ -94,7 +90,7 @@ pub(crate) fn push_row(
     status: Option<Status>,
 ) -> Result<(), NoMemory>
     ensures { OnOk result ((line : List ℕ)
-        × IsRowLine line (record { node = node; place = place; input = input.now; status = status })
+        × IsWordLine line (record { node = node; place = place; input = input.now; status = status })
         × (text.new.items ≡ text.old.items ++ line)) }
 {
     let moment = moment_of(alloc, input)?;
@@ -104,4 +100,115 @@ pub(crate) fn push_row(
     text.extend_from_slice(record.as_slice())?;
     text.extend_from_slice(b"\n")?;
     Ok(())
+}
+
+/// The input's moment in seconds, or `null`.
+fn json_moment(alloc: Global, input: &Input) -> Result<String, NoMemory>
+    ensures { IfOk result (λ s. string_bytes s ≡ json_moment input.now) }
+{
+    match input {
+        Input::Received { moment, .. } => Ok(format!(in alloc; "{}", moment.seconds)?),
+        Input::CleanUp(moment) => Ok(format!(in alloc; "{}", moment.seconds)?),
+        _ => Ok(format!(in alloc; "null")?),
+    }
+}
+
+/// The status in quotation marks, or `null`.
+fn json_status(alloc: Global, status: Option<Status>) -> Result<String, NoMemory>
+    ensures { IfOk result (λ s. string_bytes s ≡ json_status status) }
+{
+    match status {
+        Some(status) => Ok(format!(in alloc; "\"{}\"", status.name())?),
+        None => Ok(format!(in alloc; "null")?),
+    }
+}
+
+/// The node and the place, as members of an object that come after others and before the record.
+fn json_seat(alloc: Global, node: Node, place: u64) -> Result<String, NoMemory>
+    ensures { IfOk result (λ s. string_bytes s ≡ codes ",\"node\":\"" ++ node_text node ++ codes "\",\"place\":"
+        ++ decimal place ++ codes ",\"record\":") }
+{
+    Ok(format!(in alloc; ",\"node\":\"{node}\",\"place\":{place},\"record\":")?)
+}
+
+/// Adds an object of these texts, and a newline.
+fn push_members(
+    text: &mut Vec<u8>,
+    moment: &str,
+    seat: &str,
+    record: &[u8],
+    status: &str,
+) -> Result<(), NoMemory>
+    ensures { OnOk result (text.new.items ≡ text.old.items ++ (codes "{\"moment\":" ++ moment.now ++ seat.now
+        ++ record.now ++ codes ",\"status\":" ++ status.now ++ codes "}\n")) }
+{
+    text.extend_from_slice(b"{\"moment\":")?;
+    text.extend_from_slice(moment.as_bytes())?;
+    text.extend_from_slice(seat.as_bytes())?;
+    text.extend_from_slice(record)?;
+    text.extend_from_slice(b",\"status\":")?;
+    text.extend_from_slice(status.as_bytes())?;
+    text.extend_from_slice(b"}\n")?;
+    Ok(())
+}
+
+/// Adds the line of a record as an object.
+fn push_object(
+    alloc: Global,
+    text: &mut Vec<u8>,
+    node: Node,
+    place: u64,
+    input: &Input,
+    status: Option<Status>,
+) -> Result<(), NoMemory>
+    ensures { OnOk result (text.new.items ≡ text.old.items
+        ++ json_line (record { node = node; place = place; input = input.now; status = status })) }
+{
+    let moment = json_moment(alloc, input)?;
+    let seat = json_seat(alloc, node, place)?;
+    let record = encode_input(alloc, input)?;
+    let stands = json_status(alloc, status)?;
+    push_members(
+        text,
+        moment.as_str(),
+        seat.as_str(),
+        record.as_slice(),
+        stands.as_str(),
+    )?;
+    Ok(())
+}
+
+/// Adds the line of a record at that place of the node's journal, after which the transaction stands so.
+///
+/// # Errors
+///
+/// Fails with `NoMemory` where there is no room for the line, which may then be there in part, and where `moment_word`
+/// does.
+pub(crate) fn push_row(
+    alloc: Global,
+    text: &mut Vec<u8>,
+    form: Form,
+    node: Node,
+    place: u64,
+    input: &Input,
+    status: Option<Status>,
+) -> Result<(), NoMemory>
+    ensures { OnOk result ((line : List ℕ)
+        × IsRowLine form line (record { node = node; place = place; input = input.now; status = status })
+        × (text.new.items ≡ text.old.items ++ line)) }
+{
+    match form {
+        Form::Lines => push_words(alloc, text, node, place, input, status),
+        Form::Json => push_object(alloc, text, node, place, input, status),
+    }
+}
+
+/// The last line, with its newline.
+pub(crate) fn end_line(form: Form) -> &'static [u8]
+    ensures { result.now ≡ end_line form }
+{
+    match form {
+        Form::Lines => b"end\n",
+        Form::Json => b"{\"line\":\"end\"}\n",
+    }
 }

@@ -13,6 +13,7 @@ use crate::following::trace_text;
 use audit::{fault_of, load_cores};
 use command_faults::OpFault;
 use protocol::scheme::Scheme;
+use report::Form;
 use status::TransactionId;
 use std::alloc::Global;
 use std::io::Write;
@@ -27,17 +28,18 @@ fn text_of_woven(
     scheme: &Scheme,
     woven: Result<Woven, WeaveFault>,
     id: TransactionId,
+    form: Form,
 ) -> Result<Vec<u8>, OpFault>
     ensures ok { (journals : List (List Input))
         → IfOk woven (λ w. IsWoven scheme.now (journal_of scheme.now journals) w.events.items w.world)
-        → IfOk result (λ v. TracesRun scheme.now journals id v.items) }
+        → IfOk result (λ v. TracesRun form scheme.now journals id v.items) }
     ensures err { (journals : List (List Input)) → IfErr woven (IsWeaveFault scheme.now (journal_of scheme.now journals))
         → IfErr result (FailsToWeave scheme.now journals) }
 {
     match woven {
         Ok(woven) => {
             drop(woven.world);
-            Ok(trace_text(alloc, scheme, woven.events.as_slice(), id)?)
+            Ok(trace_text(alloc, scheme, woven.events.as_slice(), id, form)?)
         }
         Err(fault) => Err(fault_of(fault)),
     }
@@ -49,14 +51,21 @@ fn text_of_cores<P: Watch>(
     scheme: &Scheme,
     cores: Vec<Core>,
     id: TransactionId,
+    form: Form,
     watch: &mut P,
 ) -> Result<Vec<u8>, OpFault>
     requires nodes { map node_cores.node_of cores.items ≡ nodes scheme.now }
     requires schemes { All (λ core. node_cores.scheme_of core ≡ scheme.now) cores.items }
-    ensures ok { IfOk result (λ v. TracesRun scheme.now (map node_cores.journal_of cores.items) id v.items) }
+    ensures ok { IfOk result (λ v. TracesRun form scheme.now (map node_cores.journal_of cores.items) id v.items) }
     ensures err { IfErr result (FailsToWeave scheme.now (map node_cores.journal_of cores.items)) }
 {
-    text_of_woven(alloc, scheme, weave_cores(alloc, scheme, cores, watch), id)
+    text_of_woven(
+        alloc,
+        scheme,
+        weave_cores(alloc, scheme, cores, watch),
+        id,
+        form,
+    )
 }
 
 /// Reads the stores, one for each node: the log's, then those of the registries in the scheme's order. Finds a run that
@@ -70,6 +79,9 @@ fn text_of_cores<P: Watch>(
 /// moment of a received message or of a clean-up (`-` for other records), where the transaction stands at that node
 /// after it (`none` where it isn't known there), and the record's text. A moment is any text that `Moment::read` reads
 /// as it, without a space.
+///
+/// As JSON, each line is an object with `moment` (in seconds, or `null`), `node`, `place`, `record` and `status` (or
+/// `null`), and the last line is `{"line":"end"}`.
 ///
 /// The stores are read by pages, and nothing is written to them.
 ///
@@ -90,17 +102,18 @@ pub fn trace<S: NodeStore, W: Write, P: Watch>(
     id: TransactionId,
     writer: &mut W,
     watch: &mut P,
+    form: Form,
 ) -> Result<(), OpFault>
     requires { length stores.old ≡ length (nodes scheme.now) }
-    ensures ok { OnOk result ((text : List ℕ) × Traces S.NodeStore scheme.now stores.old stores.new id text
+    ensures ok { OnOk result ((text : List ℕ) × Traces S.NodeStore form scheme.now stores.old stores.new id text
         × Appends (W.contents writer.old) (W.contents writer.new) text) }
     ensures err { IfErr result
-        (λ e. FailsToTrace S.NodeStore e scheme.now stores.old stores.new id (W.contents writer.old)
+        (λ e. FailsToTrace S.NodeStore form e scheme.now stores.old stores.new id (W.contents writer.old)
         (W.contents writer.new)) }
     ensures unwritten { AreUnwritten S.NodeStore stores.old stores.new }
 {
     let cores = load_cores(alloc, scheme, stores, watch)?;
-    let text = text_of_cores(alloc, scheme, cores, id, watch)?;
+    let text = text_of_cores(alloc, scheme, cores, id, form, watch)?;
     watch.finished();
     write_text(writer, text.as_slice())?;
     Ok(())

@@ -12,9 +12,10 @@ loop-event-preserved c =
     record {
       sent = did.sent;
       id = did.id ∙ before.id;
-      written = written_next start.text.items mid.text.items new.text.items start.world mid.world new.world start.id mid.id c.args.events.now c.loop-event.event-index c.event-item.result c.loop-event-test.true c.event-item.is before.id did.world before.written did.lines;
+      form = did.form ∙ before.form;
+      written = written_next start.form start.text.items mid.text.items new.text.items start.world mid.world new.world start.id mid.id mid.form c.args.events.now c.loop-event.event-index c.event-item.result c.loop-event-test.true c.event-item.is before.id before.form did.world before.written did.lines;
     }
 
 pub returns : goal.returns
 returns c =
-    all_written c.args.self.now.text.items c.loop-event.self.text.items c.args.self.now.world c.loop-event.self.world c.args.self.now.id c.args.events.now c.loop-event.event-index c.loop-event-test.false c.loop-event.invariant.written
+    all_written c.args.self.now.form c.args.self.now.text.items c.loop-event.self.text.items c.args.self.now.world c.loop-event.self.world c.args.self.now.id c.args.events.now c.loop-event.event-index c.loop-event-test.false c.loop-event.invariant.written

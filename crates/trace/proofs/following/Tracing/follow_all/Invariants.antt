@@ -6,5 +6,6 @@ abbrev pub invariant-loop-event : goal.invariant-loop-event
 invariant-loop-event l = record {
   sent : KnowsSent l.self;
   id : l.self.id ≡ l.fn.self.id;
-  written : IsWritten l.fn.self.text.items l.self.text.items l.fn.self.world l.self.world l.fn.self.id l.events (drop l.event-index l.events);
+  form : l.self.form ≡ l.fn.self.form;
+  written : IsWritten l.fn.self.form l.fn.self.text.items l.self.text.items l.fn.self.world l.self.world l.fn.self.id l.events (drop l.event-index l.events);
 }

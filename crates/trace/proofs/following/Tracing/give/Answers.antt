@@ -14,7 +14,7 @@ returns-in_ok-add_record c =
     let came = recorded_place c.in_ok-outcome.outcome place (sym c.place_of.ensures ∙ c.in-Some.is) in
     let does = ap (after next) (sym came) ∙ c.in_ok-outcome.ensures.ok in
     let same = c.in_ok-add_record.ensures.same in
-    gave t c.add_record.new.self e next (Recorded place) c.requires.sent does c.args.node c.requires.given same.0 same.1 same.2
+    gave t c.add_record.new.self e next (Recorded place) c.requires.sent does c.args.node c.requires.given same.0 same.3 same.1 same.2
     (λ r g at. c.in_ok-add_record.ensures.lines t.world r at (recorded_at t.world next e r c.args.node (Recorded place) place does refl g at) c.status-before.ensures c.requires.sent)
 
 pub returns-in_default : goal.returns-in_default
@@ -22,5 +22,5 @@ returns-in_default c =
     let t = c.args.self.now in
     let next = c.apply.new.self in
     let o = c.in_ok-outcome.outcome in
-    gave t (record t { world = next }) c.args.event.now next o c.requires.sent c.in_ok-outcome.ensures.ok c.args.node c.requires.given refl refl refl
-    (λ r g at. subst (HasLines t.text.items t.text.items) (sym (row_unrecorded t.world next t.id r o (sym c.place_of.ensures ∙ c.in_default.is))) (no_lines t.text.items))
+    gave t (record t { world = next }) c.args.event.now next o c.requires.sent c.in_ok-outcome.ensures.ok c.args.node c.requires.given refl refl refl refl
+    (λ r g at. subst (HasLines t.form t.text.items t.text.items) (sym (row_unrecorded t.world next t.id r o (sym c.place_of.ensures ∙ c.in_default.is))) (no_lines t.form t.text.items))

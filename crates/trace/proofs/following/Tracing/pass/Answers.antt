@@ -10,5 +10,5 @@ pub returns : goal.returns
 returns c =
     let t = c.args.self.now in
     let next = c.apply.new.self in
-    passed t (record t { world = next; sent = c.add_sent.new.sent }) c.args.event.now next c.in_ok-apply.field-0 c.requires.sent c.in_ok-apply.ensures.ok c.requires.given refl refl refl
+    passed t (record t { world = next; sent = c.add_sent.new.sent }) c.args.event.now next c.in_ok-apply.field-0 c.requires.sent c.in_ok-apply.ensures.ok c.requires.given refl refl refl refl
     (c.in_ok-add_sent.ensures ∙ ap (λ ps. t.sent.items ++ sent_about t.id ps) (c.bag_from.ensures ∙ ap (λ ps. drop (length ps) next.bag) c.bag-before.ensures))

@@ -1,7 +1,7 @@
 use Rattle.std.proofs.Common.{◌++◌, ap, ◌∙◌, codes, decimal, rules}
 use Rattle.units.specs.Code.{node_text}
 use Rattle.trace.proofs.RowLines.{row_line}
-use Rattle.trace.proofs.text.push_row.Goals as goal
+use Rattle.trace.proofs.text.push_words.Goals as goal
 
 pub returns : goal.returns
 returns c =

@@ -101,8 +101,8 @@ pub fn trace<S: NodeStore, W: Write, P: Watch>(
     stores: &mut [S],
     id: TransactionId,
     writer: &mut W,
-    watch: &mut P,
     form: Form,
+    watch: &mut P,
 ) -> Result<(), OpFault>
     requires { length stores.old ≡ length (nodes scheme.now) }
     ensures ok { OnOk result ((text : List ℕ) × Traces S.NodeStore form scheme.now stores.old stores.new id text

@@ -11,7 +11,8 @@ use Rattle.command_faults.specs.declared.fault.OpFault.{OpFault}
 use Rattle.command_faults.specs.declared.fault.OpFault.TheVariants as op_fault
 use Rattle.report.specs.declared.form.Form.{Form}
 use Rattle.operator.specs.Pages.{IsBegun, IsWithin, FailsToWrite, FailsWithin}
-use Rattle.operator.specs.Show.{record_lines, end_line, FailsToShow}
+use Rattle.operator.specs.Show.{record_lines, FailsToShow}
+use Rattle.report.specs.ReportLines.{end_line}
 use Rattle.operator.proofs.ShownPages.{cut-off, end-cut, end-some}
 
 -- a page was not written, or in part

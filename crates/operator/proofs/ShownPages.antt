@@ -11,7 +11,8 @@ use Rattle.stores.specs.declared.node_store.NodeStore.{Ghosts}
 use Rattle.report.specs.declared.form.Form.{Form}
 use Rattle.report.specs.declared.form.Form.TheVariants.{Lines, Json}
 use Rattle.operator.specs.Pages.{Reads, Shows, IsBegun, IsWithin}
-use Rattle.operator.specs.Show.{record_line, record_lines, end_line, shown, IsCutOff}
+use Rattle.operator.specs.Show.{record_line, record_lines, shown, IsCutOff}
+use Rattle.report.specs.ReportLines.{end_line}
 use Rattle.operator.proofs.Pages.{reads-more}
 
 -- lines after lines

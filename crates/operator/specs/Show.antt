@@ -8,6 +8,7 @@ use Rattle.stores.specs.Faults.{is_device_fault}
 use Rattle.stores.specs.Records.{Places, AreRecords, IsDamagedAt}
 use Rattle.stores.specs.declared.fault.StoreFault.{StoreFault}
 use Rattle.stores.specs.declared.fault.StoreFault.TheVariants.{Damaged, NoMemory as OutOfMemory}
+use Rattle.report.specs.ReportLines.{end_line}
 use Rattle.report.specs.declared.form.Form.{Form}
 use Rattle.report.specs.declared.form.Form.TheVariants.{Lines, Json}
 use Rattle.command_faults.specs.declared.fault.OpFault.{OpFault}
@@ -17,11 +18,6 @@ use Rattle.command_faults.specs.declared.fault.OpFault.TheVariants as op_fault
 abbrev pub record_line : Form → ℕ → Input → List ℕ
 record_line Lines place input = decimal place ++ codes " " ++ record_text input ++ codes "\n"
 record_line Json place input = codes "{\"place\":" ++ decimal place ++ codes ",\"record\":" ++ record_text input ++ codes "}\n"
-
--- the last line
-abbrev pub end_line : Form → List ℕ
-end_line Lines = codes "end\n"
-end_line Json = codes "{\"line\":\"end\"}\n"
 
 -- the lines of the records, the first of which is at that place
 abbrev pub record_lines : Form → ℕ → List Input → List ℕ

@@ -6,11 +6,11 @@ ghost use Rattle.stores.specs.Faults.{is_device_fault, IsReadFault};
 ghost use Rattle.stores.specs.Records.{AreRecords, IsDamagedAt, page_size};
 ghost use Rattle.stores.specs.declared.fault.StoreFault.{StoreFault};
 ghost use Rattle.operator.specs.Pages.{Reads, Stops, Shows, FailsToWrite, FailsWithin};
-ghost use Rattle.operator.specs.Show.{FailsToShow, end_line, record_line, record_lines, shown};
+ghost use Rattle.operator.specs.Show.{FailsToShow, record_line, record_lines, shown};
 
 use command_faults::{OpFault, store_fault};
 use itoa::Buffer;
-use report::Form;
+use report::{Form, end_line};
 use std::alloc::Global;
 use std::io::Write;
 use stores::{NodeStore, PAGE, StoreFault};
@@ -20,16 +20,6 @@ use wire::{Input, encode_input};
 
 /// Each record's place is below this number.
 const PLACE_LIMIT: u64 = 9_223_372_036_854_775_808;
-
-/// The last line, with its newline.
-fn end_line(form: Form) -> &'static [u8]
-    ensures { result.now ≡ end_line form }
-{
-    match form {
-        Form::Lines => b"end\n",
-        Form::Json => b"{\"line\":\"end\"}\n",
-    }
-}
 
 /// Adds the digits of the place, and the text after them.
 fn push_place(text: &mut Vec<u8>, place: u64, after: &[u8]) -> Result<(), NoMemory>

@@ -1,4 +1,6 @@
 //! In which form commands write.
+ghost use Rattle.std.specs.Prelude.{◌≡◌};
+ghost use Rattle.report.specs.ReportLines.{end_line};
 
 /// In which form a command writes.
 #[derive(Clone, Copy, Debug, PartialEq, Eq)]
@@ -7,4 +9,14 @@ pub enum Form {
     Lines,
     /// A JSON object a line.
     Json,
+}
+
+/// The last line of what is written so, with its newline.
+pub fn end_line(form: Form) -> &'static [u8]
+    ensures { result.now ≡ end_line form }
+{
+    match form {
+        Form::Lines => b"end\n",
+        Form::Json => b"{\"line\":\"end\"}\n",
+    }
 }

@@ -12,7 +12,7 @@ mod table;
 mod totals;
 mod transactions;
 
-pub use form::Form;
+pub use form::{Form, end_line};
 pub use messages::push_message;
 pub use outcomes::{push_outcome, push_outcome_text};
 pub use table::push_table;

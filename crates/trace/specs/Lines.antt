@@ -11,7 +11,7 @@ use Rattle.wire.specs.declared.input.Input.{Input}
 use Rattle.wire.specs.declared.input.Input.TheVariants.{CleanUp, Received}
 use Rattle.report.specs.declared.form.Form.{Form}
 use Rattle.report.specs.declared.form.Form.TheVariants.{Lines, Json}
-use Rattle.report.specs.ReportLines.{status_or_none}
+use Rattle.report.specs.ReportLines.{end_line, status_or_none}
 use Rattle.trace.specs.Rows.{Row}
 
 -- ---- lines of words
@@ -63,11 +63,6 @@ IsRowLine Json line r = line ≡ json_line r
 abbrev pub AreRowLines : Form → List ℕ → List Row → Type 0
 AreRowLines form text [] = text ≡ []
 AreRowLines form text (r ∷ rs) = (line : List ℕ) × (rest : List ℕ) × (text ≡ line ++ rest) × IsRowLine form line r × AreRowLines form rest rs
-
--- the last line
-abbrev pub end_line : Form → List ℕ
-end_line Lines = codes "end\n"
-end_line Json = codes "{\"line\":\"end\"}\n"
 
 -- and after them the last line
 pub record IsTrace (form : Form) (text : List ℕ) (rs : List Row) : Type 0 where

@@ -10,10 +10,10 @@ ghost use Rattle.trace.specs.Lines.{AreRowLines, IsTrace};
 ghost use Rattle.trace.specs.Rows.{given, names, row_of, rows, same_standing, standing};
 
 use crate::sent::{Sent, acknowledges, add_sent, is_same_id};
-use crate::text::{end_line, push_row};
+use crate::text::push_row;
 use protocol::scheme::Scheme;
 use protocol::{Outcome, Posted, WorldEvent};
-use report::Form;
+use report::{Form, end_line};
 use status::{Status, TransactionId};
 use std::alloc::Global;
 use units::{NoMemory, Node};

@@ -4,7 +4,7 @@ ghost use Rattle.units.specs.Code.{node_text};
 ghost use Rattle.units.specs.Text.{IsFreeOf};
 ghost use Rattle.status.specs.Moment.{IsMomentText};
 ghost use Rattle.report.specs.ReportLines.{status_or_none};
-ghost use Rattle.trace.specs.Lines.{IsMomentOf, IsMomentWord, IsRowLine, IsWordLine, end_line, json_line, json_moment, json_status};
+ghost use Rattle.trace.specs.Lines.{IsMomentOf, IsMomentWord, IsRowLine, IsWordLine, json_line, json_moment, json_status};
 
 use report::Form;
 use status::{Moment, Status};
@@ -200,15 +200,5 @@ pub(crate) fn push_row(
     match form {
         Form::Lines => push_words(alloc, text, node, place, input, status),
         Form::Json => push_object(alloc, text, node, place, input, status),
-    }
-}
-
-/// The last line, with its newline.
-pub(crate) fn end_line(form: Form) -> &'static [u8]
-    ensures { result.now ≡ end_line form }
-{
-    match form {
-        Form::Lines => b"end\n",
-        Form::Json => b"{\"line\":\"end\"}\n",
     }
 }

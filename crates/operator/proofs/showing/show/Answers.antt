@@ -3,7 +3,8 @@ use Rattle.std.specs.Io.KnownBytes.{Appends}
 use Rattle.std.proofs.KnownBytes.{Appends-trans}
 use Rattle.command_faults.specs.declared.fault.OpFault.{OpFault}
 use Rattle.operator.specs.Pages.{FailsWithin}
-use Rattle.operator.specs.Show.{FailsToShow, record_lines, end_line}
+use Rattle.operator.specs.Show.{FailsToShow, record_lines}
+use Rattle.report.specs.ReportLines.{end_line}
 use Rattle.operator.proofs.Pages.{passed-on, read-twice}
 use Rattle.operator.proofs.ShowFaults.{fails-second, fails-last}
 use Rattle.operator.proofs.showing.show.Goals as goal

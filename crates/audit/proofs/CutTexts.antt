@@ -12,11 +12,12 @@ use Rattle.weave.specs.Following.{committed_at, journal_of}
 use Rattle.weave.specs.declared.cut.Cut.{Cut}
 use Rattle.weave.specs.declared.cut.Rest.{Rest}
 use Rattle.report.specs.Table.{IsSafeTable}
+use Rattle.report.specs.declared.form.Form.{Form}
 use Rattle.audit.specs.Cuts.{IsCutText, rest_lines}
 
-pub cut_text : (scheme : Scheme) (js : List (List Input)) (cut : Cut) (empty first text : List ℕ) → IsCut scheme (journal_of scheme js) cut → empty ≡ [] → (table : List ℕ) × IsSafeTable scheme cut.events.items table × (first ≡ empty ++ table)
-    → text ≡ first ++ flat_map rest_lines cut.rests.items → IsCutText scheme js cut.rests.items text
-cut_text scheme js cut empty first text is none table whole = record {
+pub cut_text : (form : Form) (scheme : Scheme) (js : List (List Input)) (cut : Cut) (empty first text : List ℕ) → IsCut scheme (journal_of scheme js) cut → empty ≡ [] → (table : List ℕ) × IsSafeTable form scheme cut.events.items table × (first ≡ empty ++ table)
+    → text ≡ first ++ flat_map (rest_lines form) cut.rests.items → IsCutText form scheme js cut.rests.items text
+cut_text form scheme js cut empty first text is none table whole = record {
   events = cut.events.items;
   furthest = is.furthest;
   quiet = subst IsQuiet is.world is.quiet;
@@ -25,7 +26,7 @@ cut_text scheme js cut empty first text is none table whole = record {
   left = subst (λ (w : World). map (λ (r : Rest). r.node) cut.rests.items ≡ filter (goes_beyond (journal_of scheme js) (committed_at w)) (nodes scheme)) is.world is.left;
   beyond = subst (λ (w : World). All (IsBeyond scheme (journal_of scheme js) (committed_at w)) cut.rests.items) is.world is.beyond;
   whole = is.whole;
-  is = whole ∙ ap (λ (bytes : List ℕ). bytes ++ flat_map rest_lines cut.rests.items) (table.2 ∙ ap (λ (bytes : List ℕ). bytes ++ table.0) none);
+  is = whole ∙ ap (λ (bytes : List ℕ). bytes ++ flat_map (rest_lines form) cut.rests.items) (table.2 ∙ ap (λ (bytes : List ℕ). bytes ++ table.0) none);
 }
 
 -- without a first one there is none

@@ -5,3 +5,4 @@ pub mod Pairs
 pub mod Settling
 pub mod Reporting
 pub mod CutTexts
+mod Objects

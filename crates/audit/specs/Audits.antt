@@ -12,15 +12,16 @@ use Rattle.weave.specs.Following.{IsWeaveFault, journal_of}
 use Rattle.weave.specs.declared.fault.WeaveFault.{WeaveFault}
 use Rattle.weave.specs.declared.fault.WeaveFault.TheVariants as weaving
 use Rattle.report.specs.Table.{IsSafeTable}
+use Rattle.report.specs.declared.form.Form.{Form}
 use Rattle.command_faults.specs.declared.fault.OpFault.{OpFault}
 use Rattle.command_faults.specs.declared.fault.OpFault.TheVariants.{Write, Store, Stuck, NoMemory}
 use Rattle.audit.specs.Stores.{AreLoaded, FailsToLoad}
 
--- the text is the table of the world that some events lead to, whose committed journals are these
-pub record IsAuditTable (scheme : Scheme) (journals : List (List Input)) (text : List ℕ) : Type 0 where
+-- the text is the table, in that form, of the world that some events lead to, whose committed journals are these
+pub record IsAuditTable (form : Form) (scheme : Scheme) (journals : List (List Input)) (text : List ℕ) : Type 0 where
   pub events : List WorldEvent
   pub projects : Projects scheme events (journal_of scheme journals)
-  pub is_table : IsSafeTable scheme events text
+  pub is_table : IsSafeTable form scheme events text
 
 -- some events lead to the world whose committed journals are these
 pub record HasRun (scheme : Scheme) (journals : List (List Input)) : Type 0 where
@@ -40,10 +41,10 @@ FailsToWeave scheme journals _ = ⊥
 
 module _ {S : Type 0} (g : Ghosts S) where
   -- the stores were read, and the table is that of a run that leads to their records
-  pub record Audits (scheme : Scheme) (olds news : List S) (table : List ℕ) : Type 0 where
+  pub record Audits (form : Form) (scheme : Scheme) (olds news : List S) (table : List ℕ) : Type 0 where
     pub journals : List (List Input)
     pub loaded : AreLoaded g scheme (nodes scheme) olds news journals
-    pub is_table : IsAuditTable scheme journals table
+    pub is_table : IsAuditTable form scheme journals table
 
   -- the stores were read, and no run leads to their records
   pub record FindsNoRun (scheme : Scheme) (olds news : List S) (n : Node) (place : ℕ) : Type 0 where
@@ -59,9 +60,9 @@ module _ {S : Type 0} (g : Ghosts S) where
   FailsToFindRun _ scheme olds news = ⊥
 
   -- nothing was written, or the first bytes of the table, fewer than all
-  abbrev pub FailsToAudit : OpFault → Scheme → List S → List S → (before after : Option (List ℕ)) → Type 0
-  FailsToAudit (Stuck n place) scheme olds news v w = FindsNoRun scheme olds news n place × Keeps v w
-  FailsToAudit (Store told fault) scheme olds news v w = FailsToLoad g scheme (nodes scheme) olds news (Store told fault) × Keeps v w
-  FailsToAudit (Write count) scheme olds news v w = (table : List ℕ) × Audits scheme olds news table × (count < length table) × Appends v w (take count table)
-  FailsToAudit NoMemory scheme olds news v w = Keeps v w
-  FailsToAudit _ scheme olds news v w = ⊥
+  abbrev pub FailsToAudit : Form → OpFault → Scheme → List S → List S → (before after : Option (List ℕ)) → Type 0
+  FailsToAudit form (Stuck n place) scheme olds news v w = FindsNoRun scheme olds news n place × Keeps v w
+  FailsToAudit form (Store told fault) scheme olds news v w = FailsToLoad g scheme (nodes scheme) olds news (Store told fault) × Keeps v w
+  FailsToAudit form (Write count) scheme olds news v w = (table : List ℕ) × Audits form scheme olds news table × (count < length table) × Appends v w (take count table)
+  FailsToAudit form NoMemory scheme olds news v w = Keeps v w
+  FailsToAudit form _ scheme olds news v w = ⊥

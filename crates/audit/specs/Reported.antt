@@ -9,6 +9,7 @@ use Rattle.weave.specs.Following.{IsWeaveFault, journal_of}
 use Rattle.weave.specs.declared.fault.WeaveFault.TheVariants as weaving
 use Rattle.command_faults.specs.declared.fault.OpFault.{OpFault}
 use Rattle.command_faults.specs.declared.fault.OpFault.TheVariants.{Write, Stuck, Unsettled, NoMemory}
+use Rattle.report.specs.declared.form.Form.TheVariants.{Lines}
 use Rattle.audit.specs.Audits.{IsAuditTable}
 use Rattle.audit.specs.Settled.{AreSettled, FailsToSettle}
 
@@ -19,7 +20,7 @@ committed_by_all helds = map committed_records helds
 -- all nodes are settled, and the table is that of a run that leads to their committed records
 pub record IsReported (scheme : Scheme) (helds : List StateView) (seats : List (List SeatView)) (table : List ℕ) : Type 0 where
   pub settled : AreSettled scheme helds seats
-  pub is_table : IsAuditTable scheme (committed_by_all helds) table
+  pub is_table : IsAuditTable Lines scheme (committed_by_all helds) table
 
 -- all nodes are settled, and no run leads to their committed records
 pub record HasNoRun (scheme : Scheme) (helds : List StateView) (seats : List (List SeatView)) (n : Node) (place : ℕ) : Type 0 where

@@ -14,7 +14,7 @@ use crate::loading::{load_cores, pair_up};
 use command_faults::{OpFault, write_out};
 use desk::Stored;
 use protocol::scheme::Scheme;
-use report::push_table;
+use report::{Form, push_table};
 use std::alloc::Global;
 use std::io::Write;
 use stores::NodeStore;
@@ -32,17 +32,21 @@ pub fn fault_of(fault: WeaveFault) -> OpFault
 }
 
 /// The table of what was woven, or what its fault is to the command.
-fn table_of_woven(alloc: Global, woven: Result<Woven, WeaveFault>) -> Result<String, OpFault>
+fn table_of_woven(
+    alloc: Global,
+    woven: Result<Woven, WeaveFault>,
+    form: Form,
+) -> Result<String, OpFault>
     ensures ok { (scheme : Scheme) (journals : List (List Input))
         → IfOk woven (λ w. IsWoven scheme (journal_of scheme journals) w.events.items w.world)
-        → IfOk result (λ s. IsAuditTable scheme journals (string_bytes s)) }
+        → IfOk result (λ s. IsAuditTable form scheme journals (string_bytes s)) }
     ensures err { (scheme : Scheme) (journals : List (List Input))
         → IfErr woven (IsWeaveFault scheme (journal_of scheme journals)) → IfErr result (FailsToWeave scheme journals) }
 {
     match woven {
         Ok(woven) => {
             let mut text = String::new(alloc);
-            push_table(alloc, &mut text, &woven.world)?;
+            push_table(alloc, &mut text, &woven.world, form)?;
             Ok(text)
         }
         Err(fault) => Err(fault_of(fault)),
@@ -59,14 +63,15 @@ pub(crate) fn table_of_cores<P: Watch>(
     alloc: Global,
     scheme: &Scheme,
     cores: Vec<Core>,
+    form: Form,
     watch: &mut P,
 ) -> Result<String, OpFault>
     requires nodes { map node_cores.node_of cores.items ≡ nodes scheme.now }
     requires schemes { All (λ core. node_cores.scheme_of core ≡ scheme.now) cores.items }
-    ensures ok { IfOk result (λ s. IsAuditTable scheme.now (map node_cores.journal_of cores.items) (string_bytes s)) }
+    ensures ok { IfOk result (λ s. IsAuditTable form scheme.now (map node_cores.journal_of cores.items) (string_bytes s)) }
     ensures err { IfErr result (FailsToWeave scheme.now (map node_cores.journal_of cores.items)) }
 {
-    table_of_woven(alloc, weave_cores(alloc, scheme, cores, watch))
+    table_of_woven(alloc, weave_cores(alloc, scheme, cores, watch), form)
 }
 
 /// The cores of the world that was woven of these journals, each with its journal, or what the fault is to the command.
@@ -186,7 +191,7 @@ pub fn read_first<S: NodeStore>(
 }
 
 /// Reads the stores, one for each node: the log's, then those of the registries in the scheme's order. Finds a run that
-/// leads to all their records and to no others, and writes the table of the world that it leads to.
+/// leads to all their records and to no others, and writes the table of the world that it leads to, in that form.
 ///
 /// The stores are read by pages, and nothing is written to them.
 ///
@@ -205,16 +210,17 @@ pub fn audit<S: NodeStore, W: Write>(
     scheme: &Scheme,
     stores: &mut [S],
     writer: &mut W,
+    form: Form,
 ) -> Result<(), OpFault>
     requires { length stores.old ≡ length (nodes scheme.now) }
-    ensures ok { OnOk result ((table : List ℕ) × Audits S.NodeStore scheme.now stores.old stores.new table
+    ensures ok { OnOk result ((table : List ℕ) × Audits S.NodeStore form scheme.now stores.old stores.new table
         × Appends (W.contents writer.old) (W.contents writer.new) table) }
     ensures err { IfErr result
-        (λ e. FailsToAudit S.NodeStore e scheme.now stores.old stores.new (W.contents writer.old)
+        (λ e. FailsToAudit S.NodeStore form e scheme.now stores.old stores.new (W.contents writer.old)
         (W.contents writer.new)) }
     ensures unwritten { AreUnwritten S.NodeStore stores.old stores.new }
 {
-    audit_watched(alloc, scheme, stores, writer, &mut Nobody)
+    audit_watched(alloc, scheme, stores, writer, form, &mut Nobody)
 }
 
 /// As `audit`, and tells of the records as they are read and woven.
@@ -227,18 +233,19 @@ pub fn audit_watched<S: NodeStore, W: Write, P: Watch>(
     scheme: &Scheme,
     stores: &mut [S],
     writer: &mut W,
+    form: Form,
     watch: &mut P,
 ) -> Result<(), OpFault>
     requires { length stores.old ≡ length (nodes scheme.now) }
-    ensures ok { OnOk result ((table : List ℕ) × Audits S.NodeStore scheme.now stores.old stores.new table
+    ensures ok { OnOk result ((table : List ℕ) × Audits S.NodeStore form scheme.now stores.old stores.new table
         × Appends (W.contents writer.old) (W.contents writer.new) table) }
     ensures err { IfErr result
-        (λ e. FailsToAudit S.NodeStore e scheme.now stores.old stores.new (W.contents writer.old)
+        (λ e. FailsToAudit S.NodeStore form e scheme.now stores.old stores.new (W.contents writer.old)
         (W.contents writer.new)) }
     ensures unwritten { AreUnwritten S.NodeStore stores.old stores.new }
 {
     let cores = load_cores(alloc, scheme, stores, watch)?;
-    let table = table_of_cores(alloc, scheme, cores, watch)?;
+    let table = table_of_cores(alloc, scheme, cores, form, watch)?;
     watch.finished();
     write_out(writer, table.as_str())
 }

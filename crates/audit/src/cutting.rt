@@ -1,63 +1,142 @@
 //! The table of the furthest world that the records of the stores explain, and what is left of them.
 ghost use Rattle.std.specs.Prelude.{◌≡◌, ◌++◌, ℕ, [], List, IfErr, IfOk, OnOk, flat_map, length, string_bytes};
 ghost use Rattle.std.specs.Io.KnownBytes.{Appends};
-ghost use Rattle.audit.specs.Cuts.{CutsOff, FailsToCutOff, IsCutText, rest_lines};
+ghost use Rattle.audit.specs.Cuts.{CutsOff, FailsToCutOff, IsCutText, left_line, message_line, rest_lines, waits_line};
 ghost use Rattle.audit.specs.Stores.{AreUnwritten};
 ghost use Rattle.protocol.specs.Input.{Input as Record};
 ghost use Rattle.protocol.specs.Registries.{nodes};
 ghost use Rattle.protocol.specs.Scheme.{Scheme as Registries};
+ghost use Rattle.report.specs.declared.form.Form.TheVariants.{Json, Lines};
 ghost use Rattle.weave.specs.Cuts.{IsCut};
 ghost use Rattle.weave.specs.Following.{journal_of};
 
 use crate::loading::load_cores;
 use command_faults::{OpFault, write_out};
 use protocol::scheme::Scheme;
-use protocol::wire::Input;
-use report::{push_message, push_table};
+use protocol::wire::{Input, Message};
+use report::{Form, message_word, push_message, push_table};
 use std::alloc::Global;
 use std::fmt::Write as _;
 use std::io::Write;
 use stores::NodeStore;
-use units::NoMemory;
+use units::{NoMemory, Node};
 use weave::{Cut, Rest, Watch, cut_cores};
 
-/// Adds the lines of a node's records beyond the cut: how many there are, and the message that the first one waits for.
-fn push_rest(text: &mut String, rest: &Rest) -> Result<(), NoMemory>
-    ensures { OnOk result (string_bytes text.new ≡ string_bytes text.old ++ rest_lines rest.now) }
+/// Adds the line of how many records of a node are beyond the cut, and where the first one is.
+fn push_left(
+    text: &mut String,
+    node: Node,
+    place: usize,
+    count: usize,
+    form: Form,
+) -> Result<(), NoMemory>
+    ensures { OnOk result (string_bytes text.new ≡ string_bytes text.old ++ left_line form node place count) }
 {
-    let (node, place) = (rest.node, rest.place);
-    writeln!(text, "left {node} {place} {}", rest.count)?;
-    if let Input::Received { message, .. } = &rest.next {
-        write!(text, "waits {node} {place} ")?;
-        push_message(text, message)?;
-        writeln!(text, " from {}", message.from)?;
+    match form {
+        Form::Lines => writeln!(text, "left {node} {place} {count}")?,
+        Form::Json => writeln!(
+            text,
+            "{{\"count\":{count},\"line\":\"left\",\"node\":\"{node}\",\"place\":{place}}}"
+        )?,
     }
     Ok(())
 }
 
-fn push_rests(text: &mut String, rests: &[Rest]) -> Result<(), NoMemory>
-    ensures { OnOk result (string_bytes text.new ≡ string_bytes text.old ++ flat_map rest_lines rests.now) }
+fn push_words(
+    text: &mut String,
+    node: Node,
+    place: usize,
+    message: &Message,
+) -> Result<(), NoMemory>
+    ensures { OnOk result (string_bytes text.new ≡ string_bytes text.old ++ message_line Lines node place message.now) }
+{
+    write!(text, "waits {node} {place} ")?;
+    push_message(text, message)?;
+    writeln!(text, " from {}", message.from)?;
+    Ok(())
+}
+
+fn push_object(
+    text: &mut String,
+    node: Node,
+    place: usize,
+    message: &Message,
+) -> Result<(), NoMemory>
+    ensures { OnOk result (string_bytes text.new ≡ string_bytes text.old ++ message_line Json node place message.now) }
+{
+    let from = message.from;
+    let word = message_word(&message.body);
+    let id = message.id;
+    writeln!(
+        text,
+        "{{\"from\":\"{from}\",\"line\":\"waits\",\"message\":\"{word}\",\"node\":\"{node}\",\"place\":{place},\"transaction\":\"{id}\"}}"
+    )?;
+    Ok(())
+}
+
+/// Adds the line of a message that the record at that place waits for.
+fn push_awaited(
+    text: &mut String,
+    node: Node,
+    place: usize,
+    message: &Message,
+    form: Form,
+) -> Result<(), NoMemory>
+    ensures { OnOk result (string_bytes text.new ≡ string_bytes text.old ++ message_line form node place message.now) }
+{
+    match form {
+        Form::Lines => push_words(text, node, place, message),
+        Form::Json => push_object(text, node, place, message),
+    }
+}
+
+/// Adds the line of the message that a record waits for, where it is of a message.
+fn push_waits(
+    text: &mut String,
+    node: Node,
+    place: usize,
+    record: &Input,
+    form: Form,
+) -> Result<(), NoMemory>
+    ensures { OnOk result (string_bytes text.new ≡ string_bytes text.old ++ waits_line form node place record.now) }
+{
+    match record {
+        Input::Received { message, .. } => push_awaited(text, node, place, message, form),
+        _ => Ok(()),
+    }
+}
+
+/// Adds the lines of a node's records beyond the cut: how many there are, and the message that the first one waits for.
+fn push_rest(text: &mut String, rest: &Rest, form: Form) -> Result<(), NoMemory>
+    ensures { OnOk result (string_bytes text.new ≡ string_bytes text.old ++ rest_lines form rest.now) }
+{
+    push_left(text, rest.node, rest.place, rest.count, form)?;
+    push_waits(text, rest.node, rest.place, &rest.next, form)
+}
+
+fn push_rests(text: &mut String, rests: &[Rest], form: Form) -> Result<(), NoMemory>
+    ensures { OnOk result (string_bytes text.new ≡ string_bytes text.old ++ flat_map (rest_lines form) rests.now) }
 {
     for rest in rests {
-        push_rest(text, rest)?;
+        push_rest(text, rest, form)?;
     }
     Ok(())
 }
 
 /// The table of the cut's world, and the lines of the records beyond it.
-fn text_of_cut(alloc: Global, cut: &Cut) -> Result<String, NoMemory>
+fn text_of_cut(alloc: Global, cut: &Cut, form: Form) -> Result<String, NoMemory>
     ensures { (scheme : Registries) (journals : List (List Record))
         → IsCut scheme (journal_of scheme journals) cut.now
-        → IfOk result (λ s. IsCutText scheme journals cut.now.rests.items (string_bytes s)) }
+        → IfOk result (λ s. IsCutText form scheme journals cut.now.rests.items (string_bytes s)) }
 {
     let mut text = String::new(alloc);
-    push_table(alloc, &mut text, &cut.world)?;
-    push_rests(&mut text, cut.rests.as_slice())?;
+    push_table(alloc, &mut text, &cut.world, form)?;
+    push_rests(&mut text, cut.rests.as_slice(), form)?;
     Ok(text)
 }
 
 /// Reads the stores, one for each node: the log's, then those of the registries in the scheme's order. Of all runs whose
-/// journals are first records of these stores, one has the most at every node: writes the table of its world. For each
+/// journals are first records of these stores, one has the most at every node: writes the table of its world, in that form. For each
 /// node with records left it then writes how many these are, and the message that the first of them waits for, which by
 /// the records of that world no node sends. Tells of the records as they are read and woven.
 ///
@@ -78,19 +157,20 @@ pub fn audit_cut<S: NodeStore, W: Write, P: Watch>(
     scheme: &Scheme,
     stores: &mut [S],
     writer: &mut W,
+    form: Form,
     watch: &mut P,
 ) -> Result<(), OpFault>
     requires { length stores.old ≡ length (nodes scheme.now) }
-    ensures ok { OnOk result ((text : List ℕ) × CutsOff S.NodeStore scheme.now stores.old stores.new [] text
+    ensures ok { OnOk result ((text : List ℕ) × CutsOff S.NodeStore form scheme.now stores.old stores.new [] text
         × Appends (W.contents writer.old) (W.contents writer.new) text) }
     ensures err { IfErr result
-        (λ e. FailsToCutOff S.NodeStore e scheme.now stores.old stores.new (W.contents writer.old)
+        (λ e. FailsToCutOff S.NodeStore form e scheme.now stores.old stores.new (W.contents writer.old)
         (W.contents writer.new)) }
     ensures unwritten { AreUnwritten S.NodeStore stores.old stores.new }
 {
     let cores = load_cores(alloc, scheme, stores, watch)?;
     let cut = cut_cores(alloc, scheme, cores, watch)?;
-    let text = text_of_cut(alloc, &cut)?;
+    let text = text_of_cut(alloc, &cut, form)?;
     watch.finished();
     write_out(writer, text.as_str())?;
     match cut.rests.first() {

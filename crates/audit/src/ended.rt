@@ -14,6 +14,7 @@ use command_faults::{OpFault, write_out};
 use desk::{Seat, State, Stored, Unsettled, settle_with};
 use protocol::scheme::Scheme;
 use protocol::{NodeCore, nodes_of};
+use report::Form;
 use std::alloc::Global;
 use std::io::Write;
 use stores::NodeStore;
@@ -134,7 +135,7 @@ pub fn table_of_ended<S: NodeStore, P: Watch>(
     ensures err { IfErr result (IsTableFault scheme.now (states_in ended.now) (seats_in ended.now)) }
 {
     match settle_all(alloc, scheme, ended, watch) {
-        Ok(cores) => table_of_cores(alloc, scheme, cores, watch),
+        Ok(cores) => table_of_cores(alloc, scheme, cores, Form::Lines, watch),
         Err(fault) => Err(fault),
     }
 }

@@ -13,7 +13,7 @@ mod totals;
 mod transactions;
 
 pub use form::{Form, end_line};
-pub use messages::push_message;
+pub use messages::{message_word, push_message};
 pub use outcomes::{push_outcome, push_outcome_text};
 pub use table::push_table;
 pub use totals::tonnes_add_up;

@@ -7,7 +7,7 @@ use units::NoMemory;
 use wire::{Body, Message};
 
 /// The kind of a message with that body: the status of a notification, else `proposal` or `request`.
-fn word_of(body: &Body) -> &'static str
+pub fn message_word(body: &Body) -> &'static str
     ensures { result.now ≡ message_word body.now }
 {
     match body {
@@ -25,7 +25,7 @@ fn word_of(body: &Body) -> &'static str
 pub fn push_message(text: &mut String, message: &Message) -> Result<(), NoMemory>
     ensures { OnOk result (string_bytes text.new ≡ string_bytes text.old ++ message_text message.now) }
 {
-    let word = word_of(&message.body);
+    let word = message_word(&message.body);
     write!(text, "{word} {}", message.id)?;
     Ok(())
 }

@@ -15,6 +15,7 @@ use Rattle.weave.specs.Following.{IsWeaveFault, journal_of}
 use Rattle.weave.specs.declared.fault.WeaveFault.TheVariants as weaving
 use Rattle.command_faults.specs.declared.fault.OpFault.{OpFault}
 use Rattle.command_faults.specs.declared.fault.OpFault.TheVariants.{Write, Store, Stuck, Unsettled, NoMemory}
+use Rattle.report.specs.declared.form.Form.TheVariants.{Lines}
 use Rattle.audit.specs.Audits.{IsAuditTable}
 use Rattle.audit.specs.Ended.{states_of}
 use Rattle.audit.specs.Reported.{IsTableFault, committed_by_all}
@@ -103,7 +104,7 @@ pub record IsRunReport (scheme : Scheme) (lines : List ScriptLine) (helds : List
   pub table : List ℕ
   pub borne : AreAnswers (IsAnswer scheme (journal_of scheme (committed_by_all helds))) lines answers
   pub orders : (n : Node) (at : ℕ) (held : StateView) → index_of scheme n ≡ Some at → slice_get helds at ≡ Some held → AreOrders n lines answers (orders_of held)
-  pub is_table : IsAuditTable scheme (committed_by_all helds) table
+  pub is_table : IsAuditTable Lines scheme (committed_by_all helds) table
   pub spelled : text ≡ answer_lines 1 answers ++ table
 
 -- an answer to each line, as the desks told it, was written, and nothing else

@@ -12,4 +12,4 @@ pub returns-in_ok-push_table-in-Ok-clause-ok : goal.returns-in_ok-push_table-in-
 returns-in_ok-push_table-in-Ok-clause-ok c scheme journals woven =
     let events = c.in-Ok.woven.events.items in
     let here = subst (λ r. IfOk r (λ w. IsWoven scheme (journal_of scheme journals) w.events.items w.world)) c.in-Ok.is woven in
-    audited scheme journals events _ _ here.projects c.new-text.ensures.bytes (c.in_ok-push_table-in-Ok.ensures.safe scheme events here.world)
+    audited c.args.form scheme journals events _ _ here.projects c.new-text.ensures.bytes (c.in_ok-push_table-in-Ok.ensures.safe scheme events here.world)

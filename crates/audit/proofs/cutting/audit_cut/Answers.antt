@@ -17,7 +17,7 @@ returns-in-None-clause-ok g c =
       record {
         journals = journals;
         loaded = c.in_ok-cores.ensures.ok;
-        is_text = subst (λ (rs : List Rest). IsCutText scheme journals rs c.as_str.result.now) none (subst (IsCutText scheme journals rests) (sym c.as_str.ensures.value) made);
+        is_text = subst (λ (rs : List Rest). IsCutText c.args.form scheme journals rs c.as_str.result.now) none (subst (IsCutText c.args.form scheme journals rests) (sym c.as_str.ensures.value) made);
       },
       c.in_ok-write_out.ensures.ok,
     )
@@ -30,7 +30,7 @@ returns-clause-err g c =
     let made = c.in_ok-text.ensures scheme journals c.in_ok-cut.ensures in (
       rests,
       c.as_str.result.now,
-      record { journals = journals; loaded = c.in_ok-cores.ensures.ok; is_text = subst (IsCutText scheme journals rests) (sym c.as_str.ensures.value) made },
+      record { journals = journals; loaded = c.in_ok-cores.ensures.ok; is_text = subst (IsCutText c.args.form scheme journals rests) (sym c.as_str.ensures.value) made },
       record { first = c.in-Some.rest.now; is = ap (λ (rs : List Rest). slice_get rs 0) (sym c.deref.ensures.value) ∙ sym c.in-Some.ensures.value; node = refl; placed = refl },
       c.in_ok-write_out.ensures.ok,
     )

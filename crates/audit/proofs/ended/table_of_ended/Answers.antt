@@ -1,5 +1,6 @@
 use Rattle.std.proofs.Common.{List, string_bytes, subst}
 use Rattle.protocol.specs.Input.{Input}
+use Rattle.report.specs.declared.form.Form.TheVariants.{Lines}
 use Rattle.audit.specs.Audits.{FailsToWeave, IsAuditTable}
 use Rattle.audit.proofs.Settling.{of_settling, of_weaving}
 use Rattle.audit.proofs.Reporting.{if_err, if_ok}
@@ -10,7 +11,7 @@ pub returns-in-Ok-clause-ok : goal.returns-in-Ok-clause-ok
 returns-in-Ok-clause-ok g c =
     let committed = c.in-Ok.ensures.journals in
     if_ok c.table_of_cores.result
-    (λ s is. record { settled = c.in-Ok.ensures.ok; is_table = subst (λ (js : List (List Input)). IsAuditTable c.args.scheme.now js (string_bytes s)) committed is })
+    (λ s is. record { settled = c.in-Ok.ensures.ok; is_table = subst (λ (js : List (List Input)). IsAuditTable Lines c.args.scheme.now js (string_bytes s)) committed is })
     c.table_of_cores.ensures.ok
 
 pub returns-in-Ok-clause-err : goal.returns-in-Ok-clause-err

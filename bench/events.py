@@ -35,7 +35,7 @@ import time
 
 from audit import RECORDS_EACH, check_table, journals, write_stores
 from cuts import Cut, Given, forged, formats, worlds
-from folders import Difference, Folder, copy_stores, differ, do, end_of, is_whole, put_in
+from folders import Difference, Folder, compare, copy_stores, differ, do, end_of, is_whole, put_in
 from night import Rehearsal, record_text, wrong_table
 from rehearse import codes_of, program, run, scheme
 
@@ -104,16 +104,18 @@ def check_events(folder):
     differ(first != json.dumps(parts, sort_keys=True, separators=(",", ":")), "events writes another scheme")
     report = do("rehearse", given=events).stdout
     outcomes = report.splitlines(keepends=True)[:len(lines)]
-    differ(report != "".join([*outcomes, table]), "rehearse of the events ends with another table than audit's")
+    compare(report, "".join([*outcomes, table]), "rehearse of the events and audit write different tables")
     differ(odd := [it for it in outcomes if not DONE.fullmatch(it)], f"an event of the run came to {odd[:1]}")
     checked, world = worlds.rehearse(events)
-    differ(checked != report, "checker/ has another report of the events")
+    compare(report, checked, "rehearse and checker/ have different reports of the events")
     for name, texts in folder.records().items():
         journal = world.nodes[name].journal
         same = list(map(record_text, journal)) == texts and world.committed[name] == len(journal)
         differ(not same, f"the events lead to other records of {name}")
+    wanted = sum(2 * len(node.journal) + len(node.sent) for node in world.nodes.values())
+    differ(len(lines) != wanted, "the events are more than a record's, its commit and its posts")
     cut = do("audit", "--cut", folder.scheme, folder.stores)
-    differ((cut.stdout, cut.stderr) != (table, ""), "audit --cut writes something else than audit")
+    compare(cut.stdout + cut.stderr, table, "audit --cut and audit write different tables")
     chart, last = do("chart", given=events).stdout, "<br/>".join(table.splitlines())
     differ(not chart.startswith("sequenceDiagram\n") or not chart.endswith(f": {last}\n"), "chart draws another table")
     return len(lines), table
@@ -161,12 +163,12 @@ def check_cut(folder, stores, ended, records):
     """Looks at what `audit --cut` wrote of stores with these records. How many of them are left."""
     cut = Cut(folder.text, records)
     fault = cut.fault()
-    differ(ended.stdout != cut.text(), "audit --cut writes something else than checker/ finds")
+    compare(ended.stdout, cut.text(), "audit --cut writes something else than checker/ finds")
     differ((ended.returncode, ended.stderr) != (bool(fault), fault), f"audit --cut ended with {ended.stderr.strip()}")
     differ(wrong := wrong_table(folder.text, ended.stdout.splitlines()), f"the table has {wrong}")
     audited = do("audit", folder.scheme, stores, wanted=(0, 1))
     differ((audited.returncode, audited.stderr) != (bool(fault), fault), f"audit ended with {audited.stderr.strip()}")
-    differ(audited.stdout != ("" if fault else ended.stdout), "audit writes another table than audit --cut")
+    compare(audited.stdout, "" if fault else ended.stdout, "audit and audit --cut write different tables")
     return sum(count for _, _, count, _ in cut.rests())
 
 
@@ -191,7 +193,7 @@ def try_copies(seed, path, came):
         ended = do("audit", "--cut", folder.scheme, place, wanted=(0, 1, 4))
         if ended.returncode == 4:
             found = DAMAGED.fullmatch(ended.stderr)
-            differ(not found or is_whole(place / f"{found[1]}.db"), f"audit --cut of {place.name}: {ended.stderr}")
+            differ(not found or is_whole(place / f"{found[1]}.db"), f"of {place.name}: {ended.stderr.strip()}")
             came.update(torn=1)
             continue
         records = folder.records(place)

@@ -1,6 +1,7 @@
 """Folders with a scheme and stores in which a bench has the program run, and how stores are copied and changed."""
 
 import contextlib
+import itertools
 import pathlib
 import shutil
 import signal
@@ -22,6 +23,12 @@ class Difference(Exception):
 def differ(found, text):
     if found:
         raise Difference(text)
+
+
+def compare(found, wanted, text):
+    """Ends with a difference where the two texts aren't the same, and tells of the first lines that aren't."""
+    pairs = itertools.zip_longest(found.splitlines(), wanted.splitlines())
+    differ(found != wanted, f"{text}: {next((it for it in pairs if it[0] != it[1]), '')}")
 
 
 def do(*words, given=None, wanted=(0,)):
@@ -94,7 +101,7 @@ def copy_stores(folder, place, chance):
             for it in chance.sample((path, path.with_name(f"{path.name}-wal")), 2):
                 with contextlib.suppress(FileNotFoundError):
                     shutil.copyfile(it, place / it.name)
-                time.sleep(chance.choice((0, 0, 0, 0.01)))
+                time.sleep(chance.choice((0, 0, 0, 0.01, 0.1)))
         time.sleep(chance.choice((0, 0.001, 0.01, 0.05)))
     return by_library
 

@@ -41,7 +41,7 @@ from rehearse import codes_of, program, run, scheme
 
 DEFAULTS = {"runs": 100, "copies": 50, "records": 1_000_000, "forged": 20}
 # After how many seconds at most a run is killed.
-LONGEST = 1.0
+LONGEST = 0.6
 MOST_TIMES_AUDIT = 2.5
 TRIES = 3
 # Lines of a whole transfer: an event and a commit for each record, and a post for each message.
@@ -75,11 +75,11 @@ class Play(Rehearsal):
         node = self.random.choice((*self.codes, formats.ITL))
         if self.random.random() < 0.3:
             return f"status {node} {name}"
-        return f"until {node} {name} {self.random.choice(STATUSES)} {self.random.choice((1, 20, 100))}"
+        return f"until {node} {name} {self.random.choice(STATUSES)} {self.random.choice((1, 50, 200))}"
 
     def script(self):
         lines, self.moment = [], int(time.time())
-        for _ in range(self.random.choice((20, 100, 400))):
+        for _ in range(self.random.choice((40, 100, 400))):
             line = self.orders()
             outcome = self.world.apply(formats.event(line))
             # A script has no acknowledgements, and this one not many orders that come to nothing.
@@ -88,7 +88,7 @@ class Play(Rehearsal):
             lines.append(line)
             if self.random.random() < 0.7:
                 self.settle()
-            if self.random.random() < 0.2:
+            if self.random.random() < 0.3:
                 lines.append(self.question())
         return lines or [self.question()]
 
@@ -126,7 +126,7 @@ def try_run(seed, path, came):
     play = Play(seed)
     folder = Folder(path, play.text)
     for _ in range(play.random.randint(1, 5)):
-        killed = play.random.random() < 0.75
+        killed = play.random.random() < 0.8
         process = folder.start(play.script())
         if killed:
             time.sleep(play.random.uniform(0, LONGEST))

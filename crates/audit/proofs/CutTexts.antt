@@ -1,6 +1,6 @@
 -- The text of a cut, and what is left first.
 use Rattle.std.proofs.Common.{◌≡◌, ◌∙◌, ◌++◌, ℕ, All, List, [], ◌∷◌, filter, map, ap, subst, refl}
-use Rattle.std.specs.Prelude.{slice_get, None, Some}
+use Rattle.std.specs.Prelude.{slice_get, None}
 use Rattle.std.specs.List.{flat_map}
 use Rattle.protocol.specs.Input.{Input}
 use Rattle.protocol.specs.Registries.{nodes}

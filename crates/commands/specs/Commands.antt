@@ -1,8 +1,10 @@
 -- What each command does with what its words name, and why it doesn't.
-use Rattle.std.specs.Prelude.{◌≡◌, ◌⊎◌, ℕ, true, All, List, Option, Some, map, slice_get, string_bytes, take}
+use Rattle.std.specs.Prelude.{◌≡◌, ◌⊎◌, ℕ, true, All, List, [], Option, Some, map, slice_get, string_bytes, take}
 use Rattle.std.specs.Io.KnownBytes.{Appends, Keeps}
 use Rattle.units.specs.Code.{node_text}
 use Rattle.units.specs.declared.code.Node.{Node}
+use Rattle.status.specs.Id.{id_text}
+use Rattle.status.specs.declared.id.TransactionId.{TransactionId}
 use Rattle.protocol.specs.Input.{Input}
 use Rattle.protocol.specs.Scheme.{Scheme}
 use Rattle.protocol.specs.Registries.{is_node, nodes}
@@ -20,10 +22,15 @@ use Rattle.rehearse.specs.Report.{IsReport}
 use Rattle.chart.specs.Chart.{IsChart}
 use Rattle.operator.specs.Show.{FailsToShow, shown}
 use Rattle.operator.specs.declared.command_line.Action.{Action}
-use Rattle.operator.specs.declared.command_line.Action.TheVariants.{Rehearse, Chart, Show, Audit, Events, Run}
+use Rattle.operator.specs.declared.command_line.Action.TheVariants.{Rehearse, Chart, Show, Audit, Events, Trace, Explain, Run}
+use Rattle.operator.specs.declared.command_line.Extent.{Extent}
+use Rattle.operator.specs.declared.command_line.Extent.TheVariants.{Furthest, Whole}
 use Rattle.audit.specs.Audits.{Audits, FailsToAudit, FailsToFindRun, HasRun}
+use Rattle.audit.specs.Cuts.{CutsOff, FailsToCutOff}
 use Rattle.audit.specs.Stores.{AreLoaded, AreUnwritten}
 use Rattle.events.specs.Listing.{FailsToList, Lists}
+use Rattle.trace.specs.Traces.{FailsToTrace, Traces}
+use Rattle.explain.specs.Topics.{FailsToExplain, Has, topics}
 use Rattle.input_lines.specs.declared.script_line.ScriptLine.{ScriptLine}
 use Rattle.audit.specs.Ended.{states_of}
 use Rattle.run.specs.Runs.{FailsToRun, HaveEnded, IsLoadedAmong, IsRunReport}
@@ -93,6 +100,11 @@ module _ {A F S : Type 0} (g : Ghosts A F S) (archive : A) (of : StoreGhosts S) 
 
 -- ---- what the words of a command name
 
+-- the word is no transaction's
+pub record NamesNoTransaction (word : List ℕ) (fault : OpFault) : Type 0 where
+  pub is : fault ≡ InputFault 1 Order
+  pub none : (id : TransactionId) → word ≡ id_text id → ⊥
+
 -- an archive, what a file has left to be read, and what is known of a store
 module _ {A F S : Type 0} (g : Ghosts A F S) (archive : A) (remaining : F → Option (List ℕ)) (of : StoreGhosts S) where
   -- a command's fault, and what it has written
@@ -145,7 +157,7 @@ module _ {A F S : Type 0} (g : Ghosts A F S) (archive : A) (remaining : F → Op
   abbrev pub FailsToShowNode : (path folder word : List ℕ) → Failing
   FailsToShowNode path folder word = FailsFromScheme path (λ scheme. FailsFromWord word scheme (λ n. FailsFromFolder folder (FailsFromStore folder n)))
 
-  -- ---- `audit` and `events`
+  -- ---- `audit`, `events` and `trace`
 
   -- the stores of the scheme's nodes were read, and a text on their records was written
   pub record ReportsFolder (IsText : Scheme → (olds news : List S) → List ℕ → Type 0) (path folder : List ℕ) (before after : Option (List ℕ)) : Type 0 where
@@ -164,6 +176,20 @@ module _ {A F S : Type 0} (g : Ghosts A F S) (archive : A) (remaining : F → Op
   abbrev pub AuditsFolder : (path folder : List ℕ) (before after : Option (List ℕ)) → Type 0
   AuditsFolder path folder v w = ReportsFolder (Audits of) path folder v w
 
+  -- the table of the furthest run whose journals are first parts of their records, of which none is left
+  abbrev pub CutsFolder : (path folder : List ℕ) (before after : Option (List ℕ)) → Type 0
+  CutsFolder path folder v w = ReportsFolder (λ scheme olds news text. CutsOff of scheme olds news [] text) path folder v w
+
+  abbrev pub AuditsTo : Extent → (path folder : List ℕ) (before after : Option (List ℕ)) → Type 0
+  AuditsTo Whole path folder v w = AuditsFolder path folder v w
+  AuditsTo Furthest path folder v w = CutsFolder path folder v w
+
+  -- the records of the transaction that the word names
+  pub record TracesFolder (path folder word : List ℕ) (before after : Option (List ℕ)) : Type 0 where
+    pub id : TransactionId
+    pub named : word ≡ id_text id
+    pub reports : ReportsFolder (λ scheme olds news text. Traces of scheme olds news id text) path folder before after
+
   -- the events of a run that leads to their records
   abbrev pub ListsFolder : (path folder : List ℕ) (before after : Option (List ℕ)) → Type 0
   ListsFolder path folder v w = ReportsFolder (Lists of) path folder v w
@@ -179,6 +205,21 @@ module _ {A F S : Type 0} (g : Ghosts A F S) (archive : A) (remaining : F → Op
 
   abbrev pub FailsToListFolder : (path folder : List ℕ) → Failing
   FailsToListFolder path folder = FailsFromScheme path (λ scheme. FailsFromFolder folder (FailsFromStores (FailsToList of) folder scheme))
+
+  abbrev pub FailsToCutFolder : (path folder : List ℕ) → Failing
+  FailsToCutFolder path folder = FailsFromScheme path (λ scheme. FailsFromFolder folder (FailsFromStores (FailsToCutOff of) folder scheme))
+
+  abbrev pub FailsToAuditTo : Extent → (path folder : List ℕ) → Failing
+  FailsToAuditTo Whole path folder = FailsToAuditFolder path folder
+  FailsToAuditTo Furthest path folder = FailsToCutFolder path folder
+
+  abbrev pub FailsFromId : List ℕ → (TransactionId → Failing) → Failing
+  FailsFromId word Later fault v w = (NamesNoTransaction word fault × Keeps v w) ⊎ ((id : TransactionId) × (word ≡ id_text id) × Later id fault v w)
+
+  -- the first fault of the scheme, the transaction's word, the folder, the stores and their records
+  abbrev pub FailsToTraceFolder : (path folder word : List ℕ) → Failing
+  FailsToTraceFolder path folder word =
+      FailsFromScheme path (λ scheme. FailsFromId word (λ id. FailsFromFolder folder (FailsFromStores (λ fault s olds news v w. FailsToTrace of fault s olds news id v w) folder scheme)))
 
   -- ---- `run`
 
@@ -208,14 +249,18 @@ module _ {A F S : Type 0} (g : Ghosts A F S) (archive : A) (remaining : F → Op
   Performs Rehearse r s v w = (text : List ℕ) × Reports IsReport r s text × Appends v w text
   Performs Chart r s v w = (text : List ℕ) × Reports IsChart r s text × Appends v w text
   Performs (Show scheme folder node) r s v w = ShowsNode (string_bytes scheme) (string_bytes folder) (string_bytes node) v w
-  Performs (Audit scheme folder) r s v w = AuditsFolder (string_bytes scheme) (string_bytes folder) v w
+  Performs (Audit scheme folder extent) r s v w = AuditsTo extent (string_bytes scheme) (string_bytes folder) v w
   Performs (Events scheme folder) r s v w = ListsFolder (string_bytes scheme) (string_bytes folder) v w
+  Performs (Trace scheme folder id) r s v w = TracesFolder (string_bytes scheme) (string_bytes folder) (string_bytes id) v w
+  Performs (Explain topic) r s v w = (text : List ℕ) × Has topics (string_bytes topic) text × Appends v w text
   Performs (Run scheme folder script) r s v w = RunsFolder (string_bytes scheme) (string_bytes folder) (string_bytes script) v w
 
   abbrev pub FailsToPerform : Action → OpFault → (r s before after : Option (List ℕ)) → Type 0
   FailsToPerform Rehearse fault r s v w = FailsSo IsReport fault r s v w
   FailsToPerform Chart fault r s v w = FailsSo IsChart fault r s v w
   FailsToPerform (Show scheme folder node) fault r s v w = FailsToShowNode (string_bytes scheme) (string_bytes folder) (string_bytes node) fault v w
-  FailsToPerform (Audit scheme folder) fault r s v w = FailsToAuditFolder (string_bytes scheme) (string_bytes folder) fault v w
+  FailsToPerform (Audit scheme folder extent) fault r s v w = FailsToAuditTo extent (string_bytes scheme) (string_bytes folder) fault v w
   FailsToPerform (Events scheme folder) fault r s v w = FailsToListFolder (string_bytes scheme) (string_bytes folder) fault v w
+  FailsToPerform (Trace scheme folder id) fault r s v w = FailsToTraceFolder (string_bytes scheme) (string_bytes folder) (string_bytes id) fault v w
+  FailsToPerform (Explain topic) fault r s v w = FailsToExplain fault (string_bytes topic) v w
   FailsToPerform (Run scheme folder script) fault r s v w = FailsToRunFolder (string_bytes scheme) (string_bytes folder) (string_bytes script) fault v w

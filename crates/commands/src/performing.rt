@@ -1,16 +1,19 @@
 //! What each command does.
-ghost use Rattle.std.specs.Prelude.{IfErr, OnOk};
-ghost use Rattle.commands.specs.Commands.{AuditsFolder, FailsToAuditFolder, FailsToListFolder, FailsToPerform, FailsToShowNode, ListsFolder, Performs, ShowsNode};
+ghost use Rattle.std.specs.Prelude.{◌≡◌, IfErr, IfOk, OnOk};
+ghost use Rattle.status.specs.Id.{id_text};
+ghost use Rattle.commands.specs.Commands.{AuditsFolder, AuditsTo, CutsFolder, FailsToAuditFolder, FailsToAuditTo, FailsToCutFolder, FailsToListFolder, FailsToPerform, FailsToShowNode, FailsToTraceFolder, ListsFolder, NamesNoTransaction, Performs, ShowsNode, TracesFolder};
 
 use crate::archive::Archive;
 use crate::opening::{find_folder, open_store, open_stores, scheme_at};
 use crate::progress::Progress;
 use crate::running::run_folder;
-use audit::audit_watched;
+use audit::{audit_cut, audit_watched};
 use chart::chart;
-use command_faults::{OpFault, node_of};
+use command_faults::{Cause, OpFault, node_of};
 use events::list_events;
-use operator::{Action, show};
+use explain::explain;
+use operator::{Action, Extent, show};
+use protocol::status::TransactionId;
 use rehearse::rehearse;
 use std::alloc::Global;
 use std::io::{Read, Write};
@@ -18,6 +21,7 @@ use std::net::{Net, TcpListener, TcpStream};
 use std::rt::Clock as SystemClock;
 use std::sync::Wait;
 use std::thread::Threads;
+use trace::trace;
 use weave::Watch;
 
 /// Writes the records of the store of the node that the word names.
@@ -68,6 +72,55 @@ fn audit_folder<A: Archive, W: Write, P: Progress>(
     done
 }
 
+/// Writes the table of the run that leads furthest, where its journals are first records of the stores in the folder,
+/// and the records that are left.
+fn cut_folder<A: Archive, W: Write, P: Progress>(
+    alloc: Global,
+    archive: &A,
+    scheme: &str,
+    folder: &str,
+    writer: &mut W,
+    progress: &P,
+) -> Result<(), OpFault>
+    ensures ok { OnOk result
+        (CutsFolder A.Archive archive.now A.File.remaining A.Store.NodeStore scheme.now folder.now
+        (W.contents writer.old) (W.contents writer.new)) }
+    ensures err { IfErr result
+        (λ e. FailsToCutFolder A.Archive archive.now A.File.remaining A.Store.NodeStore scheme.now folder.now e
+        (W.contents writer.old) (W.contents writer.new)) }
+{
+    let scheme = scheme_at(alloc, archive, scheme)?;
+    find_folder(archive, folder)?;
+    let mut stores = open_stores(alloc, archive, &scheme, folder)?;
+    let mut watch = progress.of_audit();
+    let done = audit_cut(alloc, &scheme, stores.as_mut_slice(), writer, &mut watch);
+    watch.finished();
+    done
+}
+
+/// Writes the table of a run that leads to as many of the records of the stores in the folder as the extent says.
+fn audit_to<A: Archive, W: Write, P: Progress>(
+    alloc: Global,
+    archive: &A,
+    scheme: &str,
+    folder: &str,
+    extent: Extent,
+    writer: &mut W,
+    progress: &P,
+) -> Result<(), OpFault>
+    ensures ok { OnOk result
+        (AuditsTo A.Archive archive.now A.File.remaining A.Store.NodeStore extent scheme.now folder.now
+        (W.contents writer.old) (W.contents writer.new)) }
+    ensures err { IfErr result
+        (λ e. FailsToAuditTo A.Archive archive.now A.File.remaining A.Store.NodeStore extent scheme.now folder.now e
+        (W.contents writer.old) (W.contents writer.new)) }
+{
+    match extent {
+        Extent::Whole => audit_folder(alloc, archive, scheme, folder, writer, progress),
+        Extent::Furthest => cut_folder(alloc, archive, scheme, folder, writer, progress),
+    }
+}
+
 /// Writes the events of a run that leads to the records of the stores in the folder.
 fn list_folder<A: Archive, W: Write, P: Progress>(
     alloc: Global,
@@ -89,6 +142,55 @@ fn list_folder<A: Archive, W: Write, P: Progress>(
     let mut stores = open_stores(alloc, archive, &scheme, folder)?;
     let mut watch = progress.of_audit();
     let done = list_events(alloc, &scheme, stores.as_mut_slice(), writer, &mut watch);
+    watch.finished();
+    done
+}
+
+/// The transaction that the word names; else `Input`, of line 1, with `Order`.
+fn transaction_of(word: &str) -> Result<TransactionId, OpFault>
+    ensures ok { IfOk result (λ id. word.now ≡ id_text id) }
+    ensures err { IfErr result (NamesNoTransaction word.now) }
+{
+    match TransactionId::read(word) {
+        Some(id) => Ok(id),
+        None => Err(OpFault::Input {
+            line: 1,
+            cause: Cause::Order,
+        }),
+    }
+}
+
+/// Writes the records of the transaction that the word names, in the order of a run that leads to the records of the
+/// stores in the folder.
+fn trace_folder<A: Archive, W: Write, P: Progress>(
+    alloc: Global,
+    archive: &A,
+    scheme: &str,
+    folder: &str,
+    word: &str,
+    writer: &mut W,
+    progress: &P,
+) -> Result<(), OpFault>
+    ensures ok { OnOk result
+        (TracesFolder A.Archive archive.now A.File.remaining A.Store.NodeStore scheme.now folder.now word.now
+        (W.contents writer.old) (W.contents writer.new)) }
+    ensures err { IfErr result
+        (λ e. FailsToTraceFolder A.Archive archive.now A.File.remaining A.Store.NodeStore scheme.now folder.now
+        word.now e (W.contents writer.old) (W.contents writer.new)) }
+{
+    let scheme = scheme_at(alloc, archive, scheme)?;
+    let id = transaction_of(word)?;
+    find_folder(archive, folder)?;
+    let mut stores = open_stores(alloc, archive, &scheme, folder)?;
+    let mut watch = progress.of_audit();
+    let done = trace(
+        alloc,
+        &scheme,
+        stores.as_mut_slice(),
+        id,
+        writer,
+        &mut watch,
+    );
     watch.finished();
     done
 }
@@ -136,11 +238,16 @@ where
             node.as_str(),
             writer,
         ),
-        Action::Audit { scheme, folder } => audit_folder(
+        Action::Audit {
+            scheme,
+            folder,
+            extent,
+        } => audit_to(
             alloc,
             archive,
             scheme.as_str(),
             folder.as_str(),
+            *extent,
             writer,
             progress,
         ),
@@ -152,6 +259,16 @@ where
             writer,
             progress,
         ),
+        Action::Trace { scheme, folder, id } => trace_folder(
+            alloc,
+            archive,
+            scheme.as_str(),
+            folder.as_str(),
+            id.as_str(),
+            writer,
+            progress,
+        ),
+        Action::Explain { topic } => explain(writer, topic.as_str()),
         Action::Run {
             scheme,
             folder,

@@ -9,7 +9,7 @@ use Rattle.command_faults.specs.declared.fault.OpFault.TheVariants.{Input, Write
 use Rattle.explain.specs.declared.format_topics.TheConstants.{FORMAT_TOPICS}
 use Rattle.explain.specs.declared.protocol_topics.TheConstants.{PROTOCOL_TOPICS}
 
--- the name and the text of each topic of a table
+-- the name and the text of each topic of a table; no public contract cites it
 abbrev pub entries : List (Bor (List ℕ) × Bor (List ℕ)) → List (List ℕ × List ℕ)
 entries table = map (λ t. (t.0.now, t.1.now)) table
 

@@ -74,8 +74,8 @@ Causes (store NZ: damaged 7): the record at place 7 is missing while a later one
 text is no record's: somebody changed the file
 What to do: sqlite3 DIR/NZ.db 'select * from entries where place = 7' shows it; take a copy from
 before that
-Causes (store NZ: damaged 7 of audit): as above; or the record at place 7 is one that NZ would not
-have recorded after those before it
+Causes (store NZ: damaged 7 of audit, events and trace): as above; or the record at place 7 is one
+that NZ would not have recorded after those before it
 What to do: kyoto-link show SCHEME DIR NZ shows it
 ",
     ),
@@ -186,6 +186,11 @@ event at a node that the scheme lacks is no fault: its outcome is not possible
 Causes (line 1: order of show): NODE is neither ITL nor the code of a registry of the scheme, in
 capitals
 What to do: the codes stand in SCHEME
+Causes (line 1: order of trace): ID is no transaction identifier: a registry code in capitals, and a
+number from 1 to 999999
+What to do: show writes the identifiers that a node has
+Causes (line 1: order of explain): there is no such topic
+What to do: kyoto-link explain --help tells what topics are
 ",
     ),
     (
@@ -210,9 +215,9 @@ What to do: cut the list of events in two; the second part needs the events of t
         "read: a fault (kyoto-link: read failed), with status 3
 When: the input or a file could not be read, or the folder isn't there
 Causes (read failed): of rehearse and chart: standard input is closed, or a folder, or the device
-failed. Of show, audit and run: SCHEME isn't there, is a folder or may not be read, which is tried
-first; of run SCRIPT too; or DIR isn't there or is no folder, which is tried after NODE and after
-SCRIPT
+failed. Of show, audit, events, trace and run: SCHEME isn't there, is a folder or may not be read,
+which is tried first; of run SCRIPT too; or DIR isn't there or is no folder, which is tried after
+NODE, ID and SCRIPT
 What to do: look at paths and permissions
 ",
     ),
@@ -226,8 +231,9 @@ Causes (write failed after 17 bytes): the disk is full, or the reader of a pipe 
     (
         "stuck",
         "stuck: a fault (kyoto-link: stuck at ITL 0), with status 1
-When: of audit and run: no run leads to the records of the stores. Followed as far as they go, the
-log before the registries, that node is the first with a record left, and the number is its place
+When: of audit, events, trace and run: no run leads to the records of the stores. Followed as far as
+they go, the log before the registries, that node is the first with a record left, and the number is
+its place
 Causes (stuck at ITL 0): of run before its first line too: a store is missing, empty or older than
 the others, or was changed: the record waits for a message that no node sends. A node whose last
 records are missing is no cause: what it would have sent just isn't there

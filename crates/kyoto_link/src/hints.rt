@@ -14,13 +14,14 @@ struct Named<'a> {
     scheme: &'a str,
     folder: &'a str,
     node: Option<&'a str>,
+    id: Option<&'a str>,
     script: Option<&'a str>,
 }
 
 /// What an action's words name. `None` where it reads standard input alone.
 fn named_by(action: &Action) -> Option<Named<'_>> {
     match action {
-        Action::Rehearse | Action::Chart => None,
+        Action::Rehearse | Action::Chart | Action::Explain { .. } => None,
         Action::Show {
             scheme,
             folder,
@@ -29,12 +30,21 @@ fn named_by(action: &Action) -> Option<Named<'_>> {
             scheme: scheme.as_str(),
             folder: folder.as_str(),
             node: Some(node.as_str()),
+            id: None,
             script: None,
         }),
-        Action::Audit { scheme, folder } | Action::Events { scheme, folder } => Some(Named {
+        Action::Audit { scheme, folder, .. } | Action::Events { scheme, folder } => Some(Named {
             scheme: scheme.as_str(),
             folder: folder.as_str(),
             node: None,
+            id: None,
+            script: None,
+        }),
+        Action::Trace { scheme, folder, id } => Some(Named {
+            scheme: scheme.as_str(),
+            folder: folder.as_str(),
+            node: None,
+            id: Some(id.as_str()),
             script: None,
         }),
         Action::Run {
@@ -45,6 +55,7 @@ fn named_by(action: &Action) -> Option<Named<'_>> {
             scheme: scheme.as_str(),
             folder: folder.as_str(),
             node: None,
+            id: None,
             script: Some(script.as_str()),
         }),
     }
@@ -88,12 +99,14 @@ fn tell_script_line(rt: &HostRuntime, script: &str, line: u64) {
     }
 }
 
-/// Names the file of which a line has a fault, or the node that isn't in the scheme.
+/// Names the file of which a line has a fault, or the node that isn't in the scheme, or the word that is no transaction's.
 fn tell_line(rt: &HostRuntime, named: &Named<'_>, line: u64) {
     if scheme_at(rt.alloc(), &SystemFiles { rt }, named.scheme).is_err() {
         tell_scheme(rt, named.scheme);
     } else if let Some(node) = named.node {
         let _ = eprintln!(rt; "kyoto-link: {node} is no node of {}", named.scheme);
+    } else if let Some(id) = named.id {
+        let _ = eprintln!(rt; "kyoto-link: {id} is no identifier of a transaction, as NZ1 is one");
     } else if let Some(script) = named.script {
         tell_script_line(rt, script, line);
     }
@@ -103,6 +116,11 @@ fn tell_line(rt: &HostRuntime, named: &Named<'_>, line: u64) {
 pub(crate) fn explain(rt: &HostRuntime, action: &Action, fault: OpFault) {
     if !rt.stderr().is_terminal() {
         return;
+    }
+    if let (Action::Explain { topic }, OpFault::Input { .. }) = (action, fault) {
+        let _ = eprintln!(rt;
+            "kyoto-link: there is no topic {topic}; 'kyoto-link explain --help' tells what topics are"
+        );
     }
     let Some(named) = named_by(action) else {
         return;

@@ -4,15 +4,17 @@ use Rattle.clap.specs.Words.{Row, rows_of, first_of, first_value, found_of, subc
 use Rattle.clap.specs.declared.parser.matches.ArgMatches.{ArgMatches}
 use Rattle.clap.proofs.WalkLemmas.{first_value-rows}
 use Rattle.operator.specs.declared.command_line.Action.{Action}
-use Rattle.operator.specs.declared.command_line.Action.TheVariants.{Audit, Chart, Events, Rehearse, Run, Show}
+use Rattle.operator.specs.declared.command_line.Action.TheVariants.{Audit, Chart, Events, Explain, Rehearse, Run, Show, Trace}
 use Rattle.operator.specs.Words.{NamesAction, HasValues, IsOf, argument_of}
 
 same_values : (v w : List ℕ → Option (List ℕ)) → ((name : List ℕ) → v name ≡ w name) → (a : Action) → HasValues v a → HasValues w a
 same_values v w same Rehearse has = has
 same_values v w same Chart has = has
 same_values v w same (Show scheme folder node) has = (sym (same _) ∙ has.0, sym (same _) ∙ has.1, sym (same _) ∙ has.2)
-same_values v w same (Audit scheme folder) has = (sym (same _) ∙ has.0, sym (same _) ∙ has.1)
+same_values v w same (Audit scheme folder extent) has = (sym (same _) ∙ has.0, sym (same _) ∙ has.1, sym (same _) ∙ has.2)
 same_values v w same (Events scheme folder) has = (sym (same _) ∙ has.0, sym (same _) ∙ has.1)
+same_values v w same (Trace scheme folder id) has = (sym (same _) ∙ has.0, sym (same _) ∙ has.1, sym (same _) ∙ has.2)
+same_values v w same (Explain topic) has = sym (same _) ∙ has
 same_values v w same (Run scheme folder script) has = (sym (same _) ∙ has.0, sym (same _) ∙ has.1, sym (same _) ∙ has.2)
 
 pub names_action : (m inner : ArgMatches) (a : Option Action) (name : List ℕ) → subcommand_name_of m ≡ Some name → Some (rows_of (found_of inner)) ≡ option_map (λ p. p.1) (subcommand_rows_of m)

@@ -5,8 +5,8 @@ use Rattle.clap.specs.Simple.{new_shape}
 use Rattle.clap.specs.Words.{AddsArg, App, rule_of, with_rule, with_subcommand}
 use Rattle.clap.specs.declared.builder.arg.Arg.{Arg}
 use Rattle.clap.specs.declared.builder.command.Command.{Command}
-use Rattle.operator.specs.Subcommands.{described, rules_of, with_all}
-use Rattle.operator.specs.Words.{IsCommand, positional}
+use Rattle.operator.specs.Subcommands.{described, rule_in, rules_of, with_all}
+use Rattle.operator.specs.Words.{IsCommand}
 use Rattle.operator.specs.declared.command_line.Argument.{Argument}
 use Rattle.operator.specs.declared.command_line.Subcommand.{Subcommand}
 
@@ -15,11 +15,11 @@ abbrev pub with_arguments : List ℕ → List Argument → App
 with_arguments name arguments = record { top = record (new_shape name) { rules = rules_of arguments }; subs = [] }
 
 pub argument_added : (name : List ℕ) (arguments : List Argument) (i : ℕ) (d : Argument) (old new : Command) (arg : Arg) → i < length arguments
-    → rule_of arg ≡ positional (get_or arguments i d).name.now → arg.global ≡ false
+    → rule_of arg ≡ rule_in (get_or arguments i d) → arg.global ≡ false
     → IsCommand (with_arguments name (take i arguments)) old → AddsArg old arg new → IsCommand (with_arguments name (take (i + 1) arguments)) new
 argument_added name arguments i d old new arg lt rule local is adds = (
   adds.shape local ∙ ap (λ a. with_rule a (rule_of arg)) is.0 ∙ ap (with_rule (with_arguments name (take i arguments))) rule
-      ∙ ap (λ rs. record { top = record (new_shape name) { rules = rs }; subs = [] }) (sym (map_more (λ a. positional a.name.now) arguments i d lt)),
+      ∙ ap (λ rs. record { top = record (new_shape name) { rules = rs }; subs = [] }) (sym (map_more rule_in arguments i d lt)),
   adds.globals ∙ ap (λ b. b || arg.global) is.1 ∙ local,
 )
 

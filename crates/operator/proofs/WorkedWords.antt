@@ -85,6 +85,19 @@ pub audit_folder : option_and_then (λ p. first_of (codes "DIR") p.1) (subcomman
 unfolding clap_on_literals
 audit_folder = refl
 
+pub no_cut : option_and_then (λ p. first_of (codes "cut") p.1) (subcommand_of kyoto_link audit_words) ≡ Some (codes "false")
+unfolding clap_on_literals
+no_cut = refl
+
+-- the flag may stand before the words and after them
+pub with_cut : option_and_then (λ p. first_of (codes "cut") p.1) (subcommand_of kyoto_link (codes "kyoto-link" ∷ codes "audit" ∷ codes "--cut" ∷ codes "s.json" ∷ codes "d" ∷ [])) ≡ Some (codes "true")
+unfolding clap_on_literals
+with_cut = refl
+
+pub cut_last : option_and_then (λ p. first_of (codes "cut") p.1) (subcommand_of kyoto_link (codes "kyoto-link" ∷ codes "audit" ∷ codes "s.json" ∷ codes "d" ∷ codes "--cut" ∷ [])) ≡ Some (codes "true")
+unfolding clap_on_literals
+cut_last = refl
+
 pub no_folder : faults_in (codes "kyoto-link" ∷ codes "audit" ∷ codes "s.json" ∷ []) ≡ MissingRequiredArgument ∷ []
 unfolding clap_on_literals
 no_folder = refl
@@ -105,3 +118,13 @@ run_script = refl
 pub no_script : faults_in (codes "kyoto-link" ∷ codes "run" ∷ codes "s.json" ∷ codes "d" ∷ []) ≡ MissingRequiredArgument ∷ []
 unfolding clap_on_literals
 no_script = refl
+
+-- ---- words that trace a transaction, and that ask about a topic
+
+pub traced_id : option_and_then (λ p. first_of (codes "ID") p.1) (subcommand_of kyoto_link (codes "kyoto-link" ∷ codes "trace" ∷ codes "s.json" ∷ codes "d" ∷ codes "NZ1" ∷ [])) ≡ Some (codes "NZ1")
+unfolding clap_on_literals
+traced_id = refl
+
+pub topic : option_and_then (λ p. first_of (codes "TOPIC") p.1) (subcommand_of kyoto_link (codes "kyoto-link" ∷ codes "explain" ∷ codes "106" ∷ [])) ≡ Some (codes "106")
+unfolding clap_on_literals
+topic = refl

@@ -1,14 +1,23 @@
 -- The shape of each subcommand of a table, and the program with all of them. No public contract cites it.
-use Rattle.std.specs.Prelude.{List, [], ◌∷◌, map}
+use Rattle.std.specs.Prelude.{ℕ, List, [], ◌∷◌, map}
 use Rattle.clap.specs.Words.{App, Rule, Shape, with_subcommand}
 use Rattle.clap.specs.Simple.{new_shape}
-use Rattle.operator.specs.Words.{positional}
+use Rattle.operator.specs.Words.{flag, positional}
 use Rattle.operator.specs.declared.command_line.Argument.{Argument}
+use Rattle.operator.specs.declared.command_line.Form.{Form}
+use Rattle.operator.specs.declared.command_line.Form.TheVariants.{Flag, Positional}
 use Rattle.operator.specs.declared.command_line.Subcommand.{Subcommand}
 
--- the arguments in their order, each of which must be given
+abbrev pub rule_with : Form → List ℕ → Rule
+rule_with Positional name = positional name
+rule_with Flag name = flag name
+
+abbrev pub rule_in : Argument → Rule
+rule_in a = rule_with a.form a.name.now
+
+-- the arguments in their order
 abbrev pub rules_of : List Argument → List Rule
-rules_of arguments = map (λ a. positional a.name.now) arguments
+rules_of arguments = map rule_in arguments
 
 abbrev pub described : Subcommand → Shape
 described s = record (new_shape s.name.now) { rules = rules_of s.arguments.now }

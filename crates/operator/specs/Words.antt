@@ -1,6 +1,7 @@
 -- What the words of a command line name, by the matches that clap gives of them.
 use Rattle.std.specs.Prelude.{◌≡◌, ◌≢◌, ◌⊎◌, ℕ, List, [], ◌∷◌, Option, Some, true, false, codes, option_and_then, option_map, string_bytes}
 use Rattle.clap.specs.Words.{App, IsAmong, Kinds, Rule, Shape, fault_of, kind_of, new_app, new_rule, with_subcommand, shape_of, subcommand_name_of, subcommand_rows_of, first_of, app_of}
+use Rattle.clap.specs.declared.builder.action.ArgAction.TheVariants.{SetTrue}
 use Rattle.clap.specs.declared.builder.command.Command.TheViews.{out-Command}
 use Rattle.clap.specs.Simple.{new_shape}
 use Rattle.clap.specs.declared.builder.command.Command.{Command}
@@ -9,7 +10,9 @@ use Rattle.clap.specs.declared.error.kind.ErrorKind.{ErrorKind}
 use Rattle.clap.specs.declared.error.kind.ErrorKind.TheVariants.{OutOfMemory, DisplayHelp, DisplayVersion}
 use Rattle.clap.specs.declared.parser.matches.ArgMatches.{ArgMatches}
 use Rattle.operator.specs.declared.command_line.Action.{Action}
-use Rattle.operator.specs.declared.command_line.Action.TheVariants.{Audit, Chart, Events, Rehearse, Run, Show}
+use Rattle.operator.specs.declared.command_line.Action.TheVariants.{Audit, Chart, Events, Explain, Rehearse, Run, Show, Trace}
+use Rattle.operator.specs.declared.command_line.Extent.{Extent}
+use Rattle.operator.specs.declared.command_line.Extent.TheVariants.{Furthest, Whole}
 use Rattle.operator.specs.declared.command_line.UsageFault.{UsageFault}
 use Rattle.operator.specs.declared.command_line.UsageFault.TheVariants.{Usage, Help, NoMemory}
 
@@ -21,14 +24,24 @@ program = record (new_app (codes "kyoto-link")) { top = record (new_shape (codes
 abbrev pub positional : List ℕ → Rule
 positional name = record (new_rule name) { required = true }
 
+-- a flag, which takes no value
+abbrev pub flag : List ℕ → Rule
+flag name = record (new_rule name) { long = Some name; action = Some SetTrue }
+
 abbrev pub show_shape : Shape
 show_shape = record (new_shape (codes "show")) { rules = positional (codes "SCHEME") ∷ positional (codes "DIR") ∷ positional (codes "NODE") ∷ [] }
 
 abbrev pub audit_shape : Shape
-audit_shape = record (new_shape (codes "audit")) { rules = positional (codes "SCHEME") ∷ positional (codes "DIR") ∷ [] }
+audit_shape = record (new_shape (codes "audit")) { rules = positional (codes "SCHEME") ∷ positional (codes "DIR") ∷ flag (codes "cut") ∷ [] }
 
 abbrev pub events_shape : Shape
 events_shape = record (new_shape (codes "events")) { rules = positional (codes "SCHEME") ∷ positional (codes "DIR") ∷ [] }
+
+abbrev pub trace_shape : Shape
+trace_shape = record (new_shape (codes "trace")) { rules = positional (codes "SCHEME") ∷ positional (codes "DIR") ∷ positional (codes "ID") ∷ [] }
+
+abbrev pub explain_shape : Shape
+explain_shape = record (new_shape (codes "explain")) { rules = positional (codes "TOPIC") ∷ [] }
 
 abbrev pub run_shape : Shape
 run_shape = record (new_shape (codes "run")) { rules = positional (codes "SCHEME") ∷ positional (codes "DIR") ∷ positional (codes "SCRIPT") ∷ [] }
@@ -37,9 +50,13 @@ run_shape = record (new_shape (codes "run")) { rules = positional (codes "SCHEME
 abbrev pub with_readers : App
 with_readers = with_subcommand (with_subcommand program (new_shape (codes "rehearse"))) (new_shape (codes "chart"))
 
+-- and with those that look at stores
+abbrev pub with_auditors : App
+with_auditors = with_subcommand (with_subcommand (with_subcommand (with_subcommand with_readers show_shape) audit_shape) events_shape) trace_shape
+
 -- the program with all its subcommands
 abbrev pub kyoto_link : App
-kyoto_link = with_subcommand (with_subcommand (with_subcommand (with_subcommand with_readers show_shape) audit_shape) events_shape) run_shape
+kyoto_link = with_subcommand (with_subcommand with_auditors explain_shape) run_shape
 
 -- the kinds of fault of which clap finds one in the words; none where it takes them
 abbrev pub faults_in : List (List ℕ) → Kinds
@@ -59,14 +76,23 @@ IsUsageFault words (Usage e) = (kind_of e ≢ OutOfMemory) × (IsAskedFor (kind_
 abbrev pub argument_of : ArgMatches → List ℕ → Option (List ℕ)
 argument_of m name = option_and_then (first_of name) (option_map (λ p. p.1) (subcommand_rows_of m))
 
+-- the value of the flag `cut`
+abbrev pub extent_word : Extent → List ℕ
+extent_word Whole = codes "false"
+extent_word Furthest = codes "true"
+
 -- the words of the action are the values of the arguments
 abbrev pub HasValues : (List ℕ → Option (List ℕ)) → Action → Type 0
 HasValues value Rehearse = Unit {0}
 HasValues value Chart = Unit {0}
 HasValues value (Show scheme folder node) =
     (value (codes "SCHEME") ≡ Some (string_bytes scheme)) × (value (codes "DIR") ≡ Some (string_bytes folder)) × (value (codes "NODE") ≡ Some (string_bytes node))
-HasValues value (Audit scheme folder) = (value (codes "SCHEME") ≡ Some (string_bytes scheme)) × (value (codes "DIR") ≡ Some (string_bytes folder))
+HasValues value (Audit scheme folder extent) =
+    (value (codes "SCHEME") ≡ Some (string_bytes scheme)) × (value (codes "DIR") ≡ Some (string_bytes folder)) × (value (codes "cut") ≡ Some (extent_word extent))
 HasValues value (Events scheme folder) = (value (codes "SCHEME") ≡ Some (string_bytes scheme)) × (value (codes "DIR") ≡ Some (string_bytes folder))
+HasValues value (Trace scheme folder id) =
+    (value (codes "SCHEME") ≡ Some (string_bytes scheme)) × (value (codes "DIR") ≡ Some (string_bytes folder)) × (value (codes "ID") ≡ Some (string_bytes id))
+HasValues value (Explain topic) = value (codes "TOPIC") ≡ Some (string_bytes topic)
 HasValues value (Run scheme folder script) =
     (value (codes "SCHEME") ≡ Some (string_bytes scheme)) × (value (codes "DIR") ≡ Some (string_bytes folder)) × (value (codes "SCRIPT") ≡ Some (string_bytes script))
 
@@ -74,8 +100,10 @@ abbrev pub command_name : Action → List ℕ
 command_name Rehearse = codes "rehearse"
 command_name Chart = codes "chart"
 command_name (Show scheme folder node) = codes "show"
-command_name (Audit scheme folder) = codes "audit"
+command_name (Audit scheme folder extent) = codes "audit"
 command_name (Events scheme folder) = codes "events"
+command_name (Trace scheme folder id) = codes "trace"
+command_name (Explain topic) = codes "explain"
 command_name (Run scheme folder script) = codes "run"
 
 abbrev pub NamesAction : ArgMatches → Action → Type 0

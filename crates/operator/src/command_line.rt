@@ -5,142 +5,29 @@ ghost use Rattle.clap.specs.Values.{kind_of};
 ghost use Rattle.clap.specs.Words.{App, HasMatchesOf, first_value, found_of, rule_of, with_subcommand};
 ghost use Rattle.clap.specs.declared.error.kind.ErrorKind.TheVariants.{OutOfMemory};
 ghost use Rattle.clap.specs.declared.parser.matches.ArgMatches.{ArgMatches};
-ghost use Rattle.operator.specs.Words.{NamesAction, IsCommand, IsFaultOf, IsOf, IsSubcommand, IsUsageFault, faults_in, kyoto_link, positional, program};
-ghost use Rattle.operator.specs.Subcommands.{described};
+ghost use Rattle.operator.specs.Words.{NamesAction, IsCommand, IsFaultOf, IsOf, IsSubcommand, IsUsageFault, extent_word, faults_in, flag, kyoto_link, positional, program};
+ghost use Rattle.operator.specs.Subcommands.{described, rule_in};
 
+use crate::notes::{
+    AUDIT_NOTES, CHART_NOTES, EVENTS_NOTES, EXPLAIN_NOTES, NOTES, REHEARSE_NOTES, RUN_NOTES,
+    SHOW_NOTES, TRACE_NOTES,
+};
 use clap::error::ErrorKind;
-use clap::{Arg, ArgMatches, Command, Error};
+use clap::{Arg, ArgAction, ArgMatches, Command, Error};
 use std::alloc::{AllocError, Global};
 use std::convert::AsStr;
 
 /// What `--version` writes after the program's name.
 const VERSION: &str = "0.1.0";
 
-/// The end of the program's help.
-const NOTES: &str = "Example:
-  kyoto-link rehearse < examples/one_transfer/input
-
-Exit status:
-  0  done
-  1  no run leads to the records of the stores, or what a node's threads were told isn't what one would have been told
-  2  the words are wrong
-  3  the input has a fault, or could not be read, or the output could not be written
-  4  a node's store has a fault
-  5  out of memory
-
-A fault is one line on standard error. docs/FORMATS.md describes the texts that are read and written,
-and each fault; docs/PROTOCOL.md describes the protocol, with all codes.";
-
-/// The end of the help of `rehearse`.
-const REHEARSE_NOTES: &str =
-    "The first line of standard input is the scheme, and each other line an event; nothing is written before
-all of it was read and has no fault.
-
-Example:
-  kyoto-link rehearse < examples/one_transfer/input
-
-Exit status:
-  0  done
-  3  a line has a fault (kyoto-link: line 2: order), or the input could not be read or the output written
-  5  out of memory
-
-docs/FORMATS.md describes schemes, events and the table; docs/PROTOCOL.md tells what each outcome means.";
-
-/// The end of the help of `chart`.
-const CHART_NOTES: &str =
-    "The first line of standard input is the scheme, and each other line an event, as for rehearse. A message that
-comes to a node is an arrow, one that doesn't ends in a cross, and the last note has the table. Mermaid draws no text of
-more than 50,000 characters, some 1,500 events, unless its maxTextSize is set.
-
-Example:
-  kyoto-link chart < examples/one_transfer/input > one_transfer.mmd
-
-Exit status:
-  0  done
-  3  a line has a fault (kyoto-link: line 2: order), or the input could not be read or the output written
-  5  out of memory
-
-docs/FORMATS.md describes schemes, events and charts.";
-
-/// The end of the help of `show`.
-const SHOW_NOTES: &str =
-    "The store of a node is the file DIR/NODE.db. A missing store is made, and is empty. A store of format 1 is migrated
-to format 2, which needs room for twice its size beside it.
-
-Example:
-  kyoto-link show scheme.json stores NZ
-
-Exit status:
-  0  done
-  3  SCHEME has a fault, SCHEME or DIR could not be read, or the output could not be written
-  4  the store has a fault (kyoto-link: store NZ: device)
-  5  out of memory
-
-docs/FORMATS.md describes schemes, records and stores.";
-
-/// The end of the help of `audit`.
-const AUDIT_NOTES: &str =
-    "The store of a node is the file DIR/NODE.db: one for the log, and one for each registry of the scheme. A missing
-store is made, and is empty. A store of format 1 is migrated to format 2, which needs room for twice its size beside it.
-The table is that of a run which leads to the records of all stores, and to no others.
-
-Example:
-  kyoto-link audit scheme.json stores
-
-Exit status:
-  0  done
-  1  no run leads to these records (kyoto-link: stuck at NZ 2: the first record that none can come to)
-  3  SCHEME has a fault, SCHEME or DIR could not be read, or the output could not be written
-  4  a store has a fault (kyoto-link: store NZ: damaged 2)
-  5  out of memory
-
-docs/FORMATS.md describes schemes, records, stores and the table.";
-
-/// The end of the help of `events`.
-const EVENTS_NOTES: &str =
-    "The store of a node is the file DIR/NODE.db: one for the log, and one for each registry of the scheme. A missing
-store is made, and is empty. A store of format 1 is migrated to format 2, which needs room for twice its size beside it.
-The scheme is written as one line, and then a line for each event of a run which leads to the records of all stores, and
-to no others. rehearse reads it, and its table is the one that audit writes.
-
-Example:
-  kyoto-link events scheme.json stores | kyoto-link chart > run.mmd
-
-Exit status:
-  0  done
-  1  no run leads to these records (kyoto-link: stuck at NZ 2: the first record that none can come to)
-  3  SCHEME has a fault, SCHEME or DIR could not be read, or the output could not be written
-  4  a store has a fault (kyoto-link: store NZ: damaged 2)
-  5  out of memory
-
-docs/FORMATS.md describes schemes, records, stores and events, and how long an input of rehearse may be.";
-
-/// The end of the help of `run`.
-const RUN_NOTES: &str =
-    "Each node runs in threads of its own, and nodes exchange messages over sockets at free ports of 127.0.0.1. The
-store of a node is the file DIR/NODE.db: one for the log, and one for each registry of the scheme. A missing store is
-made, and is empty; a store of format 1 is migrated to format 2, which needs room for twice its size beside it. A run
-goes on from the records that a store has. SCRIPT has a line for each order and each question:
-
-  propose NZ 1 JP 7 NZ:1:1-100:AAU
-  until JP NZ1 Completed 10000
-
-After the last line all nodes stop. What each line came to is written, and then the table of a run that leads to the
-records of all nodes, and to no others.
-
-Example:
-  kyoto-link run scheme.json stores script
-
-Exit status:
-  0  done
-  1  no run leads to these records (kyoto-link: stuck at NZ 2), or what the threads of a node were told isn't what
-     one thread would have been told (kyoto-link: unsettled NZ)
-  3  SCHEME or SCRIPT has a fault, one of them or DIR could not be read, no port is free, or the output could not
-     be written
-  4  a store has a fault (kyoto-link: store NZ: device)
-  5  out of memory
-
-docs/FORMATS.md describes schemes, scripts, records, stores and the table.";
+/// How many of the stores' records an audit's table is to explain.
+#[derive(Clone, Copy, Debug, PartialEq, Eq)]
+pub enum Extent {
+    /// All of them.
+    Whole,
+    /// As many first ones as a run explains.
+    Furthest,
+}
 
 /// What the words ask for.
 #[derive(Debug, Drop)]
@@ -156,17 +43,29 @@ pub enum Action {
         folder: String,
         node: String,
     },
-    /// Write the table of a run that leads to the records of the stores in the folder `folder`. The file `scheme` has
-    /// the scheme.
+    /// Write the table of a run that leads to the records of the stores in the folder `folder`, to all of them or to as
+    /// many as a run explains. The file `scheme` has the scheme.
     Audit {
         scheme: String,
         folder: String,
+        extent: Extent,
     },
     /// Write the scheme and the events of a run that leads to the records of the stores in the folder `folder`. The file
     /// `scheme` has the scheme.
     Events {
         scheme: String,
         folder: String,
+    },
+    /// Write the records of the transaction `id` in the stores in the folder `folder`, in the order of a run that leads
+    /// to all records. The file `scheme` has the scheme.
+    Trace {
+        scheme: String,
+        folder: String,
+        id: String,
+    },
+    /// Write the text of the documents about the topic `topic`.
+    Explain {
+        topic: String,
     },
     /// Run the nodes of the scheme in threads, with their stores in the folder `folder`, while the lines of the file
     /// `script` are ordered and asked, and report. The file `scheme` has the scheme.
@@ -188,10 +87,20 @@ pub enum UsageFault {
     NoMemory,
 }
 
-/// An argument of a subcommand, which must be given.
+/// How an argument is given.
+#[derive(Clone, Copy)]
+enum Form {
+    /// As a word, which must be given.
+    Positional,
+    /// As a flag, `--` before its name, or not at all.
+    Flag,
+}
+
+/// An argument of a subcommand.
 struct Argument {
     name: &'static str,
     help: &'static str,
+    form: Form,
 }
 
 /// A subcommand, with the end of its help.
@@ -205,21 +114,43 @@ struct Subcommand {
 const SCHEME: Argument = Argument {
     name: "SCHEME",
     help: "The file with the scheme",
+    form: Form::Positional,
 };
 
 const DIR: Argument = Argument {
     name: "DIR",
     help: "The folder with the nodes' stores",
+    form: Form::Positional,
 };
 
 const NODE: Argument = Argument {
     name: "NODE",
     help: "The node: ITL, or the code of a registry of the scheme",
+    form: Form::Positional,
 };
 
 const SCRIPT: Argument = Argument {
     name: "SCRIPT",
     help: "The file with a line for each order and each question",
+    form: Form::Positional,
+};
+
+const ID: Argument = Argument {
+    name: "ID",
+    help: "The transaction: its initiator's code and its number, as NZ1",
+    form: Form::Positional,
+};
+
+const TOPIC: Argument = Argument {
+    name: "TOPIC",
+    help: "A code, a status, an outcome, or a word of a fault line",
+    form: Form::Positional,
+};
+
+const CUT: Argument = Argument {
+    name: "cut",
+    help: "Write the table of the run that leads furthest, and which records are left",
+    form: Form::Flag,
 };
 
 /// The subcommands, in the order of the program's help.
@@ -246,13 +177,25 @@ const SUBCOMMANDS: &[Subcommand] = &[
         name: "audit",
         about: "Find a run that leads to the records of all stores, and write the table that it leads to",
         notes: AUDIT_NOTES,
-        arguments: &[SCHEME, DIR],
+        arguments: &[SCHEME, DIR, CUT],
     },
     Subcommand {
         name: "events",
         about: "Find a run that leads to the records of all stores, and write its scheme and its events as rehearse reads them",
         notes: EVENTS_NOTES,
         arguments: &[SCHEME, DIR],
+    },
+    Subcommand {
+        name: "trace",
+        about: "Write the records of one transaction, in the order of a run that leads to the records of all stores",
+        notes: TRACE_NOTES,
+        arguments: &[SCHEME, DIR, ID],
+    },
+    Subcommand {
+        name: "explain",
+        about: "Write what the documents say about a code, a status, an outcome or a fault",
+        notes: EXPLAIN_NOTES,
+        arguments: &[TOPIC],
     },
     Subcommand {
         name: "run",
@@ -269,6 +212,28 @@ fn positional<'a>(alloc: Global, name: &'a str, help: &'a str) -> Arg<'a>
     Arg::new(alloc, name).required(true).help(help)
 }
 
+fn flag<'a>(alloc: Global, name: &'a str, help: &'a str) -> Arg<'a>
+    ensures rule { rule_of result ≡ flag name.now }
+    ensures global { result.global ≡ false }
+{
+    Arg::new(alloc, name)
+        .long(name)
+        .action(ArgAction::SetTrue)
+        .help(help)
+}
+
+impl Argument {
+    fn arg<'a>(&self, alloc: Global) -> Arg<'a>
+        ensures rule { rule_of result ≡ rule_in self.now }
+        ensures global { result.global ≡ false }
+    {
+        match self.form {
+            Form::Positional => positional(alloc, self.name, self.help),
+            Form::Flag => flag(alloc, self.name, self.help),
+        }
+    }
+}
+
 impl Subcommand {
     fn command<'a>(&self, alloc: Global) -> Result<Command<'a>, AllocError>
         ensures { IfOk result (IsSubcommand (described self.now)) }
@@ -277,7 +242,7 @@ impl Subcommand {
             .about(self.about)
             .after_help(self.notes);
         for argument in self.arguments {
-            command = command.arg(positional(alloc, argument.name, argument.help))?;
+            command = command.arg(argument.arg(alloc))?;
         }
         Ok(command)
     }
@@ -337,12 +302,31 @@ fn show_action(alloc: Global, matches: &ArgMatches) -> Option<Action>
     })
 }
 
+/// How much is to be explained, by the flag `cut`.
+fn extent_of(matches: &ArgMatches) -> Option<Extent>
+    ensures { IfSome result (λ e. first_value (found_of matches.now) (codes "cut") ≡ Some (extent_word e)) }
+{
+    let value = matches.get_str("cut")?;
+    if value == "true" {
+        return Some(Extent::Furthest);
+    }
+    if value == "false" {
+        return Some(Extent::Whole);
+    }
+    None
+}
+
 fn audit_action(alloc: Global, matches: &ArgMatches) -> Option<Action>
     ensures { IfSome result (IsOf (codes "audit") (first_value (found_of matches.now))) }
 {
     let scheme = value_of(alloc, matches, "SCHEME")?;
     let folder = value_of(alloc, matches, "DIR")?;
-    Some(Action::Audit { scheme, folder })
+    let extent = extent_of(matches)?;
+    Some(Action::Audit {
+        scheme,
+        folder,
+        extent,
+    })
 }
 
 fn events_action(alloc: Global, matches: &ArgMatches) -> Option<Action>
@@ -351,6 +335,22 @@ fn events_action(alloc: Global, matches: &ArgMatches) -> Option<Action>
     let scheme = value_of(alloc, matches, "SCHEME")?;
     let folder = value_of(alloc, matches, "DIR")?;
     Some(Action::Events { scheme, folder })
+}
+
+fn trace_action(alloc: Global, matches: &ArgMatches) -> Option<Action>
+    ensures { IfSome result (IsOf (codes "trace") (first_value (found_of matches.now))) }
+{
+    let scheme = value_of(alloc, matches, "SCHEME")?;
+    let folder = value_of(alloc, matches, "DIR")?;
+    let id = value_of(alloc, matches, "ID")?;
+    Some(Action::Trace { scheme, folder, id })
+}
+
+fn explain_action(alloc: Global, matches: &ArgMatches) -> Option<Action>
+    ensures { IfSome result (IsOf (codes "explain") (first_value (found_of matches.now))) }
+{
+    let topic = value_of(alloc, matches, "TOPIC")?;
+    Some(Action::Explain { topic })
 }
 
 fn run_action(alloc: Global, matches: &ArgMatches) -> Option<Action>
@@ -385,6 +385,12 @@ fn action_of(alloc: Global, matches: &ArgMatches) -> Option<Action>
     }
     if name == "events" {
         return events_action(alloc, inner);
+    }
+    if name == "trace" {
+        return trace_action(alloc, inner);
+    }
+    if name == "explain" {
+        return explain_action(alloc, inner);
     }
     if name == "run" {
         return run_action(alloc, inner);

@@ -2,7 +2,8 @@
 #![tactic(auto)]
 
 mod command_line;
+mod notes;
 mod showing;
 
-pub use command_line::{Action, UsageFault, parse_words};
+pub use command_line::{Action, Extent, UsageFault, parse_words};
 pub use showing::show;

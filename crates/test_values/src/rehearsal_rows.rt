@@ -1,7 +1,7 @@
 use crate::limit_rows::{EVENT, SCHEME};
 use crate::same::{assert_same, room};
 use command_faults::{Cause, OpFault};
-use operator::{Action, UsageFault, parse_words};
+use operator::{Action, Extent, UsageFault, parse_words};
 use rehearse::rehearse;
 use std::alloc::Global;
 use std::io::{self, ErrorKind, Read, Write};
@@ -203,8 +203,10 @@ enum Outcome {
     Rehearse,
     Chart,
     Show,
-    Audit,
+    Audit(Extent),
     Events,
+    Trace,
+    Explain,
     Run,
     Help,
     Usage,
@@ -217,8 +219,10 @@ fn parsed_once(alloc: Global, words: &[&str]) -> Outcome {
         Ok(Action::Rehearse) => Outcome::Rehearse,
         Ok(Action::Chart) => Outcome::Chart,
         Ok(Action::Show { .. }) => Outcome::Show,
-        Ok(Action::Audit { .. }) => Outcome::Audit,
+        Ok(Action::Audit { extent, .. }) => Outcome::Audit(*extent),
         Ok(Action::Events { .. }) => Outcome::Events,
+        Ok(Action::Trace { .. }) => Outcome::Trace,
+        Ok(Action::Explain { .. }) => Outcome::Explain,
         Ok(Action::Run { .. }) => Outcome::Run,
         Err(UsageFault::Help(_)) => Outcome::Help,
         Err(UsageFault::Usage(_)) => Outcome::Usage,
@@ -243,7 +247,33 @@ const COMMANDS: &[(&[&str], Outcome)] = &[
     (&["kyoto-link", "run", "s.json", "d", "l"], Outcome::Run),
     (&["kyoto-link", "audit"], Outcome::Usage),
     (&["kyoto-link", "audit", "s.json"], Outcome::Usage),
-    (&["kyoto-link", "audit", "s.json", "d"], Outcome::Audit),
+    (
+        &["kyoto-link", "audit", "s.json", "d"],
+        Outcome::Audit(Extent::Whole),
+    ),
+    (
+        &["kyoto-link", "audit", "--cut", "s.json", "d"],
+        Outcome::Audit(Extent::Furthest),
+    ),
+    (
+        &["kyoto-link", "audit", "s.json", "d", "--cut"],
+        Outcome::Audit(Extent::Furthest),
+    ),
+    (
+        &["kyoto-link", "audit", "s.json", "d", "--cuts"],
+        Outcome::Usage,
+    ),
+    (
+        &["kyoto-link", "audit", "--cut", "--cut", "s.json", "d"],
+        Outcome::Usage,
+    ),
+    (
+        &["kyoto-link", "trace", "s.json", "d", "NZ1"],
+        Outcome::Trace,
+    ),
+    (&["kyoto-link", "trace", "s.json", "d"], Outcome::Usage),
+    (&["kyoto-link", "explain", "106"], Outcome::Explain),
+    (&["kyoto-link", "explain"], Outcome::Usage),
     (&["kyoto-link", "events"], Outcome::Usage),
     (&["kyoto-link", "events", "s.json"], Outcome::Usage),
     (&["kyoto-link", "events", "s.json", "d"], Outcome::Events),

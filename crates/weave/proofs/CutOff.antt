@@ -1,20 +1,17 @@
 -- The cut at which following ends, once no node is pending.
-use Rattle.std.proofs.Common.{◌≡◌, ℕ, zero, suc, ◌+◌, ◌<◌, ◌≤◌, All, List, [], ◌∷◌, ◌++◌, Bool, true, false, not, cond, Some, inl, inr, refl, sym, ap, subst, ◌∙◌, filter, length, map, arith, true≢false}
-use Rattle.std.specs.Prelude.{get_or, is_some, nat_le, slice_get}
+use Rattle.std.proofs.Common.{◌≡◌, ℕ, zero, suc, ◌≤◌, All, List, [], ◌∷◌, ◌++◌, Bool, true, false, not, cond, Some, inl, inr, refl, sym, ap, subst, ◌∙◌, filter, length, map, arith, true≢false}
+use Rattle.std.specs.Prelude.{get_or, nat_le, slice_get}
 use Rattle.std.proofs.lemmas.Bool.{cases_Bool, leb-true}
 use Rattle.units.specs.declared.code.Node.{Node}
 use Rattle.wire.specs.declared.input.Input.{Input}
 use Rattle.scheme.specs.declared.registries.Scheme.{Scheme}
-use Rattle.protocol.specs.Claims.{DeliversWelcome, committed_of, committed_part, live_of}
-use Rattle.protocol.specs.Deciding.{IsRecorded}
+use Rattle.protocol.specs.Claims.{DeliversWelcome, committed_of, live_of}
 use Rattle.protocol.specs.Headline.{IsSafe}
-use Rattle.protocol.specs.History.{Transition}
 use Rattle.protocol.specs.Registries.{is_node, nodes}
 use Rattle.protocol.specs.Verdict.{history, verdict}
 use Rattle.protocol.specs.WayOut.{WayOut}
-use Rattle.protocol.specs.Weave.{ArePrefixes, IsFurthestCut, IsQuiet, IsStuck, Placed, Projects, WasSent, committed_by}
-use Rattle.protocol.specs.World.{World, opening, run, station}
-use Rattle.protocol.specs.declared.event.WorldEvent.{WorldEvent}
+use Rattle.protocol.specs.Weave.{ArePrefixes, IsFurthestCut, IsQuiet, IsStuck, Projects, WasSent, committed_by}
+use Rattle.protocol.specs.World.{World, opening, run}
 use Rattle.safety.proofs.Headline.{safe_live, safe_committed, way_out, welcome}
 use Rattle.safety.proofs.JournalWeaves.StuckWorlds.{none_next, stuck_is_furthest}
 use Rattle.weave.specs.Cuts.{IsBeyond, IsCut, goes_beyond}

@@ -1,6 +1,6 @@
 -- What is left of journals after the committed records, node by node.
-use Rattle.std.proofs.Common.{◌≡◌, ℕ, ◌+◌, ◌<◌, ◌≤◌, All, List, [], ◌∷◌, ◌++◌, Bool, true, false, cond, not, inl, inr, refl, sym, ap, subst, ◌∙◌, filter, length, map, take, arith, append-nil}
-use Rattle.std.specs.Prelude.{get_or, nat_le, slice_get, Some}
+use Rattle.std.proofs.Common.{◌≡◌, ℕ, ◌+◌, ◌<◌, ◌≤◌, All, List, [], ◌∷◌, ◌++◌, Bool, true, false, cond, not, inl, inr, sym, ap, subst, ◌∙◌, filter, length, map, take, arith, append-nil}
+use Rattle.std.specs.Prelude.{get_or, nat_le}
 use Rattle.std.proofs.lemmas.Bool.{cases_Bool, leb-false, leb-true}
 use Rattle.std.proofs.lemmas.List.{map-append, take_more}
 use Rattle.std.proofs.lemmas.List.Elements.{All-push, filter-append}

@@ -20,5 +20,15 @@ returns-then-eq-5 c =
 
 pub returns-then-eq-6 : goal.returns-then-eq-6
 returns-then-eq-6 c =
+    let name : subcommand_name_of c.args.matches.now ≡ Some (codes "trace") = search rules in
+    names_action c.args.matches.now c.in_ok-name.inner.now c.trace_action.result (codes "trace") name c.in_ok-name.ensures.rows c.trace_action.ensures
+
+pub returns-then-eq-7 : goal.returns-then-eq-7
+returns-then-eq-7 c =
+    let name : subcommand_name_of c.args.matches.now ≡ Some (codes "explain") = search rules in
+    names_action c.args.matches.now c.in_ok-name.inner.now c.explain_action.result (codes "explain") name c.in_ok-name.ensures.rows c.explain_action.ensures
+
+pub returns-then-eq-8 : goal.returns-then-eq-8
+returns-then-eq-8 c =
     let name : subcommand_name_of c.args.matches.now ≡ Some (codes "run") = search rules in
     names_action c.args.matches.now c.in_ok-name.inner.now c.run_action.result (codes "run") name c.in_ok-name.ensures.rows c.run_action.ensures

@@ -1,10 +1,9 @@
-use Rattle.std.proofs.Common.{◌≡◌, ◌∙◌, List, [], filter, length, map, refl, sym, ap, subst}
+use Rattle.std.proofs.Common.{◌∙◌, List, length, map, refl, sym, ap, subst}
 use Rattle.std.proofs.lemmas.Bool.{eqb-true}
 use Rattle.std.proofs.lemmas.List.{length-map}
 use Rattle.units.specs.declared.code.Node.{Node}
 use Rattle.protocol.specs.World.{opening, run}
 use Rattle.world.specs.Cores as node_cores
-use Rattle.weave.specs.Left.{has_rest}
 use Rattle.weave.specs.declared.cut.Rest.{Rest}
 use Rattle.weave.proofs.CutOff.{is_cut, none_there, whole_world}
 use Rattle.weave.proofs.Rests.{AreRests}

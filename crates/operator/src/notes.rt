@@ -1,0 +1,167 @@
+//! The ends of the helps of the program and of its subcommands.
+
+/// The end of the program's help.
+pub(crate) const NOTES: &str = "Example:
+  kyoto-link rehearse < examples/one_transfer/input
+
+Exit status:
+  0  done
+  1  no run leads to the records of the stores, or what a node's threads were told isn't what one would have been told
+  2  the words are wrong
+  3  the input has a fault, or could not be read, or the output could not be written
+  4  a node's store has a fault
+  5  out of memory
+
+A fault is one line on standard error. docs/FORMATS.md describes the texts that are read and written,
+and each fault; docs/PROTOCOL.md describes the protocol, with all codes.";
+
+/// The end of the help of `rehearse`.
+pub(crate) const REHEARSE_NOTES: &str =
+    "The first line of standard input is the scheme, and each other line an event; nothing is written before
+all of it was read and has no fault.
+
+Example:
+  kyoto-link rehearse < examples/one_transfer/input
+
+Exit status:
+  0  done
+  3  a line has a fault (kyoto-link: line 2: order), or the input could not be read or the output written
+  5  out of memory
+
+docs/FORMATS.md describes schemes, events and the table; docs/PROTOCOL.md tells what each outcome means.";
+
+/// The end of the help of `chart`.
+pub(crate) const CHART_NOTES: &str =
+    "The first line of standard input is the scheme, and each other line an event, as for rehearse. A message that
+comes to a node is an arrow, one that doesn't ends in a cross, and the last note has the table. Mermaid draws no text of
+more than 50,000 characters, some 1,500 events, unless its maxTextSize is set.
+
+Example:
+  kyoto-link chart < examples/one_transfer/input > one_transfer.mmd
+
+Exit status:
+  0  done
+  3  a line has a fault (kyoto-link: line 2: order), or the input could not be read or the output written
+  5  out of memory
+
+docs/FORMATS.md describes schemes, events and charts.";
+
+/// The end of the help of `show`.
+pub(crate) const SHOW_NOTES: &str =
+    "The store of a node is the file DIR/NODE.db. A missing store is made, and is empty. A store of format 1 is migrated
+to format 2, which needs room for twice its size beside it.
+
+Example:
+  kyoto-link show scheme.json stores NZ
+
+Exit status:
+  0  done
+  3  SCHEME has a fault, SCHEME or DIR could not be read, or the output could not be written
+  4  the store has a fault (kyoto-link: store NZ: device)
+  5  out of memory
+
+docs/FORMATS.md describes schemes, records and stores.";
+
+/// The end of the help of `audit`.
+pub(crate) const AUDIT_NOTES: &str =
+    "The store of a node is the file DIR/NODE.db: one for the log, and one for each registry of the scheme. A missing
+store is made, and is empty. A store of format 1 is migrated to format 2, which needs room for twice its size beside it.
+The table is that of a run which leads to the records of all stores, and to no others.
+
+With --cut it is that of the run which leads furthest, where its journals are first records of the stores, as of copies
+that were not taken at one moment. A line for each node with records left tells how many these are, and one what the
+first of them waits for:
+
+  left JP 1 2
+  waits JP 1 Completed NZ1 from ITL
+
+Example:
+  kyoto-link audit scheme.json stores
+
+Exit status:
+  0  done
+  1  no run leads to these records (kyoto-link: stuck at NZ 2: the first record that none can come to); with --cut the
+     table was written
+  3  SCHEME has a fault, SCHEME or DIR could not be read, or the output could not be written
+  4  a store has a fault (kyoto-link: store NZ: damaged 2)
+  5  out of memory
+
+docs/FORMATS.md describes schemes, records, stores and the table.";
+
+/// The end of the help of `events`.
+pub(crate) const EVENTS_NOTES: &str =
+    "The store of a node is the file DIR/NODE.db: one for the log, and one for each registry of the scheme. A missing
+store is made, and is empty. A store of format 1 is migrated to format 2, which needs room for twice its size beside it.
+The scheme is written as one line, and then a line for each event of a run which leads to the records of all stores, and
+to no others. rehearse reads it, and its table is the one that audit writes.
+
+Example:
+  kyoto-link events scheme.json stores | kyoto-link chart > run.mmd
+
+Exit status:
+  0  done
+  1  no run leads to these records (kyoto-link: stuck at NZ 2: the first record that none can come to)
+  3  SCHEME has a fault, SCHEME or DIR could not be read, or the output could not be written
+  4  a store has a fault (kyoto-link: store NZ: damaged 2)
+  5  out of memory
+
+docs/FORMATS.md describes schemes, records, stores and events, and how long an input of rehearse may be.";
+
+/// The end of the help of `trace`.
+pub(crate) const TRACE_NOTES: &str =
+    "The store of a node is the file DIR/NODE.db, as for audit. A line is written for each record of the transaction, in
+the order of a run which leads to the records of all stores: node, place, moment, where the transaction stands at that
+node from then on, and the record. The last line is end.
+
+Example:
+  kyoto-link trace scheme.json stores NZ1
+
+Exit status:
+  0  done
+  1  no run leads to these records (kyoto-link: stuck at NZ 2: the first record that none can come to)
+  3  SCHEME has a fault, ID is no transaction's, SCHEME or DIR could not be read, or the output could not be written
+  4  a store has a fault (kyoto-link: store NZ: damaged 2)
+  5  out of memory
+
+docs/FORMATS.md describes schemes, records, stores and the lines.";
+
+/// The end of the help of `explain`.
+pub(crate) const EXPLAIN_NOTES: &str =
+    "TOPIC is a code (106), a finding (203), a status (Accepted), an outcome (late), or a word of a fault line (stuck,
+damaged, device).
+
+Example:
+  kyoto-link explain 106
+
+Exit status:
+  0  done
+  3  there is no such topic (kyoto-link: line 1: order), or the output could not be written
+
+The texts are those of docs/PROTOCOL.md and docs/FORMATS.md.";
+
+/// The end of the help of `run`.
+pub(crate) const RUN_NOTES: &str =
+    "Each node runs in threads of its own, and nodes exchange messages over sockets at free ports of 127.0.0.1. The
+store of a node is the file DIR/NODE.db: one for the log, and one for each registry of the scheme. A missing store is
+made, and is empty; a store of format 1 is migrated to format 2, which needs room for twice its size beside it. A run
+goes on from the records that a store has. SCRIPT has a line for each order and each question:
+
+  propose NZ 1 JP 7 NZ:1:1-100:AAU
+  until JP NZ1 Completed 10000
+
+After the last line all nodes stop. What each line came to is written, and then the table of a run that leads to the
+records of all nodes, and to no others.
+
+Example:
+  kyoto-link run scheme.json stores script
+
+Exit status:
+  0  done
+  1  no run leads to these records (kyoto-link: stuck at NZ 2), or what the threads of a node were told isn't what
+     one thread would have been told (kyoto-link: unsettled NZ)
+  3  SCHEME or SCRIPT has a fault, one of them or DIR could not be read, no port is free, or the output could not
+     be written
+  4  a store has a fault (kyoto-link: store NZ: device)
+  5  out of memory
+
+docs/FORMATS.md describes schemes, scripts, records, stores and the table.";

@@ -1,0 +1,4 @@
+pub mod RowLines
+pub mod PostedMessages
+pub mod GivenInputs
+pub mod EventRows

@@ -1,0 +1,39 @@
+-- The records of a transaction in the stores of all nodes.
+use Rattle.std.specs.Prelude.{◌<◌, ℕ, List, Option, length, take}
+use Rattle.std.specs.Io.KnownBytes.{Appends, Keeps}
+use Rattle.status.specs.declared.id.TransactionId.{TransactionId}
+use Rattle.protocol.specs.Input.{Input}
+use Rattle.protocol.specs.Scheme.{Scheme}
+use Rattle.protocol.specs.Registries.{nodes}
+use Rattle.protocol.specs.Weave.{Projects}
+use Rattle.protocol.specs.World.{opening}
+use Rattle.protocol.specs.declared.event.WorldEvent.{WorldEvent}
+use Rattle.stores.specs.declared.node_store.NodeStore.{Ghosts}
+use Rattle.weave.specs.Following.{journal_of}
+use Rattle.command_faults.specs.declared.fault.OpFault.{OpFault}
+use Rattle.command_faults.specs.declared.fault.OpFault.TheVariants.{Write, Store, Stuck, NoMemory}
+use Rattle.audit.specs.Audits.{FindsNoRun}
+use Rattle.audit.specs.Stores.{AreLoaded, FailsToLoad}
+use Rattle.trace.specs.Lines.{IsTrace}
+use Rattle.trace.specs.Rows.{rows}
+
+-- some events lead to these journals, and the text has the records of the transaction in the order of these events
+pub record TracesRun (scheme : Scheme) (journals : List (List Input)) (id : TransactionId) (text : List ℕ) : Type 0 where
+  pub events : List WorldEvent
+  pub projects : Projects scheme events (journal_of scheme journals)
+  pub is_trace : IsTrace text (rows (opening scheme) id events)
+
+module _ {S : Type 0} (g : Ghosts S) where
+  -- the stores were read, and the text has their records of the transaction
+  pub record Traces (scheme : Scheme) (olds news : List S) (id : TransactionId) (text : List ℕ) : Type 0 where
+    pub journals : List (List Input)
+    pub loaded : AreLoaded g scheme (nodes scheme) olds news journals
+    pub traces : TracesRun scheme journals id text
+
+  -- nothing was written, or the first bytes of the text, fewer than all
+  abbrev pub FailsToTrace : OpFault → Scheme → List S → List S → TransactionId → (before after : Option (List ℕ)) → Type 0
+  FailsToTrace (Stuck n place) scheme olds news id v w = FindsNoRun g scheme olds news n place × Keeps v w
+  FailsToTrace (Store told fault) scheme olds news id v w = FailsToLoad g scheme (nodes scheme) olds news (Store told fault) × Keeps v w
+  FailsToTrace (Write count) scheme olds news id v w = (text : List ℕ) × Traces scheme olds news id text × (count < length text) × Appends v w (take count text)
+  FailsToTrace NoMemory scheme olds news id v w = Keeps v w
+  FailsToTrace _ scheme olds news id v w = ⊥

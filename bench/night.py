@@ -38,9 +38,9 @@ BLOCK = re.compile(r"([A-Z]{2}):([12]):(\d+)-(\d+):\w+")
 class Rehearsal:
     """A random scheme and random events, each chosen by what the events before it led to."""
 
-    def __init__(self, seed):
+    def __init__(self, seed, counts=(2, 2, 3, 3, 4, 5, 8, 32)):
         self.random = random.Random(seed)
-        count = self.random.choice((2, 2, 3, 3, 4, 5, 8, 32))
+        count = self.random.choice(counts)
         letters = [a + b for a in "ABCDEFGH" for b in "JKLMN"]
         self.codes = sorted(self.random.sample(letters, count))
         self.text = json.dumps(self.scheme(), separators=(",", ":"))

@@ -9,6 +9,7 @@ KINDS = ("AAU", "RMU", "ERU", "CER", "tCER", "lCER")
 LAST_NUMBER = 999_999_999_999_999
 LAST_ACCOUNT = 999_999_999
 CODE = re.compile(r"[A-Z]{2}")
+IDENTIFIER = re.compile(r"[A-Z]{2}[1-9][0-9]{0,5}")
 NUMBER = re.compile(r"0|[1-9][0-9]{0,17}")
 EPOCH = datetime.datetime(1970, 1, 1, tzinfo=datetime.timezone.utc)
 
@@ -21,16 +22,18 @@ class NotWritten(Exception):
     """The text writes none of what is read."""
 
 
-def number(text):
-    if not NUMBER.fullmatch(text):
+def matched(pattern, text):
+    if not pattern.fullmatch(text):
         raise NotWritten(text)
-    return int(text)
+    return text
+
+
+def number(text):
+    return int(matched(NUMBER, text))
 
 
 def code(text):
-    if not CODE.fullmatch(text):
-        raise NotWritten(text)
-    return text
+    return matched(CODE, text)
 
 
 def node(text):
@@ -38,10 +41,8 @@ def node(text):
 
 
 def identifier(text):
-    found = number(text[2:])
-    if not 1 <= found <= 999_999:
-        raise NotWritten(text)
-    return code(text[:2]), found
+    matched(IDENTIFIER, text)
+    return text[:2], int(text[2:])
 
 
 def raw_block(text):

@@ -11,14 +11,18 @@ from formats import ITL, LAST_ACCOUNT, Order, is_block
 Given = namedtuple("Given", "name value")
 Message = namedtuple("Message", "kind sender receiver transaction status content codes")
 REPEAT, LATE = "repeat", "late"
+ENDS = {"Accepted": "Completed"}
 DAY = 86_400
 MOST_BLOCKS = 16
 
 
 class Refused(Exception):
-    def __init__(self, code):
-        super().__init__(code)
-        self.code = code
+    """A refusal, with its code."""
+
+
+def refuse_if(code, holds):
+    if holds:
+        raise Refused(code)
 
 
 def notification(status, sender, receiver, transaction, codes=()):
@@ -49,7 +53,7 @@ class Node:
         try:
             done = self.decide(given)
         except Refused as refused:
-            return f"refused {refused.code}"
+            return f"refused {refused.args[0]}"
         if isinstance(done, str):
             return done
         if len(self.journal) >= self.most:
@@ -62,8 +66,7 @@ class Node:
     def decide(self, given):
         """`repeat` or `late`, or what recording it does, which returns the messages to send. Raises `Refused`."""
         if given.name == "ack":
-            if given.value >= len(self.sent):
-                raise Refused(46)
+            refuse_if(46, given.value >= len(self.sent))
             return REPEAT if given.value in self.acknowledged else lambda: self.acknowledged.add(given.value)
         if given.name == "message":
             return self.message(*given.value)
@@ -90,26 +93,17 @@ class Registry(Node):
 
     def propose(self, order):
         blocks = order.units
-        if not 1 <= len(blocks) <= MOST_BLOCKS:
-            raise Refused(101)
-        if not all(map(is_block, blocks)):
-            raise Refused(102)
+        refuse_if(101, not 1 <= len(blocks) <= MOST_BLOCKS)
+        refuse_if(102, not all(map(is_block, blocks)))
         pieces = self.pieces(order)
-        if len({piece for piece, _ in pieces}) < len(pieces):
-            raise Refused(103)
-        if not self.open_accounts.get(order.account):
-            raise Refused(104)
-        if any(piece not in self.held or self.held[piece][:2] != [order.account, kind] for piece, kind in pieces):
-            raise Refused(105)
-        if any(self.held[piece][2] for piece, _ in pieces):
-            raise Refused(106)
-        if order.acquirer not in self.registries or order.acquirer == self.name:
-            raise Refused(107)
-        if not 1 <= order.to_account <= LAST_ACCOUNT:
-            raise Refused(108)
+        refuse_if(103, len({piece for piece, _ in pieces}) < len(pieces))
+        refuse_if(104, not self.open_accounts.get(order.account))
+        refuse_if(105, any(piece not in self.held or self.held[piece][:2] != [order.account, kind] for piece, kind in pieces))
+        refuse_if(106, any(self.held[piece][2] for piece, _ in pieces))
+        refuse_if(107, order.acquirer not in self.registries or order.acquirer == self.name)
+        refuse_if(108, not 1 <= order.to_account <= LAST_ACCOUNT)
         turn = 1 + sum(transaction[0] == self.name for transaction in self.transfers)
-        if turn > 999_999:
-            raise Refused(109)
+        refuse_if(109, turn > 999_999)
 
         def done():
             transaction = (self.name, turn)
@@ -123,10 +117,8 @@ class Registry(Node):
 
     def request(self, transaction):
         found = self.transfers.get(transaction) if transaction[0] == self.name else None
-        if not found:
-            raise Refused(115)
-        if found.status != "Proposed":
-            raise Refused(116)
+        refuse_if(115, not found)
+        refuse_if(116, found.status != "Proposed")
         if found.requested:
             return REPEAT
 
@@ -143,23 +135,18 @@ class Registry(Node):
         return self.set_account(account, False)
 
     def set_account(self, account, is_open):
-        if account not in self.open_accounts:
-            raise Refused(110)
-        if self.open_accounts[account] == is_open:
-            raise Refused(111)
+        refuse_if(110, account not in self.open_accounts)
+        refuse_if(111, self.open_accounts[account] == is_open)
         if not is_open:
-            if any(holder == account for holder, _, _ in self.held.values()):
-                raise Refused(112)
-            if any(it.status == "Accepted" and it.content.to_account == account for at, it in self.transfers.items() if at[0] != self.name):
-                raise Refused(113)
+            refuse_if(112, any(holder == account for holder, _, _ in self.held.values()))
+            refuse_if(113, any(it.status == "Accepted" and it.content.to_account == account for at, it in self.transfers.items() if at[0] != self.name))
         return lambda: self.open_accounts.update({account: is_open})
 
     def message(self, message, _moment):
         found = self.transfers.get(message.transaction)
         if message.kind == "proposal":
             return self.proposal(message, found)
-        if message.kind == "request":
-            raise Refused(46)
+        refuse_if(46, message.kind == "request")
         if message.transaction[0] == self.name:
             return self.reply(message, found)
         return self.outcome(message, found)
@@ -167,7 +154,8 @@ class Registry(Node):
     def proposal(self, message, found):
         content = message.content
         if found:
-            return LATE if found.content is None else REPEAT if found.content == content else self.refuse(45)
+            refuse_if(45, found.content not in (None, content))
+            return LATE if found.content is None else REPEAT
         codes = self.findings(content)
         status = "Rejected" if codes else "Accepted"
 
@@ -176,10 +164,6 @@ class Registry(Node):
             return [notification(status, self.name, ITL, message.transaction, codes)]
 
         return done
-
-    @staticmethod
-    def refuse(code):
-        raise Refused(code)
 
     def findings(self, content):
         account = self.open_accounts.get(content.to_account)
@@ -194,11 +178,9 @@ class Registry(Node):
 
     def reply(self, message, found):
         """What the initiator does with a notification."""
-        if not found:
-            raise Refused(47)
+        refuse_if(47, not found)
         status = "Completed" if message.kind == "Accepted" else message.kind
-        if message.kind == "Completed" or found.status not in ("Proposed", status):
-            raise Refused(46)
+        refuse_if(46, message.kind == "Completed" or found.status not in ("Proposed", status))
         if found.status == status:
             return REPEAT
 
@@ -217,18 +199,15 @@ class Registry(Node):
         """What the acquirer does with a notification."""
         status = message.kind
         if not found:
-            if status != "Cancelled":
-                raise Refused(47)
+            refuse_if(47, status != "Cancelled")
             return lambda: self.transfers.update({message.transaction: Transfer("Cancelled")})
         if status == found.status and status in ("Completed", "Cancelled"):
             return REPEAT
         if status == "Cancelled" and found.status == "Rejected":
             return LATE
-        if found.status != "Accepted" or status not in ("Completed", "Cancelled"):
-            raise Refused(46)
+        refuse_if(46, found.status != "Accepted" or status not in ("Completed", "Cancelled"))
         pieces = self.pieces(found.content)
-        if status == "Completed" and any(piece in self.held for piece, _ in pieces):
-            raise Refused(46)
+        refuse_if(46, status == "Completed" and any(piece in self.held for piece, _ in pieces))
 
         def done():
             found.status = status
@@ -250,8 +229,7 @@ class Log(Node):
 
     def eligible(self, given):
         registry, may = given
-        if registry not in self.registries:
-            raise Refused(114)
+        refuse_if(114, registry not in self.registries)
         return REPEAT if self.eligible_now[registry] == may else lambda: self.eligible_now.update({registry: may})
 
     def clean_up(self, moment):
@@ -270,22 +248,17 @@ class Log(Node):
             return self.proposal(message, found, moment)
         if message.kind == "request":
             return self.cancellation(message, found)
-        if not found:
-            raise Refused(47)
-        if message.kind in ("Accepted", "Rejected") and (found.content is None or message.sender != found.content.acquirer):
-            raise Refused(44)
-        if message.kind == "Completed" and message.sender != initiator:
-            raise Refused(44)
-        if message.kind == found.status or (message.kind, found.status) == ("Accepted", "Completed"):
-            if message.kind in ("Accepted", "Rejected", "Completed"):
-                return REPEAT
+        refuse_if(47, not found)
+        refuse_if(44, message.kind in ("Accepted", "Rejected") and (found.content is None or message.sender != found.content.acquirer))
+        refuse_if(44, message.kind == "Completed" and message.sender != initiator)
+        if message.kind in ("Accepted", "Rejected", "Completed") and found.status in (message.kind, ENDS.get(message.kind)):
+            return REPEAT
         if found.status == "Cancelled" and message.kind in ("Accepted", "Rejected"):
             return LATE
         moves = {("Checked", "Accepted"): initiator, ("Checked", "Rejected"): initiator}
         if found.content is not None:
             moves["Accepted", "Completed"] = found.content.acquirer
-        if (found.status, message.kind) not in moves:
-            raise Refused(46)
+        refuse_if(46, (found.status, message.kind) not in moves)
 
         def done():
             found.status = message.kind
@@ -311,11 +284,8 @@ class Log(Node):
     def proposal(self, message, found, moment):
         content = message.content
         if found:
-            if found.content is None:
-                return LATE
-            if found.content != content:
-                raise Refused(45)
-            return REPEAT
+            refuse_if(45, found.content not in (None, content))
+            return LATE if found.content is None else REPEAT
         codes = self.findings(message.transaction[0], content)
 
         def done():

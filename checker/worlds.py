@@ -71,8 +71,7 @@ class World:
 
     def table(self):
         """The lines of the table, journals with their tails."""
-        found = []
-        owing = []
+        found, owing = [], []
         proposed = sorted((at, it) for code in self.registries for at, it in self.nodes[code].transfers.items() if at[0] == code)
         for at, it in proposed:
             others = [self.nodes[name].transfers.get(at) for name in (ITL, it.content.acquirer)]

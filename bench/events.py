@@ -1,0 +1,293 @@
+#!/usr/bin/env python3
+"""Whether `kyoto-link events` and `kyoto-link audit --cut` write what the records of runs with threads explain.
+
+Four parts, of which those named are tried, and all where none is:
+
+--runs N: random runs over N folders. Under a random scheme of 2 to 5 registries random scripts are run one after
+another over one folder, most of them killed at a random moment. Then `audit` must write a table; `rehearse` of what
+`events` writes must end with it, and checker/ come to the same report and to the very records of the stores; `chart`
+must draw those events with that table; and `audit --cut` must write that table alone.
+--copies N: N sets of copies of the stores of runs that go on, one node's copied after another's. `audit --cut` must
+write what bench/cuts.py finds by checker/: the table, what is left of each node's records, and which message that
+waits for. By the table alone held and owed must be what was allotted, no unit in two lines, and no transaction of two
+minds. `audit` must say the same, with the same status. A set with a torn copy, torn by SQLite's library too, isn't
+counted.
+--records N: the best times of `audit`, `events` and `audit --cut` over stores with N records, of 2 and 32 registries.
+--forged N: N times the stores of a run with one record put in, of a message that nobody sent. `audit` must be stuck,
+and `audit --cut` write the table up to there and that very record.
+
+The first difference is told with its seed and the folder, which is kept then, and the exit status is 1, as it is
+where no set of copies had records left, and where `events` takes more than 2.5 times as long as `audit`.
+"""
+
+import argparse
+import collections
+import itertools
+import json
+import pathlib
+import random
+import re
+import shutil
+import subprocess
+import sys
+import tempfile
+import time
+
+from audit import RECORDS_EACH, check_table, journals, write_stores
+from cuts import Cut, Given, forged, formats, worlds
+from folders import Difference, Folder, compare, copy_stores, differ, do, end_of, is_whole, put_in
+from night import Rehearsal, record_text, wrong_table
+from rehearse import codes_of, program, run, scheme
+
+DEFAULTS = {"runs": 100, "copies": 50, "records": 1_000_000, "forged": 20}
+# After how many seconds at most a run is killed.
+LONGEST = 0.6
+MOST_TIMES_AUDIT = 2.5
+TRIES = 3
+# Lines of a whole transfer: an event and a commit for each record, and a post for each message.
+LINES_EACH = 20
+# Among that many registries copies are taken, of a run with that many orders, which has at most that many sets.
+REGISTRIES, ORDERS, SETS = 3, 2_000, 6
+MEMORY = pathlib.Path("/dev/shm")
+STATUSES = ("Proposed", "Checked", "Accepted", "Rejected", "Terminated", "Cancelled", "Completed")
+DONE = re.compile(r"\d+ (recorded \d+|done)\n")
+DAMAGED = re.compile(r"kyoto-link: store (\w+): (?:damaged \d+|device)\n")
+
+
+class Play(Rehearsal):
+    """A random scheme of 2 to 5 registries and random scripts, each line chosen by what those before it lead to."""
+
+    def __init__(self, seed):
+        super().__init__(seed, (2, 3, 4, 5))
+
+    def settle(self):
+        """Has each message that was sent delivered."""
+        nodes, passed = self.world.nodes, collections.Counter()
+        while waiting := [name for name, node in nodes.items() if passed[name] < len(node.sent)]:
+            for name in waiting:
+                message = nodes[name].sent[passed[name]][1]
+                passed[name] += 1
+                nodes[message.receiver].take(Given("message", (message, self.moment)))
+
+    def question(self):
+        names = [formats.identifier_text(at) for node in self.world.nodes.values() for at in node.transfers]
+        name = self.random.choice(names or [f"{self.codes[0]}1"])
+        node = self.random.choice((*self.codes, formats.ITL))
+        if self.random.random() < 0.3:
+            return f"status {node} {name}"
+        return f"until {node} {name} {self.random.choice(STATUSES)} {self.random.choice((1, 50, 200))}"
+
+    def script(self):
+        lines, self.moment = [], int(time.time())
+        for _ in range(self.random.choice((40, 100, 400))):
+            line = self.orders()
+            outcome = self.world.apply(formats.event(line))
+            # A script has no acknowledgements, and this one not many orders that come to nothing.
+            if line.startswith("ack ") or (outcome[:8] != "recorded" and self.random.random() < 0.8):
+                continue
+            lines.append(line)
+            if self.random.random() < 0.7:
+                self.settle()
+            if self.random.random() < 0.3:
+                lines.append(self.question())
+        return lines or [self.question()]
+
+
+def check_events(folder):
+    """Looks at what the commands write of the stores. How many events there are, and the table."""
+    table = do("audit", folder.scheme, folder.stores).stdout
+    differ(wrong := wrong_table(folder.text, table.splitlines()), f"the table has {wrong}")
+    events = do("events", folder.scheme, folder.stores).stdout
+    first, *lines = events.splitlines()
+    parts = json.loads(folder.text)
+    parts["registries"].sort(key=lambda it: it["code"])
+    differ(first != json.dumps(parts, sort_keys=True, separators=(",", ":")), "events writes another scheme")
+    report = do("rehearse", given=events).stdout
+    outcomes = report.splitlines(keepends=True)[:len(lines)]
+    compare(report, "".join([*outcomes, table]), "rehearse of the events and audit write different tables")
+    differ(odd := [it for it in outcomes if not DONE.fullmatch(it)], f"an event of the run came to {odd[:1]}")
+    checked, world = worlds.rehearse(events)
+    compare(report, checked, "rehearse and checker/ have different reports of the events")
+    for name, texts in folder.records().items():
+        journal = world.nodes[name].journal
+        same = list(map(record_text, journal)) == texts and world.committed[name] == len(journal)
+        differ(not same, f"the events lead to other records of {name}")
+    wanted = sum(2 * len(node.journal) + len(node.sent) for node in world.nodes.values())
+    differ(len(lines) != wanted, "the events are more than a record's, its commit and its posts")
+    cut = do("audit", "--cut", folder.scheme, folder.stores)
+    compare(cut.stdout + cut.stderr, table, "audit --cut and audit write different tables")
+    chart, last = do("chart", given=events).stdout, "<br/>".join(table.splitlines())
+    differ(not chart.startswith("sequenceDiagram\n") or not chart.endswith(f": {last}\n"), "chart draws another table")
+    return len(lines), table
+
+
+def try_run(seed, path, came):
+    """Random scripts over one folder, and a look at what the stores have then."""
+    play = Play(seed)
+    folder = Folder(path, play.text)
+    for _ in range(play.random.randint(1, 5)):
+        killed = play.random.random() < 0.8
+        process = folder.start(play.script())
+        if killed:
+            time.sleep(play.random.uniform(0, LONGEST))
+            process.kill()
+        text = end_of(process, killed)
+        came.update(runs=1, killed=process.returncode != 0)
+        if play.random.random() < 0.5:
+            play.world = Cut(play.text, folder.records(), play.pool).world
+    events, table = check_events(folder)
+    differ(process.returncode == 0 and not text.endswith(table), "audit writes another table than the last run")
+    statuses = [line.split(" ")[3::2] for line in table.splitlines() if line.startswith("transaction ")]
+    open_ones = sum(it[0] == "Proposed" or it[2] == "Accepted" for it in statuses)
+    came.update(folders=1, events=events, transactions=len(statuses), open=open_ones, unfinished=open_ones > 0)
+
+
+def lines_of_transfers(chance, codes):
+    """A script: most transfers are Completed, some Rejected, Terminated or Cancelled."""
+    for number in range(ORDERS):
+        unit, place = number // len(codes) + 1, number % len(codes)
+        code, other = codes[place], codes[(place + 1) % len(codes)]
+        account = 1 if chance.random() < 0.9 else 2
+        yield f"propose {code} 1 {other} {account} {code}:1:{unit}-{unit}:AAU"
+        if chance.random() < 0.1:
+            yield f"request {code} {code}{unit}"
+        if chance.random() < 0.05:
+            yield f"eligible {code} {chance.choice(('yes', 'no'))}"
+        if chance.random() < 0.05:
+            yield f"clean-up {formats.moment_text(int(time.time()) + 86_400)}"
+        if chance.random() < 0.1:
+            yield f"until {other} {code}{unit} Completed {chance.choice((1, 5, 20))}"
+
+
+def check_cut(folder, stores, ended, records):
+    """Looks at what `audit --cut` wrote of stores with these records. How many of them are left."""
+    cut = Cut(folder.text, records)
+    fault = cut.fault()
+    compare(ended.stdout, cut.text(), "audit --cut writes something else than checker/ finds")
+    differ((ended.returncode, ended.stderr) != (bool(fault), fault), f"audit --cut ended with {ended.stderr.strip()}")
+    differ(wrong := wrong_table(folder.text, ended.stdout.splitlines()), f"the table has {wrong}")
+    audited = do("audit", folder.scheme, stores, wanted=(0, 1))
+    differ((audited.returncode, audited.stderr) != (bool(fault), fault), f"audit ended with {audited.stderr.strip()}")
+    compare(audited.stdout, "" if fault else ended.stdout, "audit and audit --cut write different tables")
+    return sum(count for _, _, count, _ in cut.rests())
+
+
+def try_copies(seed, path, came):
+    """Sets of copies of the stores of one run, taken while it goes on."""
+    chance = random.Random(seed)
+    folder, places = Folder(path, scheme(codes_of(REGISTRIES), ORDERS // REGISTRIES)), []
+    # It ends with a question that has to wait, so that the run is there as long as copies are taken.
+    process = folder.start([*lines_of_transfers(chance, folder.codes), "until ITL AA999999 Completed 10000"])
+    while process.poll() is None and len(places) < SETS:
+        time.sleep(chance.uniform(0, 0.3))
+        if not (folder.stores / "ITL.db-wal").exists():
+            continue
+        places.append(folder.path / f"copies-{len(places)}")
+        places[-1].mkdir()
+        by_library = copy_stores(folder, places[-1], chance)
+        came.update(by_library=by_library, by_files=1 + REGISTRIES - by_library)
+    process.kill()
+    end_of(process, killed=True)
+    whole = folder.records()
+    for place in places:
+        ended = do("audit", "--cut", folder.scheme, place, wanted=(0, 1, 4))
+        if ended.returncode == 4:
+            found = DAMAGED.fullmatch(ended.stderr)
+            differ(not found or is_whole(place / f"{found[1]}.db"), f"of {place.name}: {ended.stderr.strip()}")
+            came.update(torn=1)
+            continue
+        records = folder.records(place)
+        other = [name for name, texts in records.items() if whole[name][:len(texts)] != texts]
+        differ(other, f"stores in {place.name} have other records than those they were copied from: {other}")
+        left = check_cut(folder, place, ended, records)
+        came.update(sets=1, with_rest=left > 0, left=left, records=sum(map(len, records.values())))
+
+
+def try_forged(seed, path, came):
+    """The stores of a run with one record put in."""
+    chance = random.Random(seed)
+    folder = Folder(path, scheme(codes_of(REGISTRIES), ORDERS // REGISTRIES))
+    end_of(folder.start(itertools.islice(lines_of_transfers(chance, folder.codes), 60)))
+    message, records = forged(chance, folder.codes), folder.records()
+    name, text = message.receiver, record_text(Given("message", (message, int(time.time()))))
+    place = chance.randrange(len(records[name]) + 1)
+    put_in(folder.stores / f"{name}.db", place, text)
+    records[name].insert(place, text)
+    differ(folder.records() != records, "show writes other records than were put in")
+    ended = do("audit", "--cut", folder.scheme, folder.stores, wanted=(1,))
+    words = f"{message.kind} {formats.identifier_text(message.transaction)} from {message.sender}"
+    lines = f"\nleft {name} {place} {len(records[name]) - place}\nwaits {name} {place} {words}\n"
+    differ(lines not in ended.stdout, f"audit --cut doesn't say that record {place} of {name} waits for {words}")
+    left = check_cut(folder, folder.stores, ended, records)
+    came.update(folders=1, left=left, records=sum(map(len, records.values())))
+
+
+def measure(registries, count):
+    """Prints the best times over stores of whole transfers. Whether `events` keeps its limit."""
+    with tempfile.TemporaryDirectory() as place:
+        stores, given, taken = (pathlib.Path(place) / name for name in ("stores", "scheme", "output"))
+        stores.mkdir()
+        codes, size, times = codes_of(registries), max(4, count // RECORDS_EACH), collections.defaultdict(list)
+        given.write_text(f"{scheme(codes, size // registries + 1)}\n", encoding="utf-8")
+        write_stores(stores, journals(codes, size))
+        for _ in range(TRIES):
+            for name in ("audit", "events to nowhere", "events to a file", "audit --cut"):
+                words = [program(), *name.partition(" to ")[0].split(" "), given, stores]
+                output = pathlib.Path("/dev/null") if name == "events to nowhere" else taken
+                times[name].append(run(words, given, output)[0])
+                if "audit" in name:
+                    check_table(taken, name, size)
+                elif output == taken and sum(1 for _ in taken.open("rb")) != 1 + LINES_EACH * size:
+                    sys.exit("events writes another number of lines")
+    best = {name: min(spent) for name, spent in times.items()}
+    told = (f"{name} {spent:.2f} s, {spent / best['audit']:.2f} times audit" for name, spent in best.items())
+    print(f"{registries} registries, {RECORDS_EACH * size:,} records: {'; '.join(told)}", flush=True)
+    return max(best["events to nowhere"], best["events to a file"]) <= MOST_TIMES_AUDIT * best["audit"]
+
+
+# How a part is tried, what is counted of it, and what is told of it.
+PARTS = {
+    "runs": (try_run, "folders", "{folders} folders with {runs} runs, {killed} of them killed: {events} events, "
+             "{transactions} transactions, {open} of them under way in the end, in {unfinished} folders"),
+    "copies": (try_copies, "sets", "{sets} sets of copies with {records} records: {with_rest} sets had records left, "
+               "{left} in all; {torn} more were torn; SQLite's library copied {by_library} stores, {by_files} not"),
+    "forged": (try_forged, "folders", "{folders} folders with a forged record: of {records} records {left} were left"),
+}
+
+
+def try_part(part, count, seed):
+    """Tries a part until it has that many, and prints what came."""
+    attempt, counted, told = PARTS[part]
+    came = collections.Counter()
+    while came[counted] < count:
+        # By turns on a disk and, where there is one, in memory, where all goes faster.
+        room = MEMORY if seed % 2 and MEMORY.is_dir() else None
+        path = pathlib.Path(tempfile.mkdtemp(prefix="kyoto-link-events-", dir=room))
+        try:
+            attempt(seed, path, came)
+        except (Difference, ValueError, subprocess.TimeoutExpired) as found:
+            sys.exit(f"{part}, seed {seed}: {found}; kept in {path}")
+        shutil.rmtree(path)
+        seed += 1
+    print(f"{part}: {told.format_map(came)}", flush=True)
+    if part == "copies" and not came["with_rest"]:
+        sys.exit("no set of copies had records left")
+
+
+def main():
+    words = argparse.ArgumentParser(description=__doc__, formatter_class=argparse.RawDescriptionHelpFormatter)
+    for part, count in DEFAULTS.items():
+        words.add_argument(f"--{part}", type=int, nargs="?", const=count, metavar="N", help=f"{count:,} if left out")
+    words.add_argument("--seed", type=int, default=0, help="the first seed")
+    given, kept = vars(words.parse_args()), True
+    program()
+    for part, count in ({it: given[it] for it in DEFAULTS if given[it] is not None} or DEFAULTS).items():
+        if part == "records":
+            kept = all([measure(registries, count) for registries in (2, 32)])
+        else:
+            try_part(part, count, given["seed"])
+    sys.exit(0 if kept else 1)
+
+
+if __name__ == "__main__":
+    main()

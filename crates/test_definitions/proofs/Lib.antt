@@ -18,5 +18,6 @@ pub mod ClaimsAtLog
 pub mod OwnersAndRest
 pub mod RestAndWayOut
 pub mod OrdersOfRecords
+pub mod CutsOfJournals
 pub mod EdgesOfDefinitions
 pub mod RecordedMessages

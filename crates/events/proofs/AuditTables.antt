@@ -1,9 +1,10 @@
 -- The table of a run that was listed is one of an audit.
-use Rattle.std.proofs.Common.{◌≡◌, ◌++◌, ℕ, List, sym, subst}
+use Rattle.std.proofs.Common.{◌≡◌, ◌++◌, ℕ, List, subst}
 use Rattle.protocol.specs.Input.{Input}
 use Rattle.protocol.specs.Scheme.{Scheme}
 use Rattle.protocol.specs.World.{opening, outcomes}
 use Rattle.protocol.specs.declared.event.WorldEvent.{WorldEvent}
+use Rattle.report.specs.declared.form.Form.TheVariants.{Lines}
 use Rattle.report.specs.Table.{IsSafeTable}
 use Rattle.rehearse.specs.Rehearsal.{IsRehearsal}
 use Rattle.rehearse.specs.Report.{IsReport, outcome_lines}
@@ -13,7 +14,7 @@ use Rattle.events.specs.Listing.{ListsRun}
 use Rattle.events.specs.Runs.{IsWithinLimits}
 use Rattle.events.proofs.Lines.{rehearsal_of}
 
-pub table_of_audit : (scheme : Scheme) (journals : List (List Input)) (text : List ℕ) → ListsRun scheme journals text → IsWithinLimits text → (s : Scheme) (events : List WorldEvent) (report : List ℕ)
+pub table_of_audit : (scheme : Scheme) (journals : List (List Input)) (text : List ℕ) → ListsRun Lines scheme journals text → IsWithinLimits text → (s : Scheme) (events : List WorldEvent) (report : List ℕ)
     → IsRehearsal text s events → IsReport s events report → (outcomes : List ℕ) × (table : List ℕ) × (report ≡ outcomes ++ table) × IsAuditTable scheme journals table
 table_of_audit scheme journals text lists limits s events report is reports =
     let same = one_rehearsal text s scheme events lists.events is (rehearsal_of text scheme lists.events lists.is_run limits) in

@@ -1,10 +1,10 @@
 -- Lines of events, one after another.
-use Rattle.std.proofs.Common.{◌≡◌, ℕ, suc, ◌+◌, ◌-◌, ◌≤◌, List, [], ◌∷◌, ◌++◌, length, refl, sym, ap, subst, ◌∙◌, append_assoc, append-nil, arith, length-append}
+use Rattle.std.proofs.Common.{◌≡◌, ℕ, suc, ◌+◌, ◌≤◌, List, [], ◌∷◌, ◌++◌, length, refl, sym, ap, ◌∙◌, append_assoc, arith, length-append}
 use Rattle.units.specs.Text.{IsFreeOf}
 use Rattle.protocol.specs.Scheme.{Scheme}
 use Rattle.protocol.specs.declared.event.WorldEvent.{WorldEvent}
 use Rattle.input_lines.specs.EventLines.{IsEventLine}
-use Rattle.input_lines.specs.Lines.{AreLines, IsLine, room_after}
+use Rattle.input_lines.specs.Lines.{AreLines, room_after}
 use Rattle.streams.specs.Inputs.{longest_input}
 use Rattle.rehearse.specs.Rehearsal.{IsRehearsal}
 use Rattle.events.specs.Runs.{AreEventLines, IsRun, IsWithinLimits}

@@ -109,8 +109,8 @@ pub fn list_events<S: NodeStore, W: Write, P: Watch>(
     scheme: &Scheme,
     stores: &mut [S],
     writer: &mut W,
-    watch: &mut P,
     form: Form,
+    watch: &mut P,
 ) -> Result<(), OpFault>
     requires { length stores.old ≡ length (nodes scheme.now) }
     ensures ok { OnOk result ((text : List ℕ) × Lists S.NodeStore form scheme.now stores.old stores.new text

@@ -1,5 +1,5 @@
 -- What `show` tells of a fault, by where it came.
-use Rattle.std.proofs.Common.{◌≡◌, ℕ, List, [], Option, IsTrue, true≢false, length, take, sym, subst, inr, arith}
+use Rattle.std.proofs.Common.{◌≡◌, ℕ, List, [], Option, IsTrue, true≢false, length, take, codes, refl, sym, subst, inr, arith}
 use Rattle.std.specs.Io.KnownBytes.{Appends, Keeps}
 use Rattle.std.proofs.KnownBytes.{Appends-kept, Appends-nil}
 use Rattle.units.specs.declared.code.Node.{Node}

@@ -133,5 +133,5 @@ pub fn ends_with_audits_table()
     ensures { (scheme : Registries) (journals : List (List Input)) (text : List ℕ) → ListsRun Lines scheme journals text
         → IsWithinLimits text → (s : Registries) (events : List WorldEvent) (report : List ℕ)
         → IsRehearsal text s events → IsReport s events report
-        → (outcomes : List ℕ) × (table : List ℕ) × (report ≡ outcomes ++ table) × IsAuditTable scheme journals table }
+        → (outcomes : List ℕ) × (table : List ℕ) × (report ≡ outcomes ++ table) × IsAuditTable Lines scheme journals table }
 {}

@@ -6,4 +6,4 @@ mod objects;
 mod text;
 
 pub use listing::{ends_with_audits_table, list_events};
-pub use text::{is_rehearsal, run_text};
+pub use text::is_rehearsal;

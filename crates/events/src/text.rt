@@ -48,10 +48,13 @@ fn push_events(alloc: Global, text: &mut Vec<u8>, events: &[WorldEvent]) -> Resu
 ///
 /// # Errors
 ///
-/// Fails with `NoMemory` where there is no room for the text, and where no line writes an event. Of events that journals
-/// are woven of there is no such event but one with a number of more than 18 digits, and no machine has so many records
-/// or messages.
-pub fn run_text(alloc: Global, scheme: &Scheme, events: &[WorldEvent]) -> Result<Vec<u8>, NoMemory>
+/// Fails with `NoMemory` where there is no room for the text, and where no line writes an event. Each woven event has a
+/// line, except one with a number of more than 18 digits, which no machine has the records or messages for.
+pub(crate) fn run_text(
+    alloc: Global,
+    scheme: &Scheme,
+    events: &[WorldEvent],
+) -> Result<Vec<u8>, NoMemory>
     ensures { IfOk result (λ v. IsRun v.items scheme.now events.now) }
 {
     let first = scheme.text(alloc)?;

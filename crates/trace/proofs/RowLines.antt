@@ -3,10 +3,10 @@ use Rattle.std.proofs.Common.{◌≡◌, ℕ, List, [], ◌∷◌, ◌++◌, ref
 use Rattle.std.proofs.lemmas.List.{append-nil}
 use Rattle.units.specs.Code.{node_text}
 use Rattle.wire.specs.Records.{record_text}
-use Rattle.report.specs.ReportLines.{status_or_none}
+use Rattle.report.specs.ReportLines.{status_or_none, status_or_null}
 use Rattle.report.specs.declared.form.Form.{Form}
 use Rattle.trace.specs.Followed.{HasLines}
-use Rattle.trace.specs.Lines.{AreRowLines, IsMomentOf, IsRowLine, IsWordLine, json_line, json_moment, json_status}
+use Rattle.trace.specs.Lines.{AreRowLines, IsMomentOf, IsRowLine, IsWordLine, json_line, json_moment}
 use Rattle.trace.specs.Rows.{Row}
 
 pub lines_append : (form : Form) (a b : List ℕ) (rs ss : List Row) → AreRowLines form a rs → AreRowLines form b ss → AreRowLines form (a ++ b) (rs ++ ss)
@@ -45,7 +45,7 @@ after_five x a b c d e =
     ∙ ap (λ l. l ++ e) (sym (append_assoc x (a ++ b ++ c) d) ∙ ap (λ l. l ++ d) (sym (append_assoc x (a ++ b) c) ∙ ap (λ l. l ++ c) (sym (append_assoc x a b))))
 
 -- an object that was pushed with its members' texts
-pub object_line : (r : Row) (moment seat text status old new : List ℕ) → moment ≡ json_moment r.input → seat ≡ seat_text r → text ≡ record_text r.input → status ≡ json_status r.status
+pub object_line : (r : Row) (moment seat text status old new : List ℕ) → moment ≡ json_moment r.input → seat ≡ seat_text r → text ≡ record_text r.input → status ≡ status_or_null r.status
     → new ≡ old ++ (codes "{\"moment\":" ++ moment ++ seat ++ text ++ codes ",\"status\":" ++ status ++ codes "}\n") → new ≡ old ++ json_line r
 object_line r moment seat text status old new moment_is seat_is text_is status_is spelled =
     let start = codes "{\"moment\":" in
@@ -54,5 +54,5 @@ object_line r moment seat text status old new moment_is seat_is text_is status_i
     ∙ ap (λ x. old ++ (start ++ json_moment r.input ++ x ++ text ++ codes ",\"status\":" ++ status ++ codes "}\n")) seat_is
     ∙ ap (λ x. old ++ (start ++ json_moment r.input ++ seat_text r ++ x ++ codes ",\"status\":" ++ status ++ codes "}\n")) text_is
     ∙ ap (λ x. old ++ (start ++ json_moment r.input ++ seat_text r ++ record_text r.input ++ codes ",\"status\":" ++ x ++ codes "}\n")) status_is
-    ∙ ap (λ x. old ++ (x ++ record_text r.input ++ codes ",\"status\":" ++ json_status r.status ++ codes "}\n"))
+    ∙ ap (λ x. old ++ (x ++ record_text r.input ++ codes ",\"status\":" ++ status_or_null r.status ++ codes "}\n"))
     (after_five (start ++ json_moment r.input) (codes ",\"node\":\"") (node_text r.node) (codes "\",\"place\":") (decimal r.place) (codes ",\"record\":"))

@@ -11,7 +11,7 @@ use Rattle.wire.specs.declared.input.Input.{Input}
 use Rattle.wire.specs.declared.input.Input.TheVariants.{CleanUp, Received}
 use Rattle.report.specs.declared.form.Form.{Form}
 use Rattle.report.specs.declared.form.Form.TheVariants.{Lines, Json}
-use Rattle.report.specs.ReportLines.{end_line, status_or_none}
+use Rattle.report.specs.ReportLines.{end_line, status_or_none, status_or_null}
 use Rattle.trace.specs.Rows.{Row}
 
 -- ---- lines of words
@@ -42,16 +42,11 @@ json_moment (Received message moment) = decimal moment.seconds
 json_moment (CleanUp moment) = decimal moment.seconds
 json_moment _ = codes "null"
 
--- the status, or `null`
-abbrev pub json_status : Option Status → List ℕ
-json_status (Some status) = codes "\"" ++ status_text status ++ codes "\""
-json_status None = codes "null"
-
 -- the row as an object, its keys in byte order, and a newline
 abbrev pub json_line : Row → List ℕ
 json_line r =
     codes "{\"moment\":" ++ json_moment r.input ++ codes ",\"node\":\"" ++ node_text r.node ++ codes "\",\"place\":" ++ decimal r.place
-    ++ codes ",\"record\":" ++ record_text r.input ++ codes ",\"status\":" ++ json_status r.status ++ codes "}\n"
+    ++ codes ",\"record\":" ++ record_text r.input ++ codes ",\"status\":" ++ status_or_null r.status ++ codes "}\n"
 
 -- ---- lines in either form
 

@@ -1,10 +1,10 @@
-//! The lines of records.
+//! The lines of records, as words or as JSON.
 ghost use Rattle.std.specs.Prelude.{◌≡◌, ◌++◌, ℕ, IfOk, IsTrue, List, OnOk, codes, decimal, string_bytes};
 ghost use Rattle.units.specs.Code.{node_text};
 ghost use Rattle.units.specs.Text.{IsFreeOf};
 ghost use Rattle.status.specs.Moment.{IsMomentText};
-ghost use Rattle.report.specs.ReportLines.{status_or_none};
-ghost use Rattle.trace.specs.Lines.{IsMomentOf, IsMomentWord, IsRowLine, IsWordLine, json_line, json_moment, json_status};
+ghost use Rattle.report.specs.ReportLines.{status_or_none, status_or_null};
+ghost use Rattle.trace.specs.Lines.{IsMomentOf, IsMomentWord, IsRowLine, IsWordLine, json_line, json_moment};
 
 use report::Form;
 use status::{Moment, Status};
@@ -115,7 +115,7 @@ fn json_moment(alloc: Global, input: &Input) -> Result<String, NoMemory>
 
 /// The status in quotation marks, or `null`.
 fn json_status(alloc: Global, status: Option<Status>) -> Result<String, NoMemory>
-    ensures { IfOk result (λ s. string_bytes s ≡ json_status status) }
+    ensures { IfOk result (λ s. string_bytes s ≡ status_or_null status) }
 {
     match status {
         Some(status) => Ok(format!(in alloc; "\"{}\"", status.name())?),
@@ -182,8 +182,8 @@ fn push_object(
 ///
 /// # Errors
 ///
-/// Fails with `NoMemory` where there is no room for the line, which may then be there in part, and where `moment_word`
-/// does.
+/// Fails with `NoMemory` where there is no room for the line, which may then be there in part, and, in lines of words,
+/// where `moment_word` does.
 pub(crate) fn push_row(
     alloc: Global,
     text: &mut Vec<u8>,

@@ -94,7 +94,7 @@ fn text_of_cores<P: Watch>(
 /// - `Stuck`: no run leads to these records. Followed as far as they go, the node is the first with a record left, and
 ///   the place is that record's.
 /// - `Write`: the output failed, after the number of bytes that the fault tells.
-/// - `NoMemory`: out of memory, or a moment whose text isn't read back, of which none is known.
+/// - `NoMemory`: out of memory, or, in lines of words, a moment whose text isn't read back, of which none is known.
 pub fn trace<S: NodeStore, W: Write, P: Watch>(
     alloc: Global,
     scheme: &Scheme,

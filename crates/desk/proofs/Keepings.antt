@@ -1,6 +1,6 @@
 -- A state beside its store: what each call leaves.
 use Rattle.std.proofs.Common.{◌≡◌, ◌+◌, ◌<◌, ◌≤◌, ◌++◌, ℕ, zero, suc, Bool, true, false, List, [], ◌∷◌, length, take, drop, Result, Ok, Err, IfOk, Some, None, if◌then◌else◌, refl, sym, ap, subst, ◌∙◌, arith, inl, inr, append-nil}
-use Rattle.std.proofs.lemmas.List.{take_all, drop_all, drop_at, take-append-le, drop-append-le, length-take-le, length-drop, length-append, length-map, map-append}
+use Rattle.std.proofs.lemmas.List.{take_all, drop_all, drop_at, take-append-drop, take-append-le, drop-append-le, length-take-le, length-drop, length-append, length-map, map-append}
 use Rattle.units.specs.declared.code.Node.{Node}
 use Rattle.units.specs.declared.refusal.Refusal.{Refusal}
 use Rattle.wire.specs.Records.{record_text}
@@ -14,7 +14,7 @@ use Rattle.stores.specs.Records.{Places, AreRecords, written}
 use Rattle.stores.specs.declared.fault.StoreFault.{StoreFault}
 use Rattle.stores.specs.declared.node_store.NodeStore.{Ghosts}
 use Rattle.desk.specs.Calls.{Takes, Tells, batch_of, committed_by, done}
-use Rattle.desk.specs.Keeping.{HaveFirst, IsKept}
+use Rattle.desk.specs.Keeping.{AreTexts, HaveFirst, IsKept}
 use Rattle.desk.specs.Loading.{IsLoaded}
 use Rattle.desk.specs.Views.{StateView, opened_with, tail}
 use Rattle.desk.specs.declared.notes.Told.{Told}
@@ -37,16 +37,37 @@ take_own (suc n) (x ∷ xs) = ap (λ l. x ∷ l) (take_own n xs)
 written_more : (xs ys : List Input) → written (xs ++ ys) ≡ written xs ++ written ys
 written_more xs ys = map-append (λ input. Some (record_text input)) xs ys
 
-records_count : (places : Places) (inputs : List Input) → AreRecords places inputs → length places ≡ length inputs
-records_count [] [] are = refl
-records_count [] (i ∷ inputs) are = absurd are
-records_count (None ∷ places) inputs are = absurd are
-records_count (Some t ∷ places) [] are = absurd are
-records_count (Some t ∷ places) (i ∷ inputs) are = omega (arith, records_count places inputs are.1)
+texts_count : (places : Places) (inputs : List Input) → AreTexts places inputs → length places ≡ length inputs
+texts_count [] [] are = refl
+texts_count [] (i ∷ inputs) are = absurd are
+texts_count (None ∷ places) inputs are = absurd are
+texts_count (Some t ∷ places) [] are = absurd are
+texts_count (Some t ∷ places) (i ∷ inputs) are = omega (arith, texts_count places inputs are.1)
+
+texts_loaded : (places : Places) (inputs : List Input) → AreRecords places inputs → AreTexts places inputs
+texts_loaded [] [] are = tt
+texts_loaded [] (i ∷ inputs) are = absurd are
+texts_loaded (None ∷ places) inputs are = absurd are
+texts_loaded (Some t ∷ places) [] are = absurd are
+texts_loaded (Some t ∷ places) (i ∷ inputs) are = (inl are.0, texts_loaded places inputs are.1)
+
+texts_written : (inputs : List Input) → AreTexts (written inputs) inputs
+texts_written [] = tt
+texts_written (i ∷ inputs) = (inr refl, texts_written inputs)
+
+-- texts of the first records, and then those that were written
+texts_more : (count : ℕ) (places : Places) (inputs more : List Input) → AreTexts (take count places) inputs → drop count places ≡ written more → AreTexts places (inputs ++ more)
+texts_more zero places [] more are since = subst (λ (ps : Places). AreTexts ps more) (sym since) (texts_written more)
+texts_more zero places (i ∷ inputs) more are since = absurd are
+texts_more (suc n) [] [] more are since = subst (λ (ps : Places). AreTexts ps more) (sym since) (texts_written more)
+texts_more (suc n) [] (i ∷ inputs) more are since = absurd are
+texts_more (suc n) (None ∷ places) inputs more are since = absurd are
+texts_more (suc n) (Some t ∷ places) [] more are since = absurd are
+texts_more (suc n) (Some t ∷ places) (i ∷ inputs) more are since = (are.0, texts_more n places inputs more are.1 since)
 
 opening_fits : (opening count : ℕ) (journal : List Input) (places : Places) → opening ≤ length journal → HaveFirst opening journal count places → opening ≤ length places
 opening_fits opening count journal places o h =
-    let n = records_count (take opening places) (take opening journal) h.loaded in
+    let n = texts_count (take opening places) (take opening journal) h.before in
     let m = length-take-le opening journal o in
     let fits = take_fits opening places in
     omega (arith, n, m, fits)
@@ -62,22 +83,31 @@ places_count opening count journal places o c h =
     ap length h.since ∙ length-map (drop opening (take count journal)) (λ input. Some (record_text input)) in
     omega (arith, fits, n, m, all, same, o)
 
-opened : (opening count : ℕ) (journal : List Input) (places : Places) → opening ≡ length journal → count ≡ length journal → AreRecords places journal → HaveFirst opening journal count places
+opened : (opening count : ℕ) (journal : List Input) (places : Places) → opening ≡ length journal → count ≡ length journal → AreTexts places journal → HaveFirst opening journal count places
 opened opening count journal places o c are =
-    let n = records_count places journal are in
+    let n = texts_count places journal are in
     let all : take opening journal ≡ journal = take_all opening journal (omega (arith, o)) in
     let all_places : take opening places ≡ places = take_all opening places (omega (arith, o, n)) in
     let whole : take count journal ≡ journal = take_all count journal (omega (arith, c)) in
     let none : drop opening (take count journal) ≡ [] = ap (drop opening) whole ∙ drop_all opening journal (omega (arith, o)) in
     record {
-      loaded = subst (λ xs. AreRecords xs (take opening journal)) (sym all_places) (subst (AreRecords places) (sym all) are);
+      before = subst (λ xs. AreTexts xs (take opening journal)) (sym all_places) (subst (AreTexts places) (sym all) are);
       since = drop_all opening places (omega (arith, o, n)) ∙ sym (ap written none);
     }
+
+-- all of the journal is committed, and the state opens anew
+reopened : (opening count : ℕ) (journal : List Input) (places : Places) → opening ≤ count → count ≡ length journal → HaveFirst opening journal count places → HaveFirst count journal count places
+reopened opening count journal places o c h =
+    let whole : take count journal ≡ journal = take_all count journal (omega (arith, c)) in
+    let since : drop opening places ≡ written (drop opening journal) = h.since ∙ ap (λ xs. written (drop opening xs)) whole in
+    let both : take opening journal ++ drop opening journal ≡ journal = take-append-drop opening journal in
+    let texts : AreTexts places journal = subst (AreTexts places) both (texts_more opening places (take opening journal) (drop opening journal) h.before since) in
+    opened count count journal places c c texts
 
 -- the journal goes on
 longer : (opening count : ℕ) (journal more : List Input) (places : Places) → opening ≤ length journal → count ≤ length journal → HaveFirst opening journal count places → HaveFirst opening (journal ++ more) count places
 longer opening count journal more places o c h = record {
-  loaded = subst (AreRecords (take opening places)) (sym (take-append-le opening journal more o)) h.loaded;
+  before = subst (AreTexts (take opening places)) (sym (take-append-le opening journal more o)) h.before;
   since = h.since ∙ sym (ap (λ xs. written (drop opening xs)) (take-append-le count journal more c));
 }
 
@@ -93,7 +123,7 @@ further opening committed most journal batch places o c is h =
     let behind : drop opening (take (committed + length batch) journal) ≡ drop opening (take committed journal) ++ batch =
     ap (drop opening) all ∙ drop-append-le opening (take committed journal) batch (omega (arith, n, o)) in
     record {
-      loaded = subst (λ xs. AreRecords xs (take opening journal)) (sym (take-append-le opening places (written batch) fits)) h.loaded;
+      before = subst (λ xs. AreTexts xs (take opening journal)) (sym (take-append-le opening places (written batch) fits)) h.before;
       since = drop-append-le opening places (written batch) fits
           ∙ (ap (λ xs. xs ++ written batch) h.since
           ∙ sym (ap written behind ∙ written_more (drop opening (take committed journal)) batch));
@@ -310,11 +340,70 @@ module _ {S : Type 0} (g : Ghosts S) where
         whose = same ∙ whose;
         own = λ honest runs. keeps_own honest runs (own (loaded.honest honest) ran);
         runs = λ runs. loaded.runs;
-        has = λ honest runs. opened (length journal) (length journal) journal (g.content new) refl refl (subst (λ places. AreRecords places journal) (sym (loaded.kept honest runs)) (loaded.ok honest));
+        has = λ honest runs. opened (length journal) (length journal) journal (g.content new) refl refl (texts_loaded (g.content new) journal (subst (λ places. AreRecords places journal) (sym (loaded.kept honest runs)) (loaded.ok honest)));
         found = λ honest next held_next. record {
           count = length journal;
           least = omega arith;
           most = omega arith;
-          first = opened (length journal) (length journal) journal next refl refl (subst (λ places. AreRecords places journal) (sym (loaded.crash honest ran next held_next)) (loaded.ok honest));
+          first = opened (length journal) (length journal) journal next refl refl (texts_loaded next journal (subst (λ places. AreRecords places journal) (sym (loaded.crash honest ran next held_next)) (loaded.ok honest)));
         };
       }
+
+  -- ---- a state that opens anew
+
+  -- the state runs again
+  kept_again : (held : StateView) (store : S) → g.must_reopen store ≡ false → Kept held store → Kept (record held { runs = true }) store
+  kept_again held store running kept = record {
+    opening = kept.opening;
+    committed = kept.committed;
+    whose = kept.whose;
+    own = kept.own;
+    runs = λ runs. running;
+    has = kept.has;
+    found = λ honest next held_next.
+        let some = kept.found honest next held_next in
+        record { count = some.count; least = some.least; most = some.most; first = some.first };
+  }
+
+  -- its journal is committed as a whole, and counts as that of its opening
+  kept_anew : (held : StateView) (store : S) → held.committed ≡ length held.journal → Kept held store → Kept (record held { opening = held.committed }) store
+  kept_anew held store all kept = record {
+    opening = omega arith;
+    committed = kept.committed;
+    whose = kept.whose;
+    own = kept.own;
+    runs = kept.runs;
+    has = λ honest runs. reopened held.opening held.committed held.journal (g.content store) kept.opening all (kept.has honest runs);
+    found = λ honest next held_next.
+        let some = kept.found honest next held_next in
+        let least = some.least in
+        let most = some.most in
+        let early = kept.opening in
+        let same : some.count ≡ held.committed = omega (arith, least, most, all) in
+        record {
+          count = held.committed;
+          least = omega arith;
+          most = kept.committed;
+          first = reopened held.opening held.committed held.journal next early all (subst (λ (n : ℕ). HaveFirst held.opening held.journal n next) same some.first);
+        };
+  }
+
+  -- a stopped state was opened anew: it ran again, and committed what wasn't committed
+  pub kept_reopened : (held again settled anew : StateView) (old new : S) (most count : ℕ) (result : Result ℕ StoreFault)
+      → again ≡ record held { runs = true } → settled ≡ committed_by again result → result ≡ Ok count → anew ≡ record settled { opening = settled.committed }
+      → g.must_reopen old ≡ false → g.whose new ≡ g.whose old → (g.is_honest new → g.must_reopen new ≡ false → g.is_own old → g.is_own new)
+      → most ≡ length again.journal → Committing again old new result (batch_of again most) → Kept held old → Kept anew new
+  kept_reopened held again settled anew old new most count result runs_again commits_all is_ok opens_anew running whose own enough commits kept =
+      let ran : Kept again old = subst (λ (h : StateView). Kept h old) (sym runs_again) (kept_again held old running kept) in
+      let kept_settled : Kept settled new = subst (λ (h : StateView). Kept h new) (sym commits_all) (kept_committed again old new most result whose own commits ran) in
+      let state_is : settled ≡ record again { committed = again.committed + count } = commits_all ∙ ap (committed_by again) is_ok in
+      let runs : again.runs ≡ true = ap (λ (h : StateView). h.runs) runs_again in
+      let counted : count ≡ length (batch_of again most) = subst (λ (r : Result ℕ StoreFault). IfOk r (λ n. n ≡ length (batch_of again most))) is_ok commits.0 in
+      let batch : length (batch_of again most) ≡ length (take most (tail again)) = ap (λ (b : Bool). length (if b then take most (tail again) else [])) runs in
+      let n = length-drop again.committed again.journal in
+      let all : length (take most (tail again)) ≡ length (tail again) = ap length (take_all most (tail again) (omega (arith, n, enough))) in
+      let within = ran.committed in
+      let committed : settled.committed ≡ again.committed + count = ap (λ (h : StateView). h.committed) state_is in
+      let journal : length settled.journal ≡ length again.journal = ap (λ (h : StateView). length h.journal) state_is in
+      let whole : settled.committed ≡ length settled.journal = omega (arith, n, counted, batch, all, within, committed, journal) in
+      subst (λ (h : StateView). Kept h new) (sym opens_anew) (kept_anew settled new whole kept_settled)

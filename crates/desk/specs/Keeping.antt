@@ -1,8 +1,10 @@
 -- A state beside the store that has its committed records, and what is known of the two at a desk.
-use Rattle.std.specs.Prelude.{◌≡◌, ◌<◌, ◌≤◌, ℕ, true, false, List, length, take, drop, Option, Some, None, is_some, Result, Ok, Err, IfOk}
+use Rattle.std.specs.Prelude.{◌≡◌, ◌⊎◌, ◌<◌, ◌≤◌, ℕ, true, false, List, [], ◌∷◌, length, take, drop, Option, Some, None, is_some, Result, Ok, Err, IfOk}
 use Rattle.units.specs.declared.code.Node.{Node}
 use Rattle.wire.specs.declared.input.Input.{Input}
-use Rattle.stores.specs.Records.{Places, AreRecords, written}
+use Rattle.wire.specs.Records.{IsRecordText, record_text}
+use Rattle.wire.specs.declared.record_format.RecordFormat.TheVariants.{Two}
+use Rattle.stores.specs.Records.{Places, written}
 use Rattle.scheme.specs.declared.registries.Scheme.{Scheme}
 use Rattle.stores.specs.Calls.{Appends}
 use Rattle.stores.specs.Faults.{count_after}
@@ -16,10 +18,17 @@ use Rattle.desk.specs.declared.confirmation.Confirmation.{Confirmation}
 
 -- ---- what the places of a store have
 
--- the first records of the journal, `count` of them: those of the opening as they were loaded, then the texts of those
--- that came since
+-- each place has a text that is read as its record, as one that was loaded has, or the text that is written of it; and no
+-- place is left over
+abbrev pub AreTexts : Places → List Input → Type 0
+AreTexts [] [] = Unit {0}
+AreTexts (Some text ∷ places) (input ∷ inputs) = (IsRecordText Two text input ⊎ (text ≡ record_text input)) × AreTexts places inputs
+AreTexts _ _ = ⊥
+
+-- the first records of the journal, `count` of them: those of the opening as they were loaded or written before, then the
+-- texts of those that came since
 pub record HaveFirst (opening : ℕ) (journal : List Input) (count : ℕ) (places : Places) : Type 0 where
-  pub loaded : AreRecords (take opening places) (take opening journal)
+  pub before : AreTexts (take opening places) (take opening journal)
   pub since : drop opening places ≡ written (drop opening (take count journal))
 
 -- the committed records, and no others

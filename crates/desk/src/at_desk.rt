@@ -5,11 +5,11 @@ ghost use Rattle.desk.specs.Desks.{IsOf, IsTakeOf};
 ghost use Rattle.desk.specs.Keeping.{IsAtDesk, IsCommit, IsKept, IsConfirmationOfRun, IsToSend, MayOpen, fault_after};
 
 use crate::confirmation::Confirmation;
-use crate::notes::Asked;
+use crate::notes::{Asked, Told};
 use crate::opening::Opening;
 use crate::state::{State, Taken};
 use crate::stored::Stored;
-use protocol::NodeCore;
+use protocol::{NodeCore, Stepped};
 use std::marker::{Model, PhantomData};
 use stores::{NodeStore, StoreFault};
 use units::{NoMemory, Node};
@@ -35,6 +35,8 @@ fn fault_after(
 pub(crate) struct AtDesk<O: Opening, C: NodeCore, S: NodeStore> {
     stored: Stored<C, S>,
     fault: Option<StoreFault>,
+    /// How many inputs it was given that weren't recorded.
+    unrecorded: usize,
     run: PhantomData<O>,
 }
 
@@ -44,6 +46,7 @@ impl<O: Opening, C: NodeCore, S: NodeStore + Drop> Drop for AtDesk<O, C, S> {
         let AtDesk {
             stored,
             fault: _,
+            unrecorded: _,
             run: _,
         } = self;
         drop(stored);
@@ -75,6 +78,7 @@ impl<O: Opening, C: NodeCore, S: NodeStore> AtDesk<O, C, S> {
         AtDesk {
             stored,
             fault: None,
+            unrecorded: 0,
             run: PhantomData,
         }
     }
@@ -91,7 +95,23 @@ impl<O: Opening, C: NodeCore, S: NodeStore> AtDesk<O, C, S> {
         ensures asked { result.asked ≡ Asked.Take input }
         ensures told { IsTakeOf input result }
     {
-        self.stored.take(input)
+        let taken = self.stored.take(input);
+        self.count(&taken);
+        taken
+    }
+
+    /// Counts what was taken, where it wasn't recorded.
+    fn count(&mut self, taken: &Taken)
+        ensures { self.new ≡ self.old }
+    {
+        if !matches!(taken.told(), Told::Step(Stepped::Recorded(_))) {
+            self.unrecorded = self.unrecorded.saturating_add(1);
+        }
+    }
+
+    /// How many inputs it was given that weren't recorded.
+    pub(crate) fn unrecorded(&self) -> usize {
+        self.unrecorded
     }
 
     /// As `commit` of the state to its store, of at most `BATCH` records.
@@ -139,6 +159,7 @@ impl<O: Opening, C: NodeCore, S: NodeStore> AtDesk<O, C, S> {
         let AtDesk {
             stored,
             fault,
+            unrecorded: _,
             run: _,
         } = self;
         (stored, fault)

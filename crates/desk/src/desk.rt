@@ -305,6 +305,12 @@ impl<O: Opening, C: NodeCore, S: NodeStore, B: Bell> Desk<O, C, S, B> {
         self.locked.lock(rt).state().committed_count()
     }
 
+    /// How many inputs the state was given that weren't recorded: each of them left a note in a seat, where the seat had
+    /// room. There may be more once this returns.
+    pub fn unrecorded_count<R: Wait>(&self, rt: &R) -> usize {
+        self.locked.lock(rt).unrecorded()
+    }
+
     /// The bells, for threads that wait until there is more to commit or to send: read a bell's number, look at the
     /// desk, and wait for another number where there is nothing to do. Such a wait also ends after `LONGEST_QUIET`
     /// seconds, so look again after it.

@@ -344,6 +344,20 @@ impl<C: NodeCore> State<C> {
         self.runs = false;
     }
 
+    /// Runs again, where it was stopped.
+    pub(crate) fn go_on(&mut self)
+        ensures { self.new ≡ record self.old { runs = true } }
+    {
+        self.runs = true;
+    }
+
+    /// All records of the journal are committed, and count as those of the opening from now on.
+    pub(crate) fn open_anew(&mut self)
+        ensures { self.new ≡ record self.old { opening = self.old.committed } }
+    {
+        self.opening = self.committed;
+    }
+
     /// Whether the state runs: it wasn't stopped, and no commit of it failed.
     pub fn is_running(&self) -> bool
         ensures { result ≡ self.now.runs }

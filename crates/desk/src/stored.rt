@@ -123,3 +123,32 @@ impl<C: NodeCore, S: NodeStore> Stored<C, S> {
         (state, store)
     }
 }
+
+impl<C: NodeCore, S: NodeStore + Drop> Stored<C, S> {
+    /// A state that runs, with this one's journal, all of which is committed and was there at the opening: what of it
+    /// wasn't committed is appended to the store first. So a node goes on whose threads have ended and whose seats were
+    /// settled, and the seats needn't be kept.
+    ///
+    /// Fails as `append` of the store does. The store is closed then.
+    pub fn reopen(self) -> Result<Stored<C, S>, StoreFault>
+        requires { S.must_reopen self.store ≡ false }
+        ensures state { IfOk result (λ s. s.state ≡ opened_with self.state.scheme self.state.node self.state.journal) }
+        ensures keeps { IfOk result (IsKept S.NodeStore) }
+        ensures faults { IfOk result (λ s. S.faults s.store ≡ S.faults self.store) }
+    {
+        let (mut state, mut store) = self.into_parts();
+        state.go_on();
+        let records = state.journal().len();
+        match state.commit(&mut store, records) {
+            Ok(_) => {
+                state.open_anew();
+                Ok(Stored { state, store })
+            }
+            Err(fault) => {
+                drop(state);
+                drop(store);
+                Err(fault)
+            }
+        }
+    }
+}

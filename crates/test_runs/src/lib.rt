@@ -34,6 +34,8 @@ mod job_rows;
 #[cfg(test)]
 mod journals;
 #[cfg(test)]
+mod line_port_rows;
+#[cfg(test)]
 mod meetings;
 #[cfg(test)]
 mod muster_rows;

@@ -6,6 +6,8 @@
 #![tactic(auto)]
 
 #[cfg(test)]
+mod ahead;
+#[cfg(test)]
 mod answerer_rows;
 #[cfg(test)]
 mod audit_rows;

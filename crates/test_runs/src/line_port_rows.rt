@@ -1,7 +1,10 @@
-use sockets::LinePort;
+use crate::ahead::Ahead;
+use crate::same::assert_same_in;
 use sessions::{Accepted, Listen};
-use std::io::{self, ErrorKind, Read, Write};
-use std::net::{Ipv4Addr, Net, SocketAddr, SocketAddrV4, TcpListener, TcpStream};
+use sockets::{LineEnd, LinePort, line_end};
+use std::alloc::Global;
+use std::io::{ErrorKind, Read, Write};
+use std::net::{Ipv4Addr, Net, Shutdown, SocketAddr, SocketAddrV4, TcpListener, TcpStream};
 use std::process::Abort;
 use std::rt::Clock;
 use std::sync::Wait;
@@ -76,6 +79,22 @@ fn is_closed(client: &mut TcpStream) -> bool {
     }
 }
 
+/// Where the first line of some bytes ends.
+#[test]
+fn ends_of_lines(rt: HostRuntime) {
+    for (bytes, end) in [
+        ("", LineEnd::Partial),
+        ("\n", LineEnd::Whole(0)),
+        ("12345678", LineEnd::Partial),
+        ("12345678\n", LineEnd::Whole(8)),
+        ("123456789", LineEnd::TooLong),
+        ("123456789\n", LineEnd::TooLong),
+        ("12\n45678\n9", LineEnd::Whole(2)),
+    ] {
+        assert_same_in(&rt, line_end(bytes.as_bytes(), LONGEST), end, bytes);
+    }
+}
+
 /// A connection is handed over with its first line alone, and with its next one once it was given back.
 #[test]
 fn one_line_at_a_time(rt: HostRuntime) {
@@ -130,15 +149,13 @@ fn a_peer_that_ends(rt: HostRuntime) {
     for sent in ["", "part"] {
         let mut peer = client(&rt, port.address());
         send(&rt, &mut peer, sent.as_bytes());
-        peer.shutdown(std::net::Shutdown::Write)
-            .expect(&rt, "an end");
+        peer.shutdown(Shutdown::Write).expect(&rt, "an end");
         assert!(rt; handed_within(&rt, &port, 3).is_none());
         assert!(rt; is_closed(&mut peer));
     }
     let mut peer = client(&rt, port.address());
     send(&rt, &mut peer, b"line\n");
-    peer.shutdown(std::net::Shutdown::Write)
-        .expect(&rt, "an end");
+    peer.shutdown(Shutdown::Write).expect(&rt, "an end");
     let (mut reader, writer) = handed(&rt, &port);
     assert_reads(&rt, &mut reader, b"line\n");
     port.take_back(reader, writer);
@@ -175,7 +192,7 @@ fn a_slow_line(rt: HostRuntime) {
 const IDLE: usize = 1_030;
 
 /// Connects idle clients, as many as there is room for, and has the port take them.
-fn idle_clients<R>(rt: &R, alloc: std::alloc::Global, port: &LinePort<&R>) -> Vec<TcpStream>
+fn idle_clients<R>(rt: &R, alloc: Global, port: &LinePort<&R>) -> Vec<TcpStream>
 where
     R: Net<Listener = TcpListener, Stream = TcpStream> + Wait + Clock + Abort,
 {
@@ -212,40 +229,6 @@ fn many_idle_connections(rt: HostRuntime) {
     assert!(rt; is_closed(&mut clients[0]));
     drop(clients);
     drop(port);
-}
-
-/// A runtime whose clock can be put forward.
-#[derive(Drop)]
-struct Ahead<'a, R> {
-    rt: &'a R,
-    seconds: &'a AtomicU64,
-}
-
-impl<R: Clock> Clock for Ahead<'_, R> {
-    fn monotonic(&self) -> io::Result<Duration> {
-        let ahead = Duration::from_secs(self.seconds.load(Ordering::SeqCst));
-        Ok(self.rt.monotonic()?.saturating_add(ahead))
-    }
-
-    fn since_1970(&self) -> io::Result<Duration> {
-        self.rt.since_1970()
-    }
-}
-
-impl<R: Wait> Wait for Ahead<'_, R> {}
-
-impl<R: Net<Listener = TcpListener, Stream = TcpStream>> Net for Ahead<'_, R> {
-    type Stream = TcpStream;
-
-    type Listener = TcpListener;
-
-    fn bind(&self, addr: SocketAddr) -> io::Result<TcpListener> {
-        self.rt.bind(addr)
-    }
-
-    fn connect(&self, addr: SocketAddr) -> io::Result<TcpStream> {
-        self.rt.connect(addr)
-    }
 }
 
 /// A connection whose line isn't whole in time is closed, and only it.

@@ -1,5 +1,5 @@
 -- Connections that wait for a line.
-use Rattle.std.specs.Prelude.{◌≡◌, ℕ, ◌≤◌, ◌<◌, ◌+◌, ◌-◌, ◌⊎◌, nat_le, List, [], ◌∷◌, ◌++◌, length, drop, if◌then◌else◌}
+use Rattle.std.specs.Prelude.{◌≡◌, ℕ, ◌<◌, ◌+◌, ◌-◌, ◌⊎◌, nat_le, nat_lt, ◌*◌, Bool, true, Option, None, Some, List, [], ◌∷◌, ◌++◌, length, drop, if◌then◌else◌}
 use Rattle.std.specs.BTreeMap.{is_at}
 use Rattle.std.specs.Map.{remove_entry}
 use Rattle.std.specs.Ordering.{nat_cmp}
@@ -7,12 +7,13 @@ use Rattle.std.specs.List.{AllByRecursion, AllByRecursion-prop}
 use Rattle.std.specs.Coded.{le_prop}
 use Rattle.std.specs.Time.{instant_nanos}
 use Rattle.std.specs.declared.time.Instant.{Instant}
+use Rattle.sockets.specs.declared.connections.TheConstants.{LONGEST_LINE_TIME, MOST_CONNECTIONS}
 use Rattle.sockets.specs.declared.connections.Waiter.{Waiter}
 use Rattle.sockets.specs.declared.connections.Ready.{Ready}
 
--- it has waited longer than 10 seconds
-abbrev pub IsLate : Instant → Instant → Type 0
-IsLate now since = 10_000_000_000 < instant_nanos now - instant_nanos since
+-- whether it has waited longer than `LONGEST_LINE_TIME` seconds
+abbrev pub is_late : Instant → Instant → Bool
+is_late now since = nat_lt (LONGEST_LINE_TIME * 1_000_000_000) (instant_nanos now - instant_nanos since)
 
 -- each number is below n
 abbrev pub AreBelow : {X : Type 0} → ℕ → List (ℕ × X) → Type 0
@@ -35,14 +36,19 @@ module _ {T : Type 0} where
   abbrev pub line_of : ℕ → Waiter T → Ready T
   line_of count w = record { connection = w.connection; length = count }
 
-  -- the first of those that wait, if there is one, has waited 10 seconds at most
-  abbrev pub IsEarly : Instant → List (ℕ × Waiter T) → Type 0
-  IsEarly now [] = Unit {0}
-  IsEarly now (e ∷ es) = instant_nanos now - instant_nanos e.1.since ≤ 10_000_000_000
+  -- the number of the first of those that wait, where it is late
+  abbrev pub first_late : Instant → List (ℕ × Waiter T) → Option ℕ
+  first_late now [] = None
+  first_late now (e ∷ es) = if is_late now e.1.since then Some e.0 else None
 
   -- those that go on waiting once a further one comes, where a line has come of that many others
   abbrev pub left_for_one : List (ℕ × Waiter T) → ℕ → List (ℕ × Waiter T)
-  left_for_one es lines = if nat_le 1_024 (length es + lines) then drop 1 es else es
+  left_for_one es lines = if nat_le MOST_CONNECTIONS (length es + lines) then drop 1 es else es
+
+  -- the number of the first of those that wait
+  abbrev pub first_number : List (ℕ × Waiter T) → Option ℕ
+  first_number [] = None
+  first_number (e ∷ es) = Some e.0
 
   -- only that one may have gone
   abbrev pub SparesOthers : ℕ → List (ℕ × Waiter T) → List (ℕ × Waiter T) → Type 0
@@ -53,7 +59,11 @@ module _ {T : Type 0} where
   MayHold connection since number lines old new =
       (new ≡ left_for_one old lines) ⊎ (new ≡ left_for_one old lines ++ (number, begun connection since) ∷ [])
 
-  -- those that are no more there were first, and each of them was late
-  abbrev pub ClosesLate : Instant → List (ℕ × Waiter T) → List (ℕ × Waiter T) → Type 0
-  ClosesLate now old new =
-      (closed : List (ℕ × Waiter T)) × (old ≡ closed ++ new) × AllByRecursion (λ e. IsLate now e.1.since) closed
+  -- those are no more there that were first, and each of them was late
+  abbrev pub WereLate : Instant → List (ℕ × Waiter T) → List (ℕ × Waiter T) → List (ℕ × Waiter T) → Type 0
+  WereLate now gone old new = (old ≡ gone ++ new) × AllByRecursion (λ e. is_late now e.1.since ≡ true) gone
+
+  -- the first ones are no more there that were late: all of them, or as many as `most`
+  abbrev pub EndsLate : Instant → ℕ → List (ℕ × Waiter T) → List (ℕ × Waiter T) → Type 0
+  EndsLate now most old new =
+      (gone : List (ℕ × Waiter T)) × WereLate now gone old new × ((length gone ≡ most) ⊎ (first_late now new ≡ None))

@@ -7,7 +7,7 @@ ghost use Rattle.std.specs.Option.{option_copied, option_to_list};
 ghost use Rattle.std.specs.Ordering.{nat_cmp};
 ghost use Rattle.std.specs.VecDeque.{deque_len, deque_capacity};
 ghost use Rattle.sockets.specs.declared.connections.TheConstants.{MOST_CONNECTIONS};
-ghost use Rattle.sockets.specs.Waiting.{AreBelow, AreBelow-prop, IsEarly, IsLate, begun, connection_of, left_for_one, line_of};
+ghost use Rattle.sockets.specs.Waiting.{AreBelow, AreBelow-prop, begun, connection_of, first_late, is_late, left_for_one, line_of};
 
 use std::alloc::{AllocError, Global};
 use std::collections::{BTreeMap, VecDeque};
@@ -37,7 +37,7 @@ pub(crate) struct Ready<T> {
 
 /// Whether what began to wait then has waited longer than `LONGEST_LINE_TIME` seconds.
 fn is_late(now: Instant, since: Instant) -> bool
-    ensures { IsTrue result ↔ IsLate now since }
+    ensures { result ≡ is_late now since }
 {
     now.duration_since(since) > Duration::from_secs(LONGEST_LINE_TIME)
 }
@@ -96,6 +96,13 @@ impl<T: Drop> Connections<T> {
         self.waiting.len() + self.ready.len() >= MOST_CONNECTIONS
     }
 
+    /// Whether a line has come of one at least.
+    pub(crate) fn has_line(&self) -> bool
+        ensures { IsTrue result ↔ (0 < deque_len self.now.ready) }
+    {
+        !self.ready.is_empty()
+    }
+
     /// Whether a line has come of each of `MOST_CONNECTIONS`, so that none can be taken out for a further one.
     pub(crate) fn is_full_of_lines(&self) -> bool
         ensures { IsTrue result ↔ (MOST_CONNECTIONS ≤ deque_len self.now.ready) }
@@ -152,18 +159,14 @@ impl<T: Drop> Connections<T> {
         self.waiting.pop_first()
     }
 
-    /// Takes out the connection that has waited longest for a line, with its number, where it has waited longer than
+    /// The number of the connection that has waited longest for a line, where it has waited longer than
     /// `LONGEST_LINE_TIME` seconds. `None` where it hasn't, and where none waits.
-    pub(crate) fn take_late(&mut self, now: Instant) -> Option<(usize, Waiter<T>)>
-        ensures first { self.old.waiting.entries ≡ option_to_list result ++ self.new.waiting.entries }
-        ensures late { IfSome result (λ e. IsLate now e.1.since) }
-        ensures none { IfNone result (IsEarly now self.old.waiting.entries) }
-        ensures ready { self.new.ready ≡ self.old.ready }
-        ensures next { self.new.next ≡ self.old.next }
+    pub(crate) fn late(&self, now: Instant) -> Option<usize>
+        ensures { result ≡ first_late now self.now.waiting.entries }
     {
-        let (_, longest) = self.waiting.first_key_value()?;
+        let (number, longest) = self.waiting.first_key_value()?;
         if is_late(now, longest.since) {
-            self.waiting.pop_first()
+            Some(*number)
         } else {
             None
         }

@@ -1,7 +1,7 @@
 //! What has come of the connections that a port holds.
-ghost use Rattle.std.specs.Prelude.{◌≡◌, ◌⊎◌, drop};
+ghost use Rattle.std.specs.Prelude.{◌≡◌, ◌⊎◌, Some, drop, true};
 ghost use Rattle.sockets.specs.LineEnds.{length_of};
-ghost use Rattle.sockets.specs.Waiting.{ClosesLate, SparesOthers};
+ghost use Rattle.sockets.specs.Waiting.{EndsLate, SparesOthers, first_number};
 
 use crate::connections::Connections;
 use crate::line_ends::{LineEnd, line_end};
@@ -64,6 +64,8 @@ impl Held {
     /// for a session. Where it has ended or failed, or where it sends no more and its line isn't whole, it is closed.
     pub(crate) fn look_at(&mut self, number: usize, sends_no_more: bool)
         ensures others { SparesOthers number self.old.connections.waiting.entries self.new.connections.waiting.entries }
+        ensures gone { sends_no_more ≡ true → first_number self.old.connections.waiting.entries ≡ Some number
+            → self.new.connections.waiting.entries ≡ drop 1 self.old.connections.waiting.entries }
         ensures next { self.new.connections.next ≡ self.old.connections.next }
     {
         let Some(stream) = self.connections.get(number) else {
@@ -76,17 +78,22 @@ impl Held {
         }
     }
 
-    /// Closes those that have waited too long for a line, up to `most`.
-    pub(crate) fn close_late(&mut self, now: Instant, most: usize)
-        ensures late { ClosesLate now self.old.connections.waiting.entries self.new.connections.waiting.entries }
-        ensures ready { self.new.connections.ready ≡ self.old.connections.ready }
+    /// Closes those that have waited too long for a line, up to `most`. One whose line has come all the same is for a
+    /// session: no accept has looked at it in time.
+    pub(crate) fn end_late(&mut self, now: Instant, most: usize)
+        ensures { EndsLate now most self.old.connections.waiting.entries self.new.connections.waiting.entries }
     {
         for _ in 0..most {
-            match self.connections.take_late(now) {
-                Some(late) => drop(late),
+            match self.connections.late(now) {
+                Some(number) => self.look_at(number, true),
                 None => return,
             }
         }
+    }
+
+    /// Whether an accept has something to do at once.
+    pub(crate) fn has_work(&self) -> bool {
+        self.is_behind || self.connections.has_line()
     }
 
     /// Another handle of the connection. Where the system has none, the one that has waited longest for a line is closed

@@ -7,6 +7,7 @@ use crate::accept_faults::{AcceptFault, accept_fault};
 use crate::connections::{Connections, Ready};
 use crate::held::Held;
 use crate::loopback::limit_waits;
+use crate::port::LONGEST_ACCEPT;
 use mio::unix::SourceFd;
 use mio::{Events, Interest, Poll, Registry, Token};
 use sessions::{Accepted, Listen};
@@ -18,9 +19,6 @@ use std::os::fd::AsRawFd;
 use std::rt::Clock as SystemClock;
 use std::sync::{Mutex, Wait};
 use std::time::{Duration, Instant};
-
-/// How many milliseconds an accept waits for something to happen.
-const LONGEST_ACCEPT: u64 = 100;
 
 /// How many events one accept works off at most, how many connections it takes, and how many it closes that are late.
 const MOST_AT_ONCE: usize = 64;
@@ -184,8 +182,8 @@ impl<R: Wait + SystemClock> LinePort<R> {
         Ok(())
     }
 
-    /// Works off what has happened: looks at the connections of the events, closes those that are late, and takes
-    /// further ones.
+    /// Works off what has happened: looks at the connections of the events, ends the wait of those that are late, and
+    /// takes further ones.
     ///
     /// # Errors
     ///
@@ -197,7 +195,7 @@ impl<R: Wait + SystemClock> LinePort<R> {
             held.look_at(event.token().0, event.is_read_closed() || event.is_error());
         }
         let now = Instant::now(&self.rt)?;
-        held.close_late(now, MOST_AT_ONCE);
+        held.end_late(now, MOST_AT_ONCE);
         self.admit(held, now)
     }
 
@@ -217,7 +215,7 @@ impl<R: Wait + SystemClock> LinePort<R> {
 
     /// How long an accept waits for something to happen.
     fn longest_wait(&self) -> Duration {
-        if self.held.lock(&self.rt).is_behind {
+        if self.held.lock(&self.rt).has_work() {
             Duration::ZERO
         } else {
             Duration::from_millis(LONGEST_ACCEPT)
@@ -251,9 +249,6 @@ impl<R: Wait + SystemClock> Listen for LinePort<R> {
     fn accept(&self) -> Accepted<Take<TcpStream>, TcpStream> {
         let mut guard = self.watch.lock(&self.rt);
         let watch = &mut *guard;
-        if let Some((reader, writer)) = self.next_line() {
-            return Accepted::Connection(reader, writer);
-        }
         let longest = Some(self.longest_wait());
         if watch.poll.poll(&mut watch.events, longest).is_err() {
             return Accepted::Failed;

@@ -256,3 +256,35 @@ fn a_line_that_takes_too_long(rt: HostRuntime) {
     drop(writer);
     drop(port);
 }
+
+/// More connections than one accept looks at.
+const MANY: usize = 100;
+
+/// Lines that came in time are handed over, however late an accept looks at them.
+#[test]
+fn lines_that_came_in_time(rt: HostRuntime) {
+    let seconds = AtomicU64::new(0);
+    let ahead = Ahead {
+        rt: &rt,
+        seconds: &seconds,
+    };
+    let port = LinePort::open_at(&ahead, rt.alloc(), any_port(), LONGEST).expect(&rt, "a port");
+    let mut clients = Vec::new(rt.alloc());
+    for _ in 0..MANY {
+        clients
+            .push(client(&rt, port.address()))
+            .expect(&rt, "memory");
+    }
+    assert!(rt; handed_within(&rt, &port, 3).is_none());
+    for peer in clients.iter_mut() {
+        send(&rt, peer, b"line\n");
+    }
+    seconds.store(11, Ordering::SeqCst);
+    for _ in 0..MANY {
+        let (mut reader, writer) = handed(&rt, &port);
+        assert_reads(&rt, &mut reader, b"line\n");
+        drop(writer);
+    }
+    drop(clients);
+    drop(port);
+}

@@ -76,7 +76,7 @@ fn push<S, R>(
 ) -> Result<(), NoMemory>
 where
     S: NodeStore + Send + Drop,
-    R: Net<Listener = TcpListener, Stream = TcpStream> + SystemClock + Send + Sync + Drop,
+    R: Net<Listener = TcpListener, Stream = TcpStream> + SystemClock + Copy + Send + Sync + Drop,
     ensures { OnOk result (map (λ n. n.stored) nodes.new.items ≡ map (λ n. n.stored) nodes.old.items ++ stored ∷ []) }
 {
     ports.add(stored.state().node(), &listener)?;

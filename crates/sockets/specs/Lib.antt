@@ -1,2 +1,5 @@
-pub mod Loopback
+pub mod AcceptFaults
 pub mod Addresses
+pub mod LineEnds
+pub mod Loopback
+pub mod Waiting

@@ -11,7 +11,7 @@ use std::os::fd::OwnedFd;
 use std::time::Duration;
 
 /// How many milliseconds an accept waits for somebody to connect.
-const LONGEST_ACCEPT: u64 = 100;
+pub(crate) const LONGEST_ACCEPT: u64 = 100;
 
 /// That listener, each accept of which waits for `LONGEST_ACCEPT` milliseconds at most, and fails with `WouldBlock`
 /// where nobody connected.

@@ -10,6 +10,7 @@ use std::alloc::Global;
 use std::io::BufReader;
 use std::marker::Model;
 use std::net::{Net, SocketAddr, TcpStream};
+use std::rt::Clock as SystemClock;
 use units::{NoMemory, Node};
 
 /// How many bytes are read of a connection at once: a reply has fewer.
@@ -65,11 +66,23 @@ impl<R: Net> Ports<R> {
         ensures ok { OnOk result (self.new ≡ self.old ++ (node, port.now) ∷ []) }
         ensures err { OnErr result (self.new ≡ self.old) }
     {
-        self.addresses.push((node, port.address()))?;
+        self.add_address(node, port.address())
+    }
+
+    /// The node accepts connections at that address. Where one was added for it before, that one is still what is used.
+    ///
+    /// # Errors
+    ///
+    /// Fails with `NoMemory` where memory ran out, and nothing changed.
+    pub fn add_address(&mut self, node: Node, address: SocketAddr) -> Result<(), NoMemory>
+        ensures ok { OnOk result (self.new ≡ self.old ++ (node, address) ∷ []) }
+        ensures err { OnErr result (self.new ≡ self.old) }
+    {
+        self.addresses.push((node, address))?;
         Ok(())
     }
 
-    /// Where the node accepts connections. `None` where no port was added for it.
+    /// Where the node accepts connections. `None` where no address was added for it.
     pub fn address_of(&self, node: Node) -> Option<SocketAddr>
         ensures { result ≡ address_of self.now node }
     {
@@ -78,19 +91,19 @@ impl<R: Net> Ports<R> {
     }
 }
 
-impl<R: Net<Stream = TcpStream>> Dial for Ports<R> {
+impl<R: Net<Stream = TcpStream> + SystemClock + Copy + Send> Dial for Ports<R> {
     // One exchange reads a byte at a time, up to its newline.
-    type Reader = BufReader<Dialled>;
+    type Reader = BufReader<Dialled<R>>;
 
-    type Writer = Dialled;
+    type Writer = Dialled<R>;
 
     // Both directions are of a connection that was made to where the node accepts connections.
     ghost leads = { λ addresses peer reader writer. (address_of addresses peer ≡ Some (reader_inner reader))
         × (address_of addresses peer ≡ Some writer) };
 
-    fn connect(&self, peer: Node) -> Option<(BufReader<Dialled>, Dialled)> {
+    fn connect(&self, peer: Node) -> Option<(BufReader<Dialled<R>>, Dialled<R>)> {
         let address = self.address_of(peer)?;
-        let (reader, writer) = dial_at(&self.net, address)?;
+        let (reader, writer) = dial_at(self.net, address)?;
         let reader = BufReader::with_capacity(self.alloc, READ_AT_ONCE, reader).ok()?;
         Some((reader, writer))
     }

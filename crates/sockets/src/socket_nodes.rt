@@ -19,7 +19,7 @@ pub struct SocketNodes<S, R> {
 impl<S, R> NodeTypes for SocketNodes<S, R>
 where
     S: NodeStore + Send + Drop,
-    R: Net<Listener = TcpListener, Stream = TcpStream> + SystemClock + Send + Sync + Drop,
+    R: Net<Listener = TcpListener, Stream = TcpStream> + SystemClock + Copy + Send + Sync + Drop,
 {
     type Store = S;
 

@@ -6,6 +6,8 @@
 #![tactic(auto)]
 
 #[cfg(test)]
+mod ahead;
+#[cfg(test)]
 mod answerer_rows;
 #[cfg(test)]
 mod audit_rows;
@@ -33,6 +35,8 @@ mod given;
 mod job_rows;
 #[cfg(test)]
 mod journals;
+#[cfg(test)]
+mod line_port_rows;
 #[cfg(test)]
 mod meetings;
 #[cfg(test)]

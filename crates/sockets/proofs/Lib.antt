@@ -1,0 +1,2 @@
+pub mod LateOnes
+pub mod WaitingNumbers

@@ -1,0 +1,263 @@
+//! A port where connections wait for their lines.
+ghost use Rattle.std.specs.Prelude.{◌≡◌};
+ghost use Rattle.std.specs.VecDeque.{deque_len};
+ghost use Rattle.sockets.specs.Waiting.{MayHold};
+
+use crate::accept_faults::{AcceptFault, accept_fault};
+use crate::connections::{Connections, Ready};
+use crate::held::Held;
+use crate::loopback::limit_waits;
+use crate::port::LONGEST_ACCEPT;
+use mio::unix::SourceFd;
+use mio::{Events, Interest, Poll, Registry, Token};
+use sessions::{Accepted, Listen};
+use std::alloc::Global;
+use std::io::{self, Read, Take};
+use std::marker::Model;
+use std::net::{Net, SocketAddr, TcpListener, TcpStream};
+use std::os::fd::AsRawFd;
+use std::rt::Clock as SystemClock;
+use std::sync::{Mutex, Wait};
+use std::time::{Duration, Instant};
+
+/// How many events one accept works off at most, how many connections it takes, and how many it closes that are late.
+const MOST_AT_ONCE: usize = 64;
+
+/// The number of the listener among what is watched.
+const LISTENER: usize = 0;
+
+/// The number of the first connection.
+const FIRST_CONNECTION: usize = 1;
+
+/// What waits for something to happen to the listener and the connections.
+#[derive(Drop)]
+struct Watch {
+    poll: Poll,
+    events: Events,
+}
+
+/// A TCP listener that hands a connection to a session only once a line of it has come, and for that line alone.
+pub struct LinePort<R> {
+    rt: R,
+    listener: TcpListener,
+    address: SocketAddr,
+    registry: Registry,
+    watch: Mutex<Watch>,
+    held: Mutex<Held>,
+}
+
+// Written out, since a derived destructor is proved anew in each crate that lets a value go.
+impl<R: Drop> Drop for LinePort<R> {
+    fn drop(self) {
+        let LinePort {
+            rt,
+            listener,
+            address: _,
+            registry,
+            watch,
+            held,
+        } = self;
+        drop(rt);
+        drop(listener);
+        drop(registry);
+        drop(watch);
+        drop(held);
+    }
+}
+
+impl<R> Model for LinePort<R> {
+    ghost use Rattle.std.specs.declared.net.socket_addr.SocketAddr.{SocketAddr};
+
+    ghost Value = { SocketAddr };
+
+    ghost view = { λ p. p.address };
+}
+
+impl<R: Net<Listener = TcpListener, Stream = TcpStream> + Drop> LinePort<R> {
+    /// A listener at that address, or at a port that was free where its port is 0. A line may have `longest_line` bytes
+    /// before its newline.
+    ///
+    /// # Errors
+    ///
+    /// Fails as the system does, and with `OutOfMemory` where memory ran out.
+    pub fn open_at(
+        rt: R,
+        alloc: Global,
+        address: SocketAddr,
+        longest_line: usize,
+    ) -> io::Result<LinePort<R>> {
+        let listener = rt.bind(address)?;
+        listener.set_nonblocking(true)?;
+        let address = listener.local_addr()?;
+        let poll = Poll::new(&rt)?;
+        let registry = poll.registry().try_clone()?;
+        registry.register(
+            &mut SourceFd(&listener.as_raw_fd()),
+            Token(LISTENER),
+            Interest::READABLE,
+        )?;
+        let events = Events::with_capacity(alloc, MOST_AT_ONCE)?;
+        let connections = Connections::new(alloc, FIRST_CONNECTION)?;
+        let front = Vec::from_elem(alloc, 0u8, longest_line.saturating_add(1))?;
+        Ok(LinePort {
+            rt,
+            listener,
+            address,
+            registry,
+            watch: Mutex::new(Watch { poll, events }),
+            held: Mutex::new(Held {
+                connections,
+                front,
+                is_behind: false,
+            }),
+        })
+    }
+}
+
+impl<R> LinePort<R> {
+    /// Where it listens.
+    pub fn address(&self) -> SocketAddr
+        ensures { result ≡ self.now }
+    {
+        self.address
+    }
+}
+
+impl<R: Wait + SystemClock> LinePort<R> {
+    /// The connection waits for a line from now on, in place of the one that has waited longest where there are
+    /// `MOST_CONNECTIONS`. It is closed where a line of each of them has come, where it can't be watched, and where memory
+    /// ran out.
+    fn hold(&self, held: &mut Held, stream: TcpStream, now: Instant)
+        ensures waiting { MayHold stream now held.old.connections.next (deque_len held.old.connections.ready)
+            held.old.connections.waiting.entries held.new.connections.waiting.entries }
+        ensures ready { held.new.connections.ready ≡ held.old.connections.ready }
+    {
+        let connections = &mut held.connections;
+        if !connections.make_room() {
+            return;
+        }
+        let watched = self.registry.register(
+            &mut SourceFd(&stream.as_raw_fd()),
+            Token(connections.next_number()),
+            Interest::READABLE,
+        );
+        if watched.is_ok() {
+            let _refused = connections.add(stream, now);
+        }
+    }
+
+    /// Takes the connections that others have made, up to `MOST_AT_ONCE`. Where the system has no room for one, the one
+    /// that has waited longest is closed.
+    ///
+    /// # Errors
+    ///
+    /// Fails as the listener does, and where the system has no room for a connection and none waits.
+    fn admit(&self, held: &mut Held, now: Instant) -> io::Result<()> {
+        held.is_behind = true;
+        for _ in 0..MOST_AT_ONCE {
+            if held.connections.is_full_of_lines() {
+                return Ok(());
+            }
+            match self.listener.accept() {
+                Ok((stream, _)) => {
+                    if limit_waits(&stream).is_some() && stream.set_nonblocking(true).is_ok() {
+                        self.hold(held, stream, now);
+                    }
+                }
+                Err(error) => match accept_fault(&error) {
+                    AcceptFault::Nobody => {
+                        held.is_behind = false;
+                        return Ok(());
+                    }
+                    AcceptFault::Gone => {}
+                    AcceptFault::NoRoom => {
+                        if held.connections.take_longest().is_none() {
+                            return Err(error);
+                        }
+                    }
+                    AcceptFault::Failed => return Err(error),
+                },
+            }
+        }
+        Ok(())
+    }
+
+    /// Works off what has happened: looks at the connections of the events, ends the wait of those that are late, and
+    /// takes further ones.
+    ///
+    /// # Errors
+    ///
+    /// Fails as `admit` does, and where the clock can't be read.
+    fn work_off(&self, events: &Events) -> io::Result<()> {
+        let mut guard = self.held.lock(&self.rt);
+        let held = &mut *guard;
+        for event in events.iter() {
+            held.look_at(event.token().0, event.is_read_closed() || event.is_error());
+        }
+        let now = Instant::now(&self.rt)?;
+        held.end_late(now, MOST_AT_ONCE);
+        self.admit(held, now)
+    }
+
+    /// A connection of which a line has come, for a session. `None` where there is none, and where it can't be handed
+    /// over, and is closed.
+    fn next_line(&self) -> Option<(Take<TcpStream>, TcpStream)> {
+        let mut guard = self.held.lock(&self.rt);
+        let held = &mut *guard;
+        let Ready { connection, length } = held.connections.take_ready()?;
+        self.registry
+            .deregister(&mut SourceFd(&connection.as_raw_fd()))
+            .ok()?;
+        connection.set_nonblocking(false).ok()?;
+        let writer = held.second_handle(&connection)?;
+        Some((connection.take(length), writer))
+    }
+
+    /// How long an accept waits for something to happen.
+    fn longest_wait(&self) -> Duration {
+        if self.held.lock(&self.rt).has_work() {
+            Duration::ZERO
+        } else {
+            Duration::from_millis(LONGEST_ACCEPT)
+        }
+    }
+
+    /// Takes a connection back whose line was replied to: it waits for a further line. It is closed where not all was read
+    /// that was to be, and where it can't be held.
+    pub fn take_back(&self, reader: Take<TcpStream>, writer: TcpStream) {
+        drop(writer);
+        if reader.limit() > 0 {
+            return;
+        }
+        let stream = reader.into_inner();
+        let Ok(now) = Instant::now(&self.rt) else {
+            return;
+        };
+        if stream.set_nonblocking(true).is_ok() {
+            let mut guard = self.held.lock(&self.rt);
+            self.hold(&mut guard, stream, now);
+        }
+    }
+}
+
+impl<R: Wait + SystemClock> Listen for LinePort<R> {
+    // It ends after the line.
+    type Reader = Take<TcpStream>;
+
+    type Writer = TcpStream;
+
+    fn accept(&self) -> Accepted<Take<TcpStream>, TcpStream> {
+        let mut guard = self.watch.lock(&self.rt);
+        let watch = &mut *guard;
+        let longest = Some(self.longest_wait());
+        if watch.poll.poll(&mut watch.events, longest).is_err() {
+            return Accepted::Failed;
+        }
+        let worked = self.work_off(&watch.events);
+        match self.next_line() {
+            Some((reader, writer)) => Accepted::Connection(reader, writer),
+            None if worked.is_ok() => Accepted::Nobody,
+            None => Accepted::Failed,
+        }
+    }
+}

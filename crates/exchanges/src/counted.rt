@@ -35,6 +35,14 @@ impl<T> Counted<T> {
         }
     }
 
+    /// The reader or writer, as its calls left it.
+    pub fn into_inner(self) -> T
+        ensures { result ≡ self.inner }
+    {
+        let Counted { inner, calls: _ } = self;
+        inner
+    }
+
     /// How many calls returned an error other than `Interrupted`, or were given bytes to write and took none. 0 follows
     /// `u64::MAX`.
     pub fn failures(&self) -> u64

@@ -1,3 +1,4 @@
 mod SentMessages
 pub mod Taking
+pub mod WorkedPauses
 pub mod WorkedThreads

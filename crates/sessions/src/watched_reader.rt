@@ -1,5 +1,5 @@
 //! The reader of a session, which ends with its node and has limits.
-ghost use Rattle.std.specs.Prelude.{◌≡◌, ◌+◌, ◌<◌, take, MatchResult};
+ghost use Rattle.std.specs.Prelude.{◌≡◌, ◌+◌, ◌<◌, false, take, MatchResult};
 ghost use Rattle.std.specs.Io.{ReadsAtMost};
 ghost use Rattle.std.specs.Io.KnownBytes.{ReadConsumes};
 ghost use Rattle.sessions.specs.Serving.{newlines};
@@ -97,7 +97,7 @@ impl<'a, Rd, O: Opening, C: NodeCore, S: NodeStore, B: Bell, R: Wait + SystemClo
     /// Whether the session reads no more: the desk doesn't run, a line or the session takes too long, or it has read
     /// all lines that it may. A time that can't be known is too long.
     fn is_over(&self) -> bool
-        ensures { IfFalse result (self.now.lines < MOST_SESSION_LINES) }
+        ensures { result ≡ false → self.now.lines < MOST_SESSION_LINES }
     {
         self.lines >= MOST_SESSION_LINES
             || !self.desk.is_running(self.rt)

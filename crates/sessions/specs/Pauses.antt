@@ -3,6 +3,8 @@ use Rattle.std.specs.Prelude.{◌≡◌, ◌⊎◌, ◌+◌, ◌-◌, ◌^◌, �
 use Rattle.sessions.specs.declared.senders.RoundEnd.{RoundEnd}
 use Rattle.sessions.specs.declared.senders.RoundEnd.TheVariants.{Done, Unreachable}
 
+-- ---- what the code follows; no public contract cites what stands below
+
 -- after so many failures in a row: one second after the first, twice as many after each further one, and 60 at most
 abbrev pub pause_seconds : ℕ → ℕ
 pause_seconds zero = 0

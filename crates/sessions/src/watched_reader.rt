@@ -1,5 +1,5 @@
 //! The reader of a session, which ends with its node and has limits.
-ghost use Rattle.std.specs.Prelude.{◌≡◌, ◌+◌, ◌<◌, false, take, MatchResult};
+ghost use Rattle.std.specs.Prelude.{◌≡◌, ◌+◌, ◌<◌, ◌≤◌, false, length, take, MatchResult};
 ghost use Rattle.std.specs.Io.{ReadsAtMost};
 ghost use Rattle.std.specs.Io.KnownBytes.{ReadConsumes};
 ghost use Rattle.sessions.specs.Serving.{newlines};
@@ -24,7 +24,8 @@ pub const MOST_SESSION_LINES: usize = 1_024;
 
 /// How many of the bytes are newlines.
 fn newlines_in(bytes: &[u8]) -> usize
-    ensures { result ≡ newlines bytes.now }
+    ensures count { result ≡ newlines bytes.now }
+    ensures bound { result ≤ length bytes.now }
 {
     bytes.iter().filter(|byte| **byte == b'\n').count()
 }
@@ -140,8 +141,9 @@ impl<'a, Rd: Read, O: Opening, C: NodeCore, S: NodeStore, B: Bell, R: Wait + Sys
             return Err(ErrorKind::TimedOut.into());
         }
         let count = self.inner.read(piece)?;
-        self.begun = self.begun_after(&piece[..count]);
-        self.lines += newlines_in(&piece[..count]);
+        let bytes = &piece[..count];
+        self.begun = self.begun_after(bytes);
+        self.lines += newlines_in(bytes);
         Ok(count)
     }
 }

@@ -26,11 +26,12 @@ use test_support::again;
 use test_support::failing_streams::Full;
 use test_support::texts::RECEIVED;
 
-/// Connections with one peer, which replies to each message that it was received. The first ones can't be made, and
-/// none with another node.
+/// Connections with one peer, which replies to each message with these bytes. The first ones can't be made, and none
+/// with another node.
 #[derive(Drop)]
 struct FailingDial {
     peer: Node,
+    reply: &'static [u8],
     failing: u64,
     connects: AtomicU64,
 }
@@ -46,7 +47,19 @@ impl Dial for FailingDial {
         if self.connects.fetch_add(1, Ordering::SeqCst) < self.failing || self.peer != peer {
             return None;
         }
-        Some((RECEIVED, Full { room: usize::MAX }))
+        Some((self.reply, Full { room: usize::MAX }))
+    }
+}
+
+impl FailingDial {
+    /// Connections with the log, the first `failing` of which can't be made, and which has these bytes as its replies.
+    fn of_log(failing: u64, reply: &'static [u8]) -> FailingDial {
+        FailingDial {
+            peer: Node::Itl,
+            reply,
+            failing,
+            connects: AtomicU64::new(0),
+        }
     }
 }
 
@@ -154,11 +167,7 @@ where
     let desk = desk_of(rt, alloc, nz);
     let seat = seat_of_two(rt, alloc, &desk);
     let node = node_with(nz, desk, FailingPort::open(rt, 0));
-    let dialer = FailingDial {
-        peer: Node::Itl,
-        failing,
-        connects: AtomicU64::new(0),
-    };
+    let dialer = FailingDial::of_log(failing, RECEIVED);
     sends_with(rt, alloc, node, dialer, seat, connects)
 }
 
@@ -246,23 +255,21 @@ fn assert_sent(
 fn assert_next(rt: &(impl Wait + Abort), alloc: Global) -> Result<(), NoMemory> {
     let desk = desk_of(rt, alloc, registry(rt, "NZ"));
     let mut seat = Seat::new(alloc);
-    let dial = FailingDial {
-        peer: Node::Itl,
-        failing: 1,
-        connects: AtomicU64::new(0),
-    };
+    let dial = FailingDial::of_log(1, RECEIVED);
+    let silent = FailingDial::of_log(0, b"");
     drop(take(rt, alloc, &desk, &mut seat, TEN));
     assert_sent(rt, alloc, &desk, &mut seat, &dial, Sent::Nothing);
     assert_same(rt, commit(rt, &desk)?, 1);
     assert_sent(rt, alloc, &desk, &mut seat, &dial, Sent::Unreachable(0));
     assert_same(rt, dial.asked(), 1);
+    assert_sent(rt, alloc, &desk, &mut seat, &silent, Sent::NotReceived(0));
     assert_sent(rt, alloc, &desk, &mut seat, &dial, Sent::Received(0));
     assert_sent(rt, alloc, &desk, &mut seat, &dial, Sent::Nothing);
     Ok(())
 }
 
-/// The proposal isn't sent before it is committed. The first connection can't be made. Once the log has replied over
-/// the second one, the message is acknowledged.
+/// The proposal isn't sent before it is committed. The first connection can't be made, and over the second one there is
+/// no reply. Once the log has replied over the third one, the message is acknowledged.
 #[test]
 fn the_next_message_is_sent(rt: HostRuntime) {
     let alloc = rt.alloc();

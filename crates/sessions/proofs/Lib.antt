@@ -1,3 +1,4 @@
+mod GivenBack
 mod SentMessages
 pub mod Taking
 pub mod WorkedPauses

@@ -76,7 +76,7 @@ impl<'a, Rd, O: Opening, C: NodeCore, S: NodeStore, B: Bell, R: Wait + SystemClo
 
     /// The reader that was watched, as its reads left it.
     pub fn into_inner(self) -> Rd
-        ensures { result ≡ self.inner }
+        ensures { result ≡ self.entry.inner }
     {
         let WatchedReader {
             inner,

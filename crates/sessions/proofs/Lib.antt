@@ -1,3 +1,5 @@
+mod GivenBack
 mod SentMessages
 pub mod Taking
+pub mod WorkedPauses
 pub mod WorkedThreads

@@ -12,7 +12,7 @@ use Rattle.exchanges.specs.Exchanges.{Exchanges}
 use Rattle.exchanges.specs.CountedView.{CountedView}
 use Rattle.sessions.specs.Delivering.{received}
 use Rattle.sessions.specs.declared.sending.Sent.{Sent}
-use Rattle.sessions.specs.declared.sending.Sent.TheVariants.{Nothing, Received, NotReceived, NoMemory}
+use Rattle.sessions.specs.declared.sending.Sent.TheVariants.{Nothing, Received, NotReceived, Unreachable, NoMemory}
 use Rattle.sessions.specs.Sending.{Acknowledges, IsReceivedBy, Sends, Tries, unused}
 
 module _ {R W : Type 0} (leads : Node → R → W → Type 0) (remaining : R → Option (List ℕ)) (contents : W → Option (List ℕ)) where
@@ -39,4 +39,5 @@ module _ {R W : Type 0} (leads : Node → R → W → Type 0) (remaining : R →
     tries_send peer from old new key m (Received k) to_send t =
         ((m, subst (λ (n : ℕ). IsToSend g opened peer from (Some (n, m))) (sym t.0) to_send, t.1), subst (λ (n : ℕ). Acknowledges old new n) (sym t.0) t.2)
     tries_send peer from old new key m (NotReceived k) to_send t = ((m, subst (λ (n : ℕ). IsToSend g opened peer from (Some (n, m))) (sym t.0) to_send), t.1)
+    tries_send peer from old new key m (Unreachable k) to_send t = ((m, subst (λ (n : ℕ). IsToSend g opened peer from (Some (n, m))) (sym t.0) to_send), t.1)
     tries_send peer from old new key m NoMemory to_send t = t

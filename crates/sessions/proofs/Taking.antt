@@ -67,6 +67,7 @@ module _ {R W S : Type 0} (leads : Node → R → W → Type 0) (remaining : R �
   after_sending peer from old new (sent.Received key) s all =
       acknowledged old new key (record { peer = peer; from = from; message = s.0.0; sent = s.0.1; received = s.0.2 }) s.1 all
   after_sending peer from old new (sent.NotReceived key) s all = subst Are (sym s.1) all
+  after_sending peer from old new (sent.Unreachable key) s all = subst Are (sym s.1) all
   after_sending peer from old new sent.NoMemory s all = subst Are (sym s) all
 
   -- seats that were told nothing

@@ -1,4 +1,6 @@
 pub mod Delivering
 pub mod Orders
+pub mod Pauses
 pub mod Sending
+pub mod Serving
 pub mod Threads

@@ -19,7 +19,7 @@ use Rattle.exchanges.specs.CountedView.{CountedView}
 use Rattle.exchanges.specs.Calls.{no_calls}
 use Rattle.sessions.specs.Delivering.{received}
 use Rattle.sessions.specs.declared.sending.Sent.{Sent}
-use Rattle.sessions.specs.declared.sending.Sent.TheVariants.{Nothing, Received, NotReceived, NoMemory}
+use Rattle.sessions.specs.declared.sending.Sent.TheVariants.{Nothing, Received, NotReceived, Unreachable, NoMemory}
 
 -- the desk took the acknowledgement of that key once, with that seat
 pub record Acknowledges (old new : SeatView) (key : ℕ) : Type 0 where
@@ -52,6 +52,7 @@ module _ {R W S : Type 0} (leads : Node → R → W → Type 0) (remaining : R �
   Sends peer from old new Nothing = IsToSend g opened peer from None × (new ≡ old)
   Sends peer from old new (Received key) = ((m : Message) × IsToSend g opened peer from (Some (key, m)) × IsReceivedBy leads remaining contents peer m) × Acknowledges old new key
   Sends peer from old new (NotReceived key) = ((m : Message) × IsToSend g opened peer from (Some (key, m))) × (new ≡ old)
+  Sends peer from old new (Unreachable key) = ((m : Message) × IsToSend g opened peer from (Some (key, m))) × (new ≡ old)
   Sends peer from old new NoMemory = new ≡ old
 
 -- ---- what the code follows; no public contract cites what stands below
@@ -69,4 +70,5 @@ module _ {R W : Type 0} (leads : Node → R → W → Type 0) (remaining : R →
   Tries peer message old new key Nothing = ⊥
   Tries peer message old new key (Received k) = (k ≡ key) × IsReceivedBy leads remaining contents peer message × Acknowledges old new key
   Tries peer message old new key (NotReceived k) = (k ≡ key) × (new ≡ old)
+  Tries peer message old new key (Unreachable k) = (k ≡ key) × (new ≡ old)
   Tries peer message old new key NoMemory = new ≡ old

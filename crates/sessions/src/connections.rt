@@ -25,7 +25,16 @@ pub trait Listen {
 
     /// Waits for a connection, for a limited time, and returns its two directions where there is one. A listener that
     /// waits without a limit would keep a node's threads from ending.
+    ///
+    /// The reader of an accepted connection may end after a line, where the connection is to be given back.
     fn accept(&self) -> Accepted<Self::Reader, Self::Writer>;
+
+    /// Takes a connection back each line of which was replied to, so that a later `accept` may return it once it has a
+    /// line again. A listener that keeps none closes it, as this one does.
+    fn give_back(&self, reader: Self::Reader, writer: Self::Writer) {
+        drop(reader);
+        drop(writer);
+    }
 }
 
 /// What makes connections with nodes.

@@ -3,9 +3,11 @@
 
 mod connections;
 mod delivery;
+mod elapsed;
 mod mustering;
 mod network;
 mod node_threads;
+mod patience;
 mod running;
 mod senders;
 mod sending;
@@ -22,6 +24,7 @@ pub use running::{new_seats, run_all, run_node};
 pub use sending::{Sent, send_next};
 pub use session_threads::SESSION_THREADS;
 pub use station::Station;
+pub use watched_reader::{MOST_SESSION_LINES, WatchedReader};
 
 // A node stands at a desk.
 pub use desk;

@@ -95,7 +95,8 @@ fn take_handing<R: Wait>(rt: &R, handings: &[Handing], number: usize) -> Option<
 ///
 /// One commits the desk's records to its store, `SESSION_THREADS` serve the connections that others make and wait for
 /// the commits of what came by them, `WORKERS` have the desk take their jobs, of which `MOST_JOBS` wait at most, and one
-/// for each peer sends it the unacknowledged messages, again every `LONGEST_QUIET` seconds while they aren't received.
+/// for each peer sends it the unacknowledged messages, again every `LONGEST_QUIET` seconds while they aren't received,
+/// and after longer pauses while no connection with the peer can be made.
 /// What their seats were told are messages, at moments that the clock told, and acknowledgements of messages that their
 /// peers received, and no orders.
 ///

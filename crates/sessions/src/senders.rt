@@ -1,17 +1,33 @@
 //! A thread that sends a node's messages to one peer.
+ghost use Rattle.sessions.specs.Pauses.{RowAfter};
 ghost use Rattle.sessions.specs.Threads.{AreOfThread};
 
+use crate::elapsed::have_passed;
 use crate::network::{Network, NodeTypes};
+use crate::patience::Patience;
 use crate::sending::{Sent, send_next};
 use crate::station::Station;
-use desk::{Bell, Opening, Seat};
+use desk::stores::NodeStore;
+use desk::{Bell, Desk, Opening, Seat};
 use protocol::NodeCore;
 use std::alloc::Global;
 use std::rt::Clock as SystemClock;
 use std::sync::Wait;
+use std::time::Instant;
 use units::Node;
 
+/// How a round ended, in which each unacknowledged message is sent once.
+#[derive(Clone, Copy, Debug, PartialEq, Eq)]
+pub(crate) enum RoundEnd {
+    /// After the last message, or out of memory.
+    Done,
+    /// At a message for which no connection could be made.
+    Unreachable,
+}
+
 /// Sends the unacknowledged messages to a peer: the one with the least key, and then those with higher keys, each once.
+/// Ends where no connection could be made, so that a peer that is down costs one connect a round. `patience` counts
+/// that failure, and each connection that was made ends the row before.
 fn send_round<O: Opening, C: NodeCore, N: NodeTypes, R: Wait>(
     rt: &R,
     alloc: Global,
@@ -19,27 +35,63 @@ fn send_round<O: Opening, C: NodeCore, N: NodeTypes, R: Wait>(
     network: &Network<N>,
     peer: Node,
     seat: &mut Seat,
-)
+    patience: &mut Patience,
+) -> RoundEnd
     requires { AreOfThread (N.Dialer.leads network.now.dialer) N.Dialer.Reader.remaining N.Dialer.Writer.contents
         N.Store.NodeStore O.opened (N.Clock.tells network.now.clock) seat.old }
-    ensures { AreOfThread (N.Dialer.leads network.now.dialer) N.Dialer.Reader.remaining N.Dialer.Writer.contents
+    ensures taken { AreOfThread
+        (N.Dialer.leads network.now.dialer) N.Dialer.Reader.remaining N.Dialer.Writer.contents
         N.Store.NodeStore O.opened (N.Clock.tells network.now.clock) seat.new }
+    ensures row { RowAfter patience.old.failures patience.new.failures result }
 {
     let mut from: usize = 0;
     for _ in rt.forever() {
         match send_next(rt, alloc, &station.desk, seat, &network.dialer, peer, from) {
-            Sent::Received(key) | Sent::NotReceived(key) => match key.checked_add(1) {
-                Some(next) => from = next,
-                None => break,
-            },
-            Sent::Nothing | Sent::NoMemory => break,
+            Sent::Received(key) | Sent::NotReceived(key) => {
+                patience.end_row();
+                match key.checked_add(1) {
+                    Some(next) => from = next,
+                    None => return RoundEnd::Done,
+                }
+            }
+            Sent::Unreachable(_) => {
+                patience.count_failure();
+                return RoundEnd::Unreachable;
+            }
+            Sent::Nothing | Sent::NoMemory => return RoundEnd::Done,
+        }
+    }
+    unreachable!()
+}
+
+/// Waits until that many seconds have passed, or the desk has stopped. Looks at the desk whenever that bell of it
+/// rings, as it does where the desk stops, and every `LONGEST_QUIET` seconds, and so may wait up to that much longer.
+/// Where the time can't be known, it waits once.
+fn pause<O: Opening, C: NodeCore, S: NodeStore, B: Bell, R: Wait + SystemClock>(
+    rt: &R,
+    desk: &Desk<O, C, S, B>,
+    bell: &B,
+    seconds: u64,
+) {
+    let begun = Instant::now(rt).ok();
+    for _ in rt.forever() {
+        // Read before the desk is looked at, so that no ring between the two is missed.
+        let rings = bell.rings(rt);
+        if !desk.is_running(rt) {
+            return;
+        }
+        bell.wait(rt, rings);
+        if have_passed(rt, begun, seconds) {
+            return;
         }
     }
 }
 
 /// Sends the unacknowledged messages to a peer, until the desk stops: again whenever a message to it was committed, and
 /// every `LONGEST_QUIET` seconds, so that a message that wasn't received is sent again also where nothing happens at the
-/// node.
+/// node. Where a round ends because no connection could be made, the next one begins after a pause: of one second after
+/// the first such round, and of twice as long after each further one in a row, up to 60 seconds. A connection that was
+/// made ends the row.
 pub(crate) fn send_all<O: Opening, C: NodeCore, N: NodeTypes, R: Wait + SystemClock>(
     rt: &R,
     alloc: Global,
@@ -53,6 +105,7 @@ pub(crate) fn send_all<O: Opening, C: NodeCore, N: NodeTypes, R: Wait + SystemCl
     ensures { AreOfThread (N.Dialer.leads network.now.dialer) N.Dialer.Reader.remaining N.Dialer.Writer.contents
         N.Store.NodeStore O.opened (N.Clock.tells network.now.clock) seat.new }
 {
+    let mut patience = Patience::new();
     for _ in rt.forever() {
         let bell = station.desk.bells().of_peer(peer);
         // Read before the desk is looked at, so that no ring between the two is missed.
@@ -60,7 +113,9 @@ pub(crate) fn send_all<O: Opening, C: NodeCore, N: NodeTypes, R: Wait + SystemCl
         if !station.desk.is_running(rt) {
             break;
         }
-        send_round(rt, alloc, station, network, peer, seat);
-        bell.wait(rt, rings);
+        match send_round(rt, alloc, station, network, peer, seat, &mut patience) {
+            RoundEnd::Done => bell.wait(rt, rings),
+            RoundEnd::Unreachable => pause(rt, &station.desk, bell, patience.pause()),
+        }
     }
 }

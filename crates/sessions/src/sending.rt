@@ -20,9 +20,11 @@ pub enum Sent {
     /// The peer replied that it received the message with that key, and the desk was given its acknowledgement. A desk
     /// that has stopped, or is out of memory, doesn't take it, and the message stays unacknowledged.
     Received(usize),
-    /// The message with that key goes unacknowledged: no connection could be made, the exchange ended in another way,
-    /// or the key has too many digits to be acknowledged.
+    /// A connection was made, and the message with that key goes unacknowledged: the exchange ended in another way, or
+    /// the key has too many digits to be acknowledged.
     NotReceived(usize),
+    /// No connection could be made, and the message with that key goes unacknowledged.
+    Unreachable(usize),
     /// Out of memory.
     NoMemory,
 }
@@ -73,8 +75,9 @@ fn send<O: Opening, C: NodeCore, S: NodeStore, B: Bell, D: Dial, R: Wait>(
 {
     match deliver(alloc, dial, peer, key, message) {
         Ok(delivered) => acknowledge(rt, desk, seat, &delivered),
+        Err(Undelivered::NoConnection) => Sent::Unreachable(key),
         Err(Undelivered::Ended(Exchange::NoMemory)) => Sent::NoMemory,
-        Err(_) => Sent::NotReceived(key),
+        Err(Undelivered::Ended(_)) => Sent::NotReceived(key),
     }
 }
 

@@ -1,5 +1,6 @@
 //! The threads of a node that serve sessions.
-ghost use Rattle.std.specs.Prelude.{◌≡◌};
+ghost use Rattle.std.specs.Prelude.{◌≡◌, IfSome};
+ghost use Rattle.sessions.specs.Serving.{IsRepliedTo};
 
 use crate::connections::{Accepted, Listen};
 use crate::network::NodeTypes;
@@ -9,7 +10,7 @@ use crate::workers::{Errand, WorkersAnswerer};
 use crossbeam_channel::Sender;
 use desk::stores::NodeStore;
 use desk::{Bell, Desk, Opening, Seat};
-use exchanges::{Counted, serve_session};
+use exchanges::{Counted, SessionEnd, serve_session};
 use protocol::NodeCore;
 use std::alloc::Global;
 use std::io::{Read, Write};
@@ -58,8 +59,12 @@ fn stop_or_pause<O: Opening, C: NodeCore, S: NodeStore, B: Bell, R: Wait + Syste
     }
 }
 
-/// Serves one connection to its end. It ends where the desk has stopped, at the next read, and where a line takes too
-/// long. The seat has kept the receipts of what was answered.
+/// Serves one connection to its end. It ends where the desk has stopped, at the next read, and where a line or the
+/// session takes too long or has too many lines, as `WatchedReader` has it. The seat has kept the receipts of what was
+/// answered.
+///
+/// Returns the connection where its stream ended after a line or was empty, and each line was replied to. Any other one
+/// is dropped.
 fn serve_one<
     O: Opening,
     C: NodeCore,
@@ -76,17 +81,25 @@ fn serve_one<
     writer: Wr,
     errands: &Sender<Errand>,
     seat: &mut Seat,
-)
-    ensures { seat.new.tickets ≡ seat.old.tickets }
+) -> Option<(Rd, Wr)>
+    ensures kept { seat.new.tickets ≡ seat.old.tickets }
+    ensures replied { IfSome result
+        (λ back. IsRepliedTo Rd.remaining Wr.contents reader writer back.0 back.1) }
 {
     let mut reader = Counted::new(WatchedReader::new(rt, desk, reader));
     let mut writer = Counted::new(writer);
     let mut answerer = WorkersAnswerer::new(rt, alloc, desk, errands);
-    let _end = serve_session(alloc, &mut reader, &mut writer, &mut answerer);
+    let end = serve_session(alloc, &mut reader, &mut writer, &mut answerer);
     answerer.confirm_all(seat);
+    drop(answerer);
+    match end {
+        SessionEnd::PeerEnded => Some((reader.into_inner().into_inner(), writer.into_inner())),
+        _ => None,
+    }
 }
 
-/// Accepts connections and serves each to its end, until the desk stops. It stops the desk where `MOST_FAILED_ACCEPTS`
+/// Accepts connections and serves each to its end, until the desk stops. One whose stream ended after a line is given
+/// back to the listener. It stops the desk where `MOST_FAILED_ACCEPTS`
 /// accepts in a row failed, at all session threads together. One to which nobody came is none of them, and doesn't end
 /// the row.
 ///
@@ -109,7 +122,10 @@ pub(crate) fn serve_all<O: Opening, C: NodeCore, N: NodeTypes, R: Wait + SystemC
         match station.listener.accept() {
             Accepted::Connection(reader, writer) => {
                 *failures.lock(rt) = 0;
-                serve_one(rt, alloc, &station.desk, reader, writer, errands, seat);
+                let served = serve_one(rt, alloc, &station.desk, reader, writer, errands, seat);
+                if let Some((reader, writer)) = served {
+                    station.listener.give_back(reader, writer);
+                }
             }
             Accepted::Nobody => {}
             Accepted::Failed => stop_or_pause(rt, &station.desk, failures),

@@ -1,25 +1,48 @@
-//! The reader of a session that ends with its node.
+//! The reader of a session, which ends with its node and has limits.
+ghost use Rattle.std.specs.Prelude.{◌≡◌, ◌+◌, ◌<◌, ◌≤◌, false, length, take, MatchResult};
+ghost use Rattle.std.specs.Io.{ReadsAtMost};
+ghost use Rattle.std.specs.Io.KnownBytes.{ReadConsumes};
+ghost use Rattle.sessions.specs.Serving.{newlines};
 
+use crate::elapsed::have_passed;
 use desk::stores::NodeStore;
 use desk::{Bell, Desk, Opening};
 use protocol::NodeCore;
 use std::io::{self, ErrorKind, Read};
 use std::rt::Clock as SystemClock;
 use std::sync::Wait;
-use std::time::{Duration, Instant};
+use std::time::Instant;
 
 /// How many seconds a line may take, from when its first byte was read until its newline is.
 const LONGEST_LINE_TIME: u64 = 10;
 
-/// A reader that reads on only while a desk runs, and while the line that it reads was begun no more than
-/// `LONGEST_LINE_TIME` seconds ago.
+/// How many seconds a session may last, from when its connection was accepted.
+const LONGEST_SESSION_TIME: u64 = 60;
+
+/// With how many newlines a session reads no more.
+pub const MOST_SESSION_LINES: usize = 1_024;
+
+/// How many of the bytes are newlines.
+fn newlines_in(bytes: &[u8]) -> usize
+    ensures count { result ≡ newlines bytes.now }
+    ensures bound { result ≤ length bytes.now }
+{
+    bytes.iter().filter(|byte| **byte == b'\n').count()
+}
+
+/// A reader that reads on only while a desk runs, the line that it reads was begun less than ten seconds ago, the
+/// session less than 60 seconds ago, and fewer than `MOST_SESSION_LINES` newlines were read.
 #[derive(Drop)]
-pub(crate) struct WatchedReader<'a, Rd, O: Opening, C: NodeCore, S: NodeStore, B: Bell, R> {
+pub struct WatchedReader<'a, Rd, O: Opening, C: NodeCore, S: NodeStore, B: Bell, R> {
     inner: Rd,
     rt: &'a R,
     desk: &'a Desk<O, C, S, B>,
+    /// When the session began, where that is known.
+    opened: Option<Instant>,
     /// When the line was begun that is being read, if one is.
     begun: Option<Instant>,
+    /// How many newlines were read.
+    lines: usize,
 }
 
 impl<'a, Rd, O: Opening, C: NodeCore, S: NodeStore, B: Bell, R: Wait + SystemClock> WatchedReader<
@@ -31,30 +54,56 @@ impl<'a, Rd, O: Opening, C: NodeCore, S: NodeStore, B: Bell, R: Wait + SystemClo
     B,
     R,
 > {
-    /// That reader, for as long as the desk runs. No line is begun.
-    pub(crate) fn new(
+    /// That reader, for a session that begins now. No line is begun, and none was read. Where the time can't be known,
+    /// the session ends at its first read.
+    pub fn new(
         rt: &'a R,
         desk: &'a Desk<O, C, S, B>,
         inner: Rd,
-    ) -> WatchedReader<'a, Rd, O, C, S, B, R> {
+    ) -> WatchedReader<'a, Rd, O, C, S, B, R>
+        ensures inner { result.inner ≡ inner }
+        ensures lines { result.lines ≡ 0 }
+    {
         WatchedReader {
             inner,
             rt,
             desk,
+            opened: Instant::now(rt).ok(),
             begun: None,
+            lines: 0,
         }
     }
 
-    /// Whether the line that is being read was begun more than `LONGEST_LINE_TIME` seconds ago. A time that can't be
+    /// The reader that was watched, as its reads left it.
+    pub fn into_inner(self) -> Rd
+        ensures { result ≡ self.entry.inner }
+    {
+        let WatchedReader {
+            inner,
+            rt: _,
+            desk: _,
+            opened: _,
+            begun: _,
+            lines: _,
+        } = self;
+        inner
+    }
+
+    /// Whether the line that is being read was begun `LONGEST_LINE_TIME` seconds ago or earlier. A time that can't be
     /// known is too long.
     fn is_late(&self) -> bool {
-        match self.begun {
-            Some(begun) => match begun.elapsed(self.rt) {
-                Ok(passed) => passed > Duration::from_secs(LONGEST_LINE_TIME),
-                Err(_) => true,
-            },
-            None => false,
-        }
+        self.begun.is_some() && have_passed(self.rt, self.begun, LONGEST_LINE_TIME)
+    }
+
+    /// Whether the session reads no more: the desk doesn't run, a line or the session takes too long, or it has read
+    /// all lines that it may. A time that can't be known is too long.
+    fn is_over(&self) -> bool
+        ensures { result ≡ false → self.now.lines < MOST_SESSION_LINES }
+    {
+        self.lines >= MOST_SESSION_LINES
+            || !self.desk.is_running(self.rt)
+            || self.is_late()
+            || have_passed(self.rt, self.opened, LONGEST_SESSION_TIME)
     }
 
     /// When the line was begun that is being read, if one is, once those bytes were read. Where the time can't be
@@ -77,13 +126,24 @@ impl<'a, Rd: Read, O: Opening, C: NodeCore, S: NodeStore, B: Bell, R: Wait + Sys
     for WatchedReader<'a, Rd, O, C, S, B, R> {
     ghost remaining = { λ w. Rd.remaining w.inner };
 
-    /// Fails with `TimedOut` where the desk doesn't run, and where the line takes too long. Nothing was read then.
-    fn read(&mut self, piece: &mut [u8]) -> io::Result<usize> {
-        if !self.desk.is_running(self.rt) || self.is_late() {
+    /// Fails with `TimedOut` where the desk doesn't run, where the line or the session takes too long, and where
+    /// `MOST_SESSION_LINES` newlines were read. Nothing was read then. The read that comes to so many returns them, and
+    /// whatever else it read at once.
+    fn read(&mut self, piece: &mut [u8]) -> io::Result<usize>
+        ensures bound { ReadsAtMost result piece.new }
+        ensures bytes { ReadConsumes (Rd.remaining self.old.inner) (Rd.remaining self.new.inner) result piece.new }
+        ensures lines { MatchResult result
+            (λ n. (self.old.lines < MOST_SESSION_LINES)
+            × (self.new.lines ≡ self.old.lines + newlines (take n piece.new)))
+            (λ _. self.new.lines ≡ self.old.lines) }
+    {
+        if self.is_over() {
             return Err(ErrorKind::TimedOut.into());
         }
         let count = self.inner.read(piece)?;
-        self.begun = self.begun_after(&piece[..count]);
+        let bytes = &piece[..count];
+        self.begun = self.begun_after(bytes);
+        self.lines += newlines_in(bytes);
         Ok(count)
     }
 }

@@ -27,7 +27,9 @@ pub(crate) struct Errand {
     back: Sender<Begun>,
 }
 
-/// Replies to the lines of one session by the workers, waits for the commits, and keeps the answers.
+/// Replies to the lines of one session by the workers, waits for the commits, and keeps the answers: each line with its
+/// receipt until the session ends. How many these are is bounded by the limits of the session, which `WatchedReader`
+/// keeps: it reads no more once it has read 1,024 newlines or has lasted 60 seconds.
 #[derive(Drop)]
 pub(crate) struct WorkersAnswerer<'a, O: Opening, C: NodeCore, S: NodeStore, B: Bell, R: Wait> {
     rt: &'a R,

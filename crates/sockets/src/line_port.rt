@@ -260,4 +260,8 @@ impl<R: Wait + SystemClock> Listen for LinePort<R> {
             None => Accepted::Failed,
         }
     }
+
+    fn give_back(&self, reader: Take<TcpStream>, writer: TcpStream) {
+        self.take_back(reader, writer);
+    }
 }

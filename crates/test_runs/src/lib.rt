@@ -32,6 +32,8 @@ mod forged_rows;
 #[cfg(test)]
 mod given;
 #[cfg(test)]
+mod given_back;
+#[cfg(test)]
 mod job_rows;
 #[cfg(test)]
 mod journals;
@@ -59,6 +61,8 @@ mod report_rows;
 mod same;
 #[cfg(test)]
 mod sent_again;
+#[cfg(test)]
+mod session_limits;
 #[cfg(test)]
 mod session_rows;
 #[cfg(test)]

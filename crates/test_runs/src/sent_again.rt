@@ -21,16 +21,17 @@ use std::sync::Wait;
 use std::sync::atomic::{AtomicU64, Ordering};
 use std::thread;
 use std::thread::Threads;
-use std::time::Duration;
+use std::time::{Duration, Instant};
 use test_support::again;
 use test_support::failing_streams::Full;
 use test_support::texts::RECEIVED;
 
-/// Connections with one peer, which replies to each message that it was received. The first ones can't be made, and
-/// none with another node.
+/// Connections with one peer, which replies to each message with these bytes. The first ones can't be made, and none
+/// with another node.
 #[derive(Drop)]
 struct FailingDial {
     peer: Node,
+    reply: &'static [u8],
     failing: u64,
     connects: AtomicU64,
 }
@@ -46,7 +47,19 @@ impl Dial for FailingDial {
         if self.connects.fetch_add(1, Ordering::SeqCst) < self.failing || self.peer != peer {
             return None;
         }
-        Some((RECEIVED, Full { room: usize::MAX }))
+        Some((self.reply, Full { room: usize::MAX }))
+    }
+}
+
+impl FailingDial {
+    /// Connections with the log, the first `failing` of which can't be made, and which has these bytes as its replies.
+    fn of_log(failing: u64, reply: &'static [u8]) -> FailingDial {
+        FailingDial {
+            peer: Node::Itl,
+            reply,
+            failing,
+            connects: AtomicU64::new(0),
+        }
     }
 }
 
@@ -118,9 +131,8 @@ fn seat_of_two(rt: &(impl Wait + Abort), alloc: Global, desk: &NodeDesk) -> Seat
     seat
 }
 
-/// Whether the node, whose two messages that seat was told of, asks for that many connections with the log, and has a
-/// record more then. `NoMemory` where memory ran out at the node, also where it did for the acknowledgement alone: only
-/// the thread that sends was told of that.
+/// Whether the node, whose two messages that seat was told of, asks for that many connections with the log, and how
+/// many records it has then. `NoMemory` where memory ran out at the node.
 fn sends_with<D, R>(
     rt: &R,
     alloc: Global,
@@ -128,7 +140,7 @@ fn sends_with<D, R>(
     dialer: D,
     seat: Seat,
     connects: u64,
-) -> Result<bool, NoMemory>
+) -> Result<(bool, usize), NoMemory>
 where
     D: Dial + Asked + Send + Sync + Drop,
     R: Threads + Wait + Clock + Abort + Sync,
@@ -137,15 +149,17 @@ where
     let (ended, are_sent) = run_and_wait(rt, alloc, &node, &network, &[Node::Itl], connects);
     drop(network);
     let (records, _) = records_of(rt, node, ended, Some(seat))?;
-    if records < 3 {
-        return Err(NoMemory);
-    }
-    Ok(are_sent)
+    Ok((are_sent, records))
 }
 
-/// Whether a node with two messages sends both, where it gets no connection the first times, and whether the first of
-/// them that was received is acknowledged then.
-fn sends_both<R>(rt: &R, alloc: Global, failing: u64) -> Result<bool, NoMemory>
+/// Whether a node with two messages asks for that many connections with the log, the first `failing` of which can't be
+/// made, and how many records it has then.
+fn sends_two<R>(
+    rt: &R,
+    alloc: Global,
+    failing: u64,
+    connects: u64,
+) -> Result<(bool, usize), NoMemory>
 where
     R: Threads + Wait + Clock + Net<Listener = TcpListener, Stream = TcpStream> + Abort + Sync,
 {
@@ -153,16 +167,25 @@ where
     let desk = desk_of(rt, alloc, nz);
     let seat = seat_of_two(rt, alloc, &desk);
     let node = node_with(nz, desk, FailingPort::open(rt, 0));
-    let dialer = FailingDial {
-        peer: Node::Itl,
-        failing,
-        connects: AtomicU64::new(0),
-    };
-    sends_with(rt, alloc, node, dialer, seat, failing.saturating_add(2))
+    let dialer = FailingDial::of_log(failing, RECEIVED);
+    sends_with(rt, alloc, node, dialer, seat, connects)
 }
 
-/// Where only the first message got no connection, it is sent again once the other one is acknowledged. Where none did,
-/// nothing is recorded, and both are sent again by themselves.
+/// Whether a node with two messages sends both, where it gets no connection the first times, and whether the first of
+/// them that was received is acknowledged then. `NoMemory` also where memory ran out for the acknowledgement alone:
+/// only the thread that sends was told of that.
+fn sends_both<R>(rt: &R, alloc: Global, failing: u64) -> Result<bool, NoMemory>
+where
+    R: Threads + Wait + Clock + Net<Listener = TcpListener, Stream = TcpStream> + Abort + Sync,
+{
+    let (are_sent, records) = sends_two(rt, alloc, failing, failing.saturating_add(2))?;
+    if records < 3 {
+        return Err(NoMemory);
+    }
+    Ok(are_sent)
+}
+
+/// A round ends with its first message where that gets no connection, and both are sent after a pause.
 #[test]
 fn what_got_no_connection_is_sent_again(rt: HostRuntime) {
     let alloc = rt.alloc();
@@ -170,6 +193,29 @@ fn what_got_no_connection_is_sent_again(rt: HostRuntime) {
         let are_sent = again!(sends_both(&rt, alloc, failing), Err(NoMemory) => ());
         assert_same(&rt, are_sent, Ok(true));
     }
+}
+
+/// Whether a node with two messages asks for a second connection with a log that is down, though not within a second,
+/// and records nothing more. `NoMemory` also where it doesn't ask for one, as where there is no thread that sends.
+fn pauses_between<R>(rt: &R, alloc: Global) -> Result<bool, NoMemory>
+where
+    R: Threads + Wait + Clock + Net<Listener = TcpListener, Stream = TcpStream> + Abort + Sync,
+{
+    let begun = Instant::now(rt).expect(rt, "a time");
+    let (are_asked, records) = sends_two(rt, alloc, u64::MAX, 2)?;
+    let passed = begun.elapsed(rt).expect(rt, "a time");
+    if !are_asked {
+        return Err(NoMemory);
+    }
+    Ok(records == 2 && passed >= Duration::from_secs(1))
+}
+
+/// Of two messages to a log that is down the first one alone is tried, and a second passes before it is tried again.
+#[test]
+fn a_peer_that_is_down_gets_one_connect_a_round(rt: HostRuntime) {
+    let alloc = rt.alloc();
+    let pauses = again!(pauses_between(&rt, alloc), Err(NoMemory) => ());
+    assert_same(&rt, pauses, Ok(true));
 }
 
 /// What becomes of the next message to the log. `NoMemory` also where it was received, and the desk found none for the
@@ -209,22 +255,21 @@ fn assert_sent(
 fn assert_next(rt: &(impl Wait + Abort), alloc: Global) -> Result<(), NoMemory> {
     let desk = desk_of(rt, alloc, registry(rt, "NZ"));
     let mut seat = Seat::new(alloc);
-    let dial = FailingDial {
-        peer: Node::Itl,
-        failing: 1,
-        connects: AtomicU64::new(0),
-    };
+    let dial = FailingDial::of_log(1, RECEIVED);
+    let silent = FailingDial::of_log(0, b"");
     drop(take(rt, alloc, &desk, &mut seat, TEN));
     assert_sent(rt, alloc, &desk, &mut seat, &dial, Sent::Nothing);
     assert_same(rt, commit(rt, &desk)?, 1);
-    assert_sent(rt, alloc, &desk, &mut seat, &dial, Sent::NotReceived(0));
+    assert_sent(rt, alloc, &desk, &mut seat, &dial, Sent::Unreachable(0));
+    assert_same(rt, dial.asked(), 1);
+    assert_sent(rt, alloc, &desk, &mut seat, &silent, Sent::NotReceived(0));
     assert_sent(rt, alloc, &desk, &mut seat, &dial, Sent::Received(0));
     assert_sent(rt, alloc, &desk, &mut seat, &dial, Sent::Nothing);
     Ok(())
 }
 
-/// The proposal isn't sent before it is committed. The first connection can't be made. Once the log has replied over
-/// the second one, the message is acknowledged.
+/// The proposal isn't sent before it is committed. The first connection can't be made, and over the second one there is
+/// no reply. Once the log has replied over the third one, the message is acknowledged.
 #[test]
 fn the_next_message_is_sent(rt: HostRuntime) {
     let alloc = rt.alloc();

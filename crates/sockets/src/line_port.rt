@@ -221,23 +221,6 @@ impl<R: Wait + SystemClock> LinePort<R> {
             Duration::from_millis(LONGEST_ACCEPT)
         }
     }
-
-    /// Takes a connection back whose line was replied to: it waits for a further line. It is closed where not all was read
-    /// that was to be, and where it can't be held.
-    pub fn take_back(&self, reader: Take<TcpStream>, writer: TcpStream) {
-        drop(writer);
-        if reader.limit() > 0 {
-            return;
-        }
-        let stream = reader.into_inner();
-        let Ok(now) = Instant::now(&self.rt) else {
-            return;
-        };
-        if stream.set_nonblocking(true).is_ok() {
-            let mut guard = self.held.lock(&self.rt);
-            self.hold(&mut guard, stream, now);
-        }
-    }
 }
 
 impl<R: Wait + SystemClock> Listen for LinePort<R> {
@@ -261,7 +244,20 @@ impl<R: Wait + SystemClock> Listen for LinePort<R> {
         }
     }
 
+    /// Takes a connection back whose line was replied to: it waits for a further line. It is closed where not all was read
+    /// that was to be, and where it can't be held.
     fn give_back(&self, reader: Take<TcpStream>, writer: TcpStream) {
-        self.take_back(reader, writer);
+        drop(writer);
+        if reader.limit() > 0 {
+            return;
+        }
+        let stream = reader.into_inner();
+        let Ok(now) = Instant::now(&self.rt) else {
+            return;
+        };
+        if stream.set_nonblocking(true).is_ok() {
+            let mut guard = self.held.lock(&self.rt);
+            self.hold(&mut guard, stream, now);
+        }
     }
 }

@@ -104,12 +104,12 @@ fn one_line_at_a_time(rt: HostRuntime) {
     let (mut reader, mut writer) = handed(&rt, &port);
     assert_reads(&rt, &mut reader, b"one\n");
     writer.write_all(b"1\n").expect(&rt, "a write");
-    port.take_back(reader, writer);
+    port.give_back(reader, writer);
     assert!(rt; handed_within(&rt, &port, 3).is_none());
     send(&rt, &mut peer, b"\nthree\n");
     let (mut reader, writer) = handed(&rt, &port);
     assert_reads(&rt, &mut reader, b"two\n");
-    port.take_back(reader, writer);
+    port.give_back(reader, writer);
     let (mut reader, writer) = handed(&rt, &port);
     assert_reads(&rt, &mut reader, b"three\n");
     drop(writer);
@@ -135,7 +135,7 @@ fn a_line_too_long(rt: HostRuntime) {
         let count = reader.read(&mut piece).expect(&rt, "a read");
         assert!(rt; &piece[..count] == read.as_bytes());
         // One that was too long isn't kept, and neither is one of which not all was read.
-        port.take_back(reader, writer);
+        port.give_back(reader, writer);
         drop(peer);
     }
     drop(port);
@@ -158,7 +158,7 @@ fn a_peer_that_ends(rt: HostRuntime) {
     peer.shutdown(Shutdown::Write).expect(&rt, "an end");
     let (mut reader, writer) = handed(&rt, &port);
     assert_reads(&rt, &mut reader, b"line\n");
-    port.take_back(reader, writer);
+    port.give_back(reader, writer);
     assert!(rt; handed_within(&rt, &port, 3).is_none());
     assert!(rt; is_closed(&mut peer));
     drop(port);

@@ -99,9 +99,8 @@ fn serve_one<
 }
 
 /// Accepts connections and serves each to its end, until the desk stops. One whose stream ended after a line is given
-/// back to the listener. It stops the desk where `MOST_FAILED_ACCEPTS`
-/// accepts in a row failed, at all session threads together. One to which nobody came is none of them, and doesn't end
-/// the row.
+/// back to the listener. It stops the desk where `MOST_FAILED_ACCEPTS` accepts in a row failed, at all session threads
+/// together. One to which nobody came is none of them, and doesn't end the row.
 ///
 /// A node has `SESSION_THREADS` threads that do so. Where the system has no thread for some of them, fewer sessions are
 /// served at a time, or none. The seat makes no record: it keeps the receipts of what the thread answered.

@@ -37,12 +37,12 @@ struct Watch {
 }
 
 /// A TCP listener that hands a connection to a session only once a whole line of it can be read at once, or the
-/// beginning of one that is too long, and for that line alone: its reader ends after the newline. `take_back` has the
+/// beginning of one that is too long, and for that line alone: its reader ends after the newline. `give_back` has the
 /// connection wait for its next line.
 ///
 /// It has up to `MOST_CONNECTIONS` connections that no session has. The one that has waited longest for a line is closed
 /// for a further one. One that ends or fails is closed, and so is one whose line isn't whole `LONGEST_LINE_TIME` seconds
-/// after it was accepted or taken back.
+/// after it was accepted or given back.
 ///
 /// An accept waits for 100 milliseconds at most, and does a limited part of what there is to do, so that it returns
 /// whatever comes. Several threads may call it: one waits for all, and the others for it.

@@ -1,0 +1,3 @@
+pub mod FirstLines
+pub mod Senders
+pub mod GivenOut

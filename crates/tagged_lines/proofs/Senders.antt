@@ -123,7 +123,7 @@ pub right_line : (line digits text tag : List ℕ) (sender : NodeKey) (node : No
 right_line line digits text tag sender node s written is =
     s.whole ∙ ap (λ (d : List ℕ). d ++ 32 ∷ text) (written ∙ ap hex_text is) ∙ ap (right sender node) (sym (behind_tag line digits text s))
 
-front_of : (n : ℕ) (xs ys : List ℕ) → length xs ≡ n → take n (xs ++ ys) ≡ xs
+pub front_of : (n : ℕ) (xs ys : List ℕ) → length xs ≡ n → take n (xs ++ ys) ≡ xs
 front_of n xs ys e = ap (λ (k : ℕ). take k (xs ++ ys)) (sym e) ∙ take-append_seam xs ys
 
 pub wrong_line : (line digits text tag : List ℕ) (sender : NodeKey) (node : Node) → IsSplit line digits text → (digits ≡ hex_text tag → ⊥) → tag ≡ message_tag sender.key sender.node node text → line ≡ right sender node (drop (tag_digits + 1) line) → ⊥
@@ -166,6 +166,7 @@ module _ (keys : List NodeKey) (node : Node) (line : List ℕ) where
           → (sender : NodeKey) × (sender_of keys text ≡ Some sender) × (line ≡ right sender node text) × (t ≡ text)
       test sender found true is e = (sender, found, is refl, cc (e))
       test sender found false is e = absurd (cc (e))
+
       go : (o : Option NodeKey) → sender_of keys text ≡ o → opens o ≡ Some t → (sender : NodeKey) × (sender_of keys text ≡ Some sender) × (line ≡ right sender node text) × (t ≡ text)
       go None found e = absurd (cc (e))
       go (Some sender) found e = test sender found (bytes_eq line (right sender node text)) (bytes_eq-Decides line (right sender node text)).0 e

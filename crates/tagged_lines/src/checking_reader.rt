@@ -91,7 +91,11 @@ impl<'k, R: Drop> CheckingReader<'k, R> {
     /// # Errors
     ///
     /// Fails with `NoMemory` where memory ran out.
-    pub fn new(alloc: Global, inner: R, sent: MessageCell<'k>) -> Result<CheckingReader<'k, R>, NoMemory>
+    pub fn new(
+        alloc: Global,
+        inner: R,
+        sent: MessageCell<'k>,
+    ) -> Result<CheckingReader<'k, R>, NoMemory>
         ensures { IfOk result (λ r. r ≡ inner) }
     {
         let line = Vec::with_capacity(alloc, LONGEST_TAGGED_REPLY + 1)?;

@@ -14,6 +14,6 @@ mod sending;
 pub use checking_reader::CheckingReader;
 pub use laws::given_has_tag;
 pub use message::{KeyedMessage, MessageCell};
-pub use reply_writer::ReplyWriter;
 pub use message_writer::MessageWriter;
 pub use opening_reader::{OpeningReader, Stage};
+pub use reply_writer::ReplyWriter;

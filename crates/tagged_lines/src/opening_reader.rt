@@ -174,7 +174,13 @@ impl<'k, R: Read> Read for OpeningReader<'k, R> {
                 Err(ErrorKind::Interrupted.into())
             }
             Stage::Whole => {
-                let Ok(at) = open_line(self.alloc, self.keys, self.node, &mut self.line, &self.heard) else {
+                let Ok(at) = open_line(
+                    self.alloc,
+                    self.keys,
+                    self.node,
+                    &mut self.line,
+                    &self.heard,
+                ) else {
                     return Err(ErrorKind::OutOfMemory.into());
                 };
                 self.stage = Stage::Giving(at);

@@ -42,7 +42,11 @@ impl<'k, W: Drop> ReplyWriter<'k, W> {
     /// # Errors
     ///
     /// Fails with `NoMemory` where memory ran out.
-    pub fn new(alloc: Global, inner: W, heard: MessageCell<'k>) -> Result<ReplyWriter<'k, W>, NoMemory>
+    pub fn new(
+        alloc: Global,
+        inner: W,
+        heard: MessageCell<'k>,
+    ) -> Result<ReplyWriter<'k, W>, NoMemory>
         ensures { IfOk result (λ w. w ≡ inner) }
     {
         let line = Vec::with_capacity(alloc, LONGEST_REPLY + 1)?;
@@ -81,7 +85,12 @@ impl<'k, W: Write> Write for ReplyWriter<'k, W> {
             Added::Whole => {
                 self.closed = true;
                 let taken = self.line.len() - before + 1;
-                let sent = send_reply(&mut self.inner, &mut self.out, self.heard.get(), self.line.as_slice());
+                let sent = send_reply(
+                    &mut self.inner,
+                    &mut self.out,
+                    self.heard.get(),
+                    self.line.as_slice(),
+                );
                 if sent.is_err() {
                     return Err(ErrorKind::WriteZero.into());
                 }

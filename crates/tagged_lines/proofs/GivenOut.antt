@@ -1,10 +1,8 @@
 -- Each line that is given out is empty, or the bytes begin with it behind its tag.
-use Rattle.std.proofs.Common.{◌≡◌, ℕ, ◌+◌, ◌⊎◌, inl, inr, leb, eqb, Bool, true, false, cond, List, [], ◌∷◌, ◌++◌, Option, Some, None, length, drop, refl, sym, ap, subst, ◌∙◌, arith}
+use Rattle.std.proofs.Common.{◌≡◌, ℕ, ◌+◌, ◌⊎◌, inl, inr, leb, eqb, Bool, true, false, cond, List, [], ◌∷◌, ◌++◌, Option, Some, None, length, drop, refl, sym, ap, subst, ◌∙◌}
 use Rattle.std.proofs.lemmas.Bool.{eqb-true, eqb-false}
-use Rattle.std.specs.Prelude.{codes, option_map, option_and_then, unwrap_or}
-use Rattle.serde_json.specs.Data.{Data, string}
+use Rattle.std.specs.Prelude.{option_map, option_and_then, unwrap_or}
 use Rattle.serde_json.specs.Find.{as_str}
-use Rattle.json_fields.specs.Fields.{text_at}
 use Rattle.streams.specs.Lines.{HasNoNewline}
 use Rattle.units.proofs.Cuts.{cut_once}
 use Rattle.units.specs.Code.{node_text}

@@ -1,6 +1,5 @@
 -- Replies behind their tags.
-use Rattle.std.proofs.Common.{◌≡◌, ℕ, ◌+◌, ◌≤◌, List, [], ◌∷◌, ◌++◌, length, take, drop, sym, ap, subst, ◌∙◌, arith, length-append}
-use Rattle.units.specs.Code.{node_text}
+use Rattle.std.proofs.Common.{◌≡◌, ℕ, ◌+◌, List, [], ◌∷◌, ◌++◌, length, take, sym, ap, ◌∙◌, arith, length-append}
 use Rattle.tags.proofs.TagLengths.{tag_length}
 use Rattle.tags.specs.Tags.{IsSplit, hex_text, tagged, direction, tag_digits}
 use Rattle.tagged_lines.proofs.Senders.{behind_tag, front_of}

@@ -1,5 +1,5 @@
 -- What is given out of the bytes of a connection whose first line has to be a message with its tag.
-use Rattle.std.specs.Prelude.{◌≡◌, ℕ, ◌+◌, List, [], ◌∷◌, ◌++◌, length, drop, codes, Bool, nat_le, if◌then◌else◌, ◌==◌, Option, None, Some, option_map, option_and_then, unwrap_or}
+use Rattle.std.specs.Prelude.{◌≡◌, ℕ, ◌+◌, List, [], ◌∷◌, ◌++◌, length, drop, codes, nat_le, if◌then◌else◌, ◌==◌, Option, None, Some, option_map, option_and_then, unwrap_or}
 use Rattle.std.specs.List.{find}
 use Rattle.std.specs.Str.{bytes_eq, is_utf8}
 use Rattle.serde_json.specs.Read.{read}

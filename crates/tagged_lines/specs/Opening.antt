@@ -1,11 +1,11 @@
 -- What a reader that opens lines with tags has left, and how it comes to it.
-use Rattle.std.specs.Prelude.{◌≡◌, ℕ, ◌≤◌, List, [], ◌∷◌, ◌++◌, length, drop, Option, None, Some, option_map}
+use Rattle.std.specs.Prelude.{◌≡◌, ℕ, ◌≤◌, List, ◌++◌, length, drop, Option, None, Some, option_map}
 use Rattle.std.specs.Io.KnownBytes.{Keeps}
-use Rattle.streams.specs.Lines.{HasNoNewline, IsWithin}
+use Rattle.streams.specs.Lines.{IsWithin}
 use Rattle.units.specs.Code.{node_text}
 use Rattle.units.specs.declared.code.Node.{Node}
-use Rattle.tags.specs.Keys.{NodeKey, key_of}
-use Rattle.tagged_lines.specs.Opened.{longest_tagged, opened, opened_line, opened_text, sender_text}
+use Rattle.tags.specs.Keys.{NodeKey}
+use Rattle.tagged_lines.specs.Opened.{longest_tagged, opened, opened_line, sender_text}
 use Rattle.tagged_lines.specs.Views.{OpeningView}
 use Rattle.tagged_lines.specs.declared.opening_reader.Stage.{Stage}
 use Rattle.tagged_lines.specs.declared.opening_reader.Stage.TheVariants.{Reading, Whole, Giving}

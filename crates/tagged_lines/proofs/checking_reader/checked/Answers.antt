@@ -1,4 +1,4 @@
-use Rattle.std.proofs.Common.{◌≡◌, List, ℕ, subst, ap}
+use Rattle.std.proofs.Common.{subst}
 use Rattle.tagged_lines.specs.Sent.{IsTaggedReply}
 use Rattle.tagged_lines.proofs.Replies.{fits_reply}
 use Rattle.tagged_lines.proofs.checking_reader.checked.Goals as goal

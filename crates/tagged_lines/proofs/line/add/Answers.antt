@@ -1,4 +1,4 @@
-use Rattle.std.proofs.Common.{ℕ, ◌+◌, take, drop}
+use Rattle.std.proofs.Common.{◌+◌, take, drop}
 use Rattle.tagged_lines.proofs.FirstLines.{cut_front, whole_front, added_whole, added_more}
 use Rattle.tagged_lines.proofs.line.add.Goals as goal
 

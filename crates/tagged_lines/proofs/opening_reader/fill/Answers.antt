@@ -1,4 +1,4 @@
-use Rattle.std.proofs.Common.{◌≡◌, ℕ, List, [], Option, length, take, refl, subst, sym, arith}
+use Rattle.std.proofs.Common.{ℕ, List, length, take, refl, subst, sym, arith}
 use Rattle.std.specs.Io.KnownBytes.{Consumes}
 use Rattle.tagged_lines.specs.Opening.{Fills}
 use Rattle.tagged_lines.specs.declared.opening_reader.Stage.TheVariants.{Giving}

@@ -1,4 +1,4 @@
-use Rattle.std.proofs.Common.{◌≡◌, ◌≤◌, ◌<◌, ◌+◌, List, ℕ, length, take, drop, subst, sym, ap, ◌∙◌, arith}
+use Rattle.std.proofs.Common.{◌+◌, List, ℕ, length, take, drop, sym, ap, ◌∙◌, arith}
 use Rattle.tagged_lines.proofs.FirstLines.{keeps_reading, gives_out, gives_end}
 use Rattle.tagged_lines.proofs.opening_reader.OpeningReaderRead.read.Goals as goal
 

@@ -184,6 +184,11 @@ fn is_given(answered: &[Answered], line: Option<&[u8]>) -> bool {
     }
 }
 
+/// Whether those bytes were written.
+fn is_written(written: &[u8], expected: &[u8]) -> bool {
+    written == expected
+}
+
 /// Serves what the peer sends at the log.
 fn served(alloc: Global, keys: &Keys, row: &Row) -> Outcome {
     let peer = Peer {
@@ -207,7 +212,8 @@ fn served(alloc: Global, keys: &Keys, row: &Row) -> Outcome {
     let written = writer.into_inner();
     match end {
         SessionEnd::PeerEnded => {
-            if is_given(taker.answered.as_slice(), row.line) && written.as_slice() == row.written {
+            let given = is_given(taker.answered.as_slice(), row.line);
+            if given && is_written(written.as_slice(), row.written) {
                 Outcome::Expected
             } else {
                 Outcome::Other

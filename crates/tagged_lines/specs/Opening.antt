@@ -1,4 +1,4 @@
--- What a reader that opens lines with tags has left, and how it comes to it.
+-- What a reader that opens lines with tags has left, and what a read leaves of it.
 use Rattle.std.specs.Prelude.{◌≡◌, ℕ, ◌≤◌, List, ◌++◌, length, drop, Option, None, Some, option_map}
 use Rattle.std.specs.Io.KnownBytes.{Keeps}
 use Rattle.streams.specs.Lines.{IsWithin}

@@ -1,0 +1,14 @@
+//! Connections whose messages and replies have tags, over any connections between nodes.
+#![tactic(auto)]
+
+mod dialer;
+mod listener;
+
+pub use dialer::TaggedDialer;
+pub use listener::TaggedListener;
+pub use tagged_lines::{CheckingReader, MessageWriter, OpeningReader, ReplyWriter};
+
+#[cfg(test)]
+mod test_lines;
+#[cfg(test)]
+mod tests;

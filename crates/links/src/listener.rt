@@ -1,0 +1,69 @@
+//! What accepts connections.
+ghost use Rattle.std.specs.Prelude.{◌≡◌, IfOk};
+
+use sessions::{Accepted, Listen};
+use std::alloc::Global;
+use std::sync::{Arc, OnceLock};
+use tagged_lines::{MessageCell, OpeningReader, ReplyWriter};
+use tags::Keys;
+use units::{NoMemory, Node};
+
+/// What accepts connections whose messages have tags under these keys. One message goes over each. Its reader gives out
+/// the message where it has its tag, and an empty line where it doesn't; its writer puts a tag before the reply to one
+/// that has. Where memory runs out, accepting a connection fails.
+#[derive(Drop)]
+pub struct TaggedListener<'k, L> {
+    inner: L,
+    keys: &'k Keys,
+    node: Node,
+    alloc: Global,
+}
+
+impl<'k, L> TaggedListener<'k, L> {
+    /// What accepts connections of `node` where that one does.
+    pub fn new(inner: L, keys: &'k Keys, node: Node, alloc: Global) -> TaggedListener<'k, L> {
+        TaggedListener {
+            inner,
+            keys,
+            node,
+            alloc,
+        }
+    }
+}
+
+/// The two directions of a connection that `node` accepted, over those.
+fn accepted<'k, R: Drop, W: Drop>(
+    alloc: Global,
+    keys: &'k Keys,
+    node: Node,
+    reader: R,
+    writer: W,
+) -> Result<(OpeningReader<'k, R>, ReplyWriter<'k, W>), NoMemory>
+    ensures reader { IfOk result (λ ends. (ends.0.inner ≡ reader) × (ends.0.keys ≡ keys.now) × (ends.0.node ≡ node)) }
+    ensures writer { IfOk result (λ ends. ends.1 ≡ writer) }
+{
+    let cell: MessageCell<'k> = Arc::new(alloc, OnceLock::new())?;
+    let heard = Arc::try_clone(&cell)?;
+    let reader = OpeningReader::new(alloc, reader, keys, node, cell)?;
+    let writer = ReplyWriter::new(alloc, writer, heard)?;
+    Ok((reader, writer))
+}
+
+impl<'k, L: Listen> Listen for TaggedListener<'k, L> {
+    type Reader = OpeningReader<'k, L::Reader>;
+
+    type Writer = ReplyWriter<'k, L::Writer>;
+
+    fn accept(&self) -> Accepted<OpeningReader<'k, L::Reader>, ReplyWriter<'k, L::Writer>> {
+        match self.inner.accept() {
+            Accepted::Connection(reader, writer) => {
+                match accepted(self.alloc, self.keys, self.node, reader, writer) {
+                    Ok((reader, writer)) => Accepted::Connection(reader, writer),
+                    Err(NoMemory) => Accepted::Failed,
+                }
+            }
+            Accepted::Nobody => Accepted::Nobody,
+            Accepted::Failed => Accepted::Failed,
+        }
+    }
+}

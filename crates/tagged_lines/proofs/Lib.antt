@@ -1,0 +1,4 @@
+pub mod FirstLines
+pub mod Senders
+pub mod GivenOut
+pub mod Replies

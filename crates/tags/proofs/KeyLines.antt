@@ -1,0 +1,177 @@
+-- Lines of a file of keys, one after another.
+use Rattle.std.proofs.Common.{◌≡◌, ℕ, suc, ◌+◌, ◌-◌, ◌<◌, ◌≤◌, inl, inr, List, [], ◌∷◌, ◌++◌, Some, None, length, get_or, take, drop, refl, sym, ap, subst, ◌∙◌, arith, add-one, append_assoc, append-nil, length-append}
+use Rattle.std.proofs.Math.Seq.{split_at}
+use Rattle.std.proofs.lemmas.Bool.{eqb-true, eq-eqb, cases_eq}
+use Rattle.std.proofs.lemmas.List.{take_all, length-drop, length-take-le, get_or-take}
+use Rattle.std.specs.List.{AllByRecursion}
+use Rattle.memchr.specs.Find.{IsFirstByte, is_byte}
+use Rattle.units.proofs.Cuts.{free_from}
+use Rattle.streams.proofs.Streams.{none_free}
+use Rattle.streams.specs.Lines.{stream_of, HasNoNewline}
+use Rattle.tags.specs.Keys.{NodeKey, key_of}
+use Rattle.tags.specs.KeysText.{HasLines, WriteKeys, AreKeys, IsKeyLine, IsKeysFault, IsLineAfter, IsFirstLine, IsLineFault, ReadsKeys, with_last, most_keys}
+use Rattle.tags.specs.declared.key_file.KeysFault.{KeysFault}
+use Rattle.tags.specs.declared.key_file.KeysFault.TheVariants.{Form, Twice, TooMany, Empty, NoMemory}
+
+-- ---- the lines of some bytes
+
+with_last_front : (l : List ℕ) (ended : List (List ℕ)) (last : List ℕ) → l ∷ with_last ended last ≡ with_last (l ∷ ended) last
+with_last_front l ended [] = refl
+with_last_front l ended (b ∷ bs) = refl
+
+lines_front : (line rest : List ℕ) → HasNoNewline line → (bytes : List ℕ) → bytes ≡ line ++ 10 ∷ rest → IsFirstLine bytes line rest
+lines_front line rest free bytes cut lines h = record {
+  ended = line ∷ h.ended;
+  last = h.last;
+  whole = cut ∙ ap (λ (t : List ℕ). line ++ 10 ∷ t) h.whole;
+  each = (free, h.each);
+  free = h.free;
+  all = ap (λ (t : List (List ℕ)). line ∷ t) h.all ∙ with_last_front line h.ended h.last;
+}
+
+-- a byte before the bytes of some lines
+abbrev Lined : List ℕ → Type 0
+Lined bytes = (lines : List (List ℕ)) × HasLines bytes lines
+
+lined_byte : (b : ℕ) (bs : List ℕ) (ended : List (List ℕ)) (last : List ℕ) → bs ≡ stream_of ended last → AllByRecursion HasNoNewline ended → HasNoNewline last → (b ≡ 10 → ⊥) → Lined (b ∷ bs)
+lined_byte b bs [] last whole each free other =
+    ((b ∷ last) ∷ [], record { ended = []; last = b ∷ last; whole = ap (λ (t : List ℕ). b ∷ t) whole; each = tt; free = (other, free); all = refl })
+lined_byte b bs (l ∷ ls) last whole each free other =
+    (with_last ((b ∷ l) ∷ ls) last, record { ended = (b ∷ l) ∷ ls; last = last; whole = ap (λ (t : List ℕ). b ∷ t) whole; each = ((other, each.0), each.1); free = free; all = refl })
+
+-- any bytes are lines
+pub lined : (bytes : List ℕ) → Lined bytes
+lined [] = ([], record { ended = []; last = []; whole = refl; each = tt; free = tt; all = refl })
+lined (b ∷ bs) =
+    let rest = lined bs in
+    elim (cases_eq b 10) [
+      | inl newline ↦ ([] ∷ rest.0, lines_front [] bs tt (b ∷ bs) (ap (λ (n : ℕ). n ∷ bs) newline) rest.0 rest.1)
+      | inr other ↦ lined_byte b bs rest.1.ended rest.1.last rest.1.whole rest.1.each rest.1.free other
+    ]
+
+-- bytes with no line are none
+no_lines : (bytes : List ℕ) (ended : List (List ℕ)) (last : List ℕ) → bytes ≡ stream_of ended last → [] ≡ with_last ended last → bytes ≡ []
+no_lines bytes [] [] whole all = whole
+no_lines bytes (l ∷ ls) [] whole all = cc (all)
+no_lines bytes [] (b ∷ bs) whole all = cc (all)
+no_lines bytes (l ∷ ls) (b ∷ bs) whole all = cc (all)
+
+pub none_from_no_lines : (bytes : List ℕ) → HasLines bytes [] → bytes ≡ []
+none_from_no_lines bytes h = no_lines bytes h.ended h.last h.whole h.all
+
+some_lines : (bytes : List ℕ) (lines : List (List ℕ)) → 0 < length bytes → HasLines bytes lines → 0 < length lines
+some_lines bytes [] some h = let e = none_from_no_lines bytes h in absurd (omega (arith, some, ap length e))
+some_lines bytes (l ∷ ls) some h = omega arith
+
+to_the_end : (left : List ℕ) (n : ℕ) → take (length left - n) (drop n left) ≡ drop n left
+to_the_end left n = take_all (length left - n) (drop n left) (omega (arith, length-drop n left))
+
+-- no newline before the first one
+front_free : (left : List ℕ) (end : ℕ) → IsFirstByte (is_byte 10) left (Some end) → HasNoNewline (take end left)
+front_free left end first =
+    let small : length (take end left) ≡ end = length-take-le end left (omega (arith, first.0.high)) in
+    free_from 10 (take end left) (λ k h e.
+    let below : k < end = omega arith in
+    first.0.before k (omega arith) below (eq-eqb _ _ (sym (get_or-take end left k 0 below) ∙ e)))
+
+-- a newline ends the first line
+pub line_ended : (bytes : List ℕ) (end : ℕ) → IsFirstByte (is_byte 10) bytes (Some end) → IsFirstLine bytes (take end bytes) (take (length bytes - (end + 1)) (drop (end + 1) bytes))
+line_ended bytes end first =
+    let byte : get_or bytes end 0 ≡ 10 = eqb-true _ _ first.1 in
+    let after = take (length bytes - (end + 1)) (drop (end + 1) bytes) in
+    let cut : bytes ≡ take end bytes ++ 10 ∷ after =
+    split_at bytes end 0 first.0.high ∙ ap (λ b. take end bytes ++ b ∷ drop (suc end) bytes) byte ∙ ap (λ n. take end bytes ++ 10 ∷ drop n bytes) (sym (add-one end)) ∙ ap (λ r. take end bytes ++ 10 ∷ r) (sym (to_the_end bytes (end + 1))) in
+    lines_front (take end bytes) after (front_free bytes end first) bytes cut
+
+-- the only line lacks its newline
+only_line : (bytes : List ℕ) → HasNoNewline bytes → 0 < length bytes → HasLines bytes (bytes ∷ [])
+only_line [] free some = absurd (omega (arith, some))
+only_line (b ∷ bs) free some = record { ended = []; last = b ∷ bs; whole = refl; each = tt; free = free; all = refl }
+
+no_lines_of_none : (lines : List (List ℕ)) → HasLines [] lines → lines ≡ []
+no_lines_of_none lines h = go h.ended h.last h.whole h.all
+  where
+    go : (ended : List (List ℕ)) (last : List ℕ) → [] ≡ stream_of ended last → lines ≡ with_last ended last → lines ≡ []
+    go [] [] whole all = all
+    go [] (b ∷ bs) whole all = cc (whole)
+    go ([] ∷ ls) last whole all = cc (whole)
+    go ((b ∷ l) ∷ ls) last whole all = cc (whole)
+
+pub line_unended : (bytes line rest : List ℕ) → IsFirstByte (is_byte 10) bytes None → 0 < length bytes → line ≡ bytes → rest ≡ [] → IsFirstLine bytes line rest
+line_unended bytes line rest never some same end lines h =
+    let none = no_lines_of_none lines (subst (λ (t : List ℕ). HasLines t lines) end h) in
+    subst (λ (t : List (List ℕ)). HasLines bytes (line ∷ t)) (sym none) (subst (λ (t : List ℕ). HasLines bytes (t ∷ [])) (sym same) (only_line bytes (none_free bytes never) some))
+
+-- ---- keys
+
+keys_length : (earlier : List NodeKey) (lines : List (List ℕ)) (keys : List NodeKey) → WriteKeys earlier lines keys → length lines ≡ length keys
+keys_length earlier [] [] w = refl
+keys_length earlier (line ∷ lines) (entry ∷ entries) w = ap suc (keys_length (earlier ++ entry ∷ []) lines entries w.2)
+keys_length earlier [] (entry ∷ entries) w = absurd w
+keys_length earlier (line ∷ lines) [] w = absurd w
+
+write_more : (earlier : List NodeKey) (lines : List (List ℕ)) (keys : List NodeKey) (line : List ℕ) (entry : NodeKey) → WriteKeys earlier lines keys → IsKeyLine line entry → key_of (earlier ++ keys) entry.node ≡ None
+    → WriteKeys earlier (lines ++ line ∷ []) (keys ++ entry ∷ [])
+write_more earlier [] [] line entry w is new = (is, subst (λ (t : List NodeKey). key_of t entry.node ≡ None) (append-nil earlier) new, tt)
+write_more earlier (l ∷ lines) (k ∷ keys) line entry w is new =
+    (w.0, w.1, write_more (earlier ++ k ∷ []) lines keys line entry w.2 is (subst (λ (t : List NodeKey). key_of t entry.node ≡ None) (sym (append_assoc earlier (k ∷ []) keys)) new))
+write_more earlier [] (k ∷ keys) line entry w is new = absurd w
+write_more earlier (l ∷ lines) [] line entry w is new = absurd w
+
+pub reads_none : (text : List ℕ) (keys : List NodeKey) → keys ≡ [] → ReadsKeys text keys text
+reads_none text keys none = subst (λ (t : List NodeKey). ReadsKeys text t text) (sym none) (record { lines = []; before = λ others h. h; writes = tt })
+
+pub reads_next : (text : List ℕ) (keys : List NodeKey) (left line rest : List ℕ) (entry : NodeKey) → ReadsKeys text keys left → IsFirstLine left line rest → IsKeyLine line entry → key_of keys entry.node ≡ None
+    → ReadsKeys text (keys ++ entry ∷ []) rest
+reads_next text keys left line rest entry r first is new = record {
+  lines = r.lines ++ line ∷ [];
+  before = λ others h. subst (λ (t : List (List ℕ)). HasLines text t) (sym (append_assoc r.lines (line ∷ []) others)) (r.before (line ∷ others) (first others h));
+  writes = write_more [] r.lines keys line entry r.writes is new;
+}
+
+line_after : (text : List ℕ) (keys : List NodeKey) (left line rest : List ℕ) (number : ℕ) → ReadsKeys text keys left → IsFirstLine left line rest → number ≡ length keys + 1 → IsLineAfter text number keys line
+line_after text keys left line rest number r first count =
+    let after = lined rest in
+    record {
+      lines = r.lines;
+      later = after.0;
+      cut = r.before (line ∷ after.0) (first after.0 after.1);
+      writes = r.writes;
+      count = count ∙ ap (λ (n : ℕ). n + 1) (sym (keys_length [] r.lines keys r.writes));
+    }
+
+pub fault_of_line : (text : List ℕ) (keys : List NodeKey) (left line rest : List ℕ) (fault : KeysFault) → ReadsKeys text keys left → IsFirstLine left line rest → IsLineFault keys line fault → IsKeysFault text fault
+fault_of_line text keys left line rest (Form number) r first fault = (keys, line, line_after text keys left line rest number r first fault.0, fault.1)
+fault_of_line text keys left line rest (Twice number) r first fault = (keys, line, line_after text keys left line rest number r first fault.0, fault.1)
+fault_of_line text keys left line rest TooMany r first fault = absurd fault
+fault_of_line text keys left line rest Empty r first fault = absurd fault
+fault_of_line text keys left line rest NoMemory r first fault = tt
+
+pub too_many : (text : List ℕ) (keys : List NodeKey) (left : List ℕ) → ReadsKeys text keys left → 0 < length left → length keys ≡ most_keys → IsKeysFault text TooMany
+too_many text keys left r some count =
+    let others = lined left in
+    let more = some_lines left others.0 some others.1 in
+    let same = keys_length [] r.lines keys r.writes in
+    (r.lines ++ others.0, r.before others.0 others.1, omega (arith, length-append r.lines others.0, more, same, count))
+
+all_lines : (text : List ℕ) (keys : List NodeKey) (left : List ℕ) (r : ReadsKeys text keys left) → length left ≡ 0 → HasLines text r.lines
+all_lines text keys [] r none = subst (λ (t : List (List ℕ)). HasLines text t) (append-nil r.lines) (r.before [] (record { ended = []; last = []; whole = refl; each = tt; free = tt; all = refl }))
+all_lines text keys (b ∷ bs) r none = absurd (omega (arith, none))
+
+pub no_text : (text : List ℕ) (keys : List NodeKey) (left : List ℕ) → ReadsKeys text keys left → length left ≡ 0 → keys ≡ [] → text ≡ []
+no_text text keys left r end none = go r.lines (keys_length [] r.lines keys r.writes) (all_lines text keys left r end)
+  where
+    go : (lines : List (List ℕ)) → length lines ≡ length keys → HasLines text lines → text ≡ []
+    go [] same h = none_from_no_lines text h
+    go (l ∷ ls) same h = absurd (omega (arith, same, ap length none))
+
+pub all_keys : (text : List ℕ) (keys : List NodeKey) (left : List ℕ) → ReadsKeys text keys left → length left ≡ 0 → 0 < length keys → length keys ≤ most_keys → AreKeys text keys
+all_keys text keys left r end some few =
+    let same = keys_length [] r.lines keys r.writes in
+    record {
+      lines = r.lines;
+      cut = all_lines text keys left r end;
+      writes = r.writes;
+      some = omega (arith, same, some);
+      few = omega (arith, same, few);
+    }

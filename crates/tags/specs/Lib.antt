@@ -1,0 +1,4 @@
+pub mod Hmac
+pub mod Tags
+pub mod Keys
+pub mod KeysText

@@ -9,17 +9,35 @@ use sessions::{
     Accepted, Dial, Listen, Muster, Network, NodeThreads, NodeTypes, Station, run_node,
 };
 use std::alloc::Global;
+use std::io::Read;
 use std::marker::Brand;
 use std::process::Abort;
 use std::rt::Clock;
 use std::sync::Wait;
 use std::sync::atomic::{AtomicU64, Ordering};
-use std::thread;
 use std::thread::Threads;
 use std::time::Duration;
+use std::{io, thread};
 use test_support::again;
 use test_support::failing_streams::Full;
 use world::Core;
+
+/// As many newlines as are left, one a read, and then the end.
+#[derive(Drop)]
+struct Newlines {
+    left: usize,
+}
+
+impl Read for Newlines {
+    fn read(&mut self, piece: &mut [u8]) -> io::Result<usize> {
+        if self.left == 0 || piece.is_empty() {
+            return Ok(0);
+        }
+        self.left -= 1;
+        piece[0] = b'\n';
+        Ok(1)
+    }
+}
 
 /// Accepts one connection, over which two empty lines come, and keeps how many were given back to it.
 #[derive(Drop)]
@@ -36,22 +54,23 @@ impl OneConnection {
 }
 
 impl Listen for OneConnection {
-    type Reader = &'static [u8];
+    type Reader = Newlines;
 
     type Writer = Full;
 
-    fn accept(&self) -> Accepted<&'static [u8], Full> {
+    fn accept(&self) -> Accepted<Newlines, Full> {
         if self.accepts.fetch_add(1, Ordering::SeqCst) > 0 {
             return Accepted::Nobody;
         }
-        Accepted::Connection(b"\n\n", Full { room: usize::MAX })
+        Accepted::Connection(Newlines { left: 2 }, Full { room: usize::MAX })
     }
 
-    fn give_back(&self, reader: &'static [u8], writer: Full) {
+    fn give_back(&self, reader: Newlines, writer: Full) {
         // Both replies were written, and nothing is left to be read.
-        if reader.is_empty() && writer.room == usize::MAX - 2 * REPLY {
+        if reader.left == 0 && writer.room == usize::MAX - 2 * REPLY {
             self.given_back.fetch_add(1, Ordering::SeqCst);
         }
+        drop(reader);
         drop(writer);
     }
 }
@@ -64,13 +83,13 @@ const REPLY: usize = 31;
 struct NoDial;
 
 impl Dial for NoDial {
-    type Reader = &'static [u8];
+    type Reader = Newlines;
 
     type Writer = Full;
 
     ghost leads = { λ _ _ _ _. ⊥ };
 
-    fn connect(&self, _peer: Node) -> Option<(&'static [u8], Full)> {
+    fn connect(&self, _peer: Node) -> Option<(Newlines, Full)> {
         None
     }
 }

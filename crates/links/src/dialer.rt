@@ -1,5 +1,6 @@
 //! What makes connections.
-ghost use Rattle.std.specs.Prelude.{◌≡◌, IfOk};
+ghost use Rattle.std.specs.Prelude.{◌≡◌, IfOk, Some};
+ghost use Rattle.tags.specs.Keys.{key_of};
 
 use sessions::Dial;
 use std::alloc::Global;
@@ -21,7 +22,11 @@ pub struct TaggedDialer<'k, D> {
 
 impl<'k, D> TaggedDialer<'k, D> {
     /// What makes connections for `node` as that one does.
-    pub fn new(inner: D, keys: &'k Keys, node: Node, alloc: Global) -> TaggedDialer<'k, D> {
+    pub fn new(inner: D, keys: &'k Keys, node: Node, alloc: Global) -> TaggedDialer<'k, D>
+        ensures inner { result.inner ≡ inner }
+        ensures keys { result.keys ≡ keys.entry }
+        ensures node { result.node ≡ node }
+    {
         TaggedDialer {
             inner,
             keys,
@@ -56,8 +61,10 @@ impl<'k, D: Dial> Dial for TaggedDialer<'k, D> {
 
     type Writer = MessageWriter<'k, D::Writer>;
 
-    // The connection below leads there, and the message goes there.
-    ghost leads = { λ d peer reader writer. D.leads d.inner peer reader writer.inner × (writer.to ≡ peer) };
+    // The connection below leads there, and the message goes there from the dialer's node, under the key that it shares
+    // with the peer.
+    ghost leads = { λ d peer reader writer. D.leads d.inner peer reader writer.inner × (writer.to ≡ peer)
+        × (writer.from ≡ d.node) × (key_of d.keys.now peer ≡ Some writer.key) };
 
     fn connect(
         &self,

@@ -21,7 +21,11 @@ pub struct TaggedListener<'k, L> {
 
 impl<'k, L> TaggedListener<'k, L> {
     /// What accepts connections of `node` where that one does.
-    pub fn new(inner: L, keys: &'k Keys, node: Node, alloc: Global) -> TaggedListener<'k, L> {
+    pub fn new(inner: L, keys: &'k Keys, node: Node, alloc: Global) -> TaggedListener<'k, L>
+        ensures inner { result.inner ≡ inner }
+        ensures keys { result.keys ≡ keys.entry }
+        ensures node { result.node ≡ node }
+    {
         TaggedListener {
             inner,
             keys,

@@ -39,9 +39,14 @@ def codes_in(cell):
 
 
 def named_by(fault):
-    """The topic of a fault, as `order` of `kyoto-link: line 2: order`."""
-    word = re.sub(r"^(kyoto-link: )?(line \d+: |store NZ: )?", "", fault).split()[0]
-    return "memory" if word == "out" else word
+    """The topic of a fault, as `order` of `kyoto-link: line 2: order`, or `keys` of `kyoto-link: --keys: read failed`."""
+    word = re.sub(r"^(kyoto-link: )?(line \d+: |store NZ: |fault |--)?", "", fault).split()[0].removesuffix(":")
+    return {"out": "memory", "no": "node", "the": "scheme"}.get(word, word)
+
+
+def has_own_table(name, topics):
+    """Whether the topic is a word of a scheme's or of a store's faults, which have tables of their own."""
+    return any(part.startswith(f"{name}: a fault of a s") for part in topics.get(name, []))
 
 
 def kind_of(code, order):
@@ -75,9 +80,13 @@ def parts_of(section, columns, cells, topics):
         for outcome in (code.removeprefix("N ") for code in codes_in(first)):
             for name in {outcome.split()[0], outcome.replace(" ", "-")} & topics.keys():
                 yield name, f"an outcome in a report of a run ({outcome})", [f"What was told: {row['What was told']}"]
+    elif columns == ["Answer", "When"]:
+        for answer in (code.removeprefix("N ") for code in codes_in(first)):
+            if answer.startswith("fault "):
+                yield named_by(answer), f"an answer of a node ({answer})", [f"When: {row['When']}"]
     elif columns == ["Line", "Status", "When"]:
         line = codes_in(first)[0]
-        if named_by(line) not in topics:
+        if not has_own_table(named_by(line), topics):
             yield named_by(line), f"a fault ({line}), with status {row['Status']}", [f"When: {row['When']}"]
     elif columns == ["Line", "Causes", "What to do"]:
         causes = [f"Causes ({first}): {row['Causes']}", f"What to do: {row['What to do']}"]

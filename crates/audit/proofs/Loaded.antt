@@ -14,7 +14,7 @@ use Rattle.desk.specs.Loading.{IsLoaded}
 use Rattle.command_faults.specs.Faults.{of_store}
 use Rattle.weave.proofs.Lists.{front_get}
 use Rattle.command_faults.specs.declared.fault.OpFault.{OpFault}
-use Rattle.command_faults.specs.declared.fault.OpFault.TheVariants.{Input as Line, Read, Write, Store, Stuck, Unsettled}
+use Rattle.command_faults.specs.declared.fault.OpFault.TheVariants.{Input as Line, Read, Write, Store, Stuck, Unsettled, Setup}
 use Rattle.command_faults.specs.declared.fault.OpFault.TheVariants as op
 use Rattle.stores.specs.declared.node_store.NodeStore.{Ghosts}
 use Rattle.audit.specs.Stores.{AreLoadedTo, AreUnwritten, FailsToLoad, FailsToLoadAt, IsLoadedAs, IsUnwritten}
@@ -93,3 +93,4 @@ module _ {S : Type 0} (g : Ghosts S) (scheme : Scheme) where
   fails_first ns olds news journals at n old new count below isn was all (Write k) f = absurd f
   fails_first ns olds news journals at n old new count below isn was all (Stuck m place) f = absurd f
   fails_first ns olds news journals at n old new count below isn was all (Unsettled m) f = absurd f
+  fails_first ns olds news journals at n old new count below isn was all (Setup told) f = absurd f

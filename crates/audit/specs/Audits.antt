@@ -28,7 +28,7 @@ pub record HasRun (scheme : Scheme) (journals : List (List Input)) : Type 0 wher
   pub events : List WorldEvent
   pub projects : Projects scheme events (journal_of scheme journals)
 
--- what a fault of weaving is to the command; no public contract cites it
+-- what a fault of weaving is to the command
 abbrev pub of_weaving : WeaveFault → OpFault
 of_weaving (weaving.Stuck n place) = Stuck n place
 of_weaving weaving.NoMemory = NoMemory

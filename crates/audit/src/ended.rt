@@ -29,8 +29,13 @@ pub struct EndedNode<S: NodeStore> {
     pub seats: Vec<Seat>,
 }
 
-/// Settles a node under the scheme. Returns its core, with the committed records.
-fn settle_node(
+/// Settles a node under the scheme: whether what these seats were told is what one thread alone would have been told.
+/// Returns a core that has recorded the committed records.
+///
+/// # Errors
+///
+/// Fails with `Unsettled` where they were told something else, and with `NoMemory` where memory ran out.
+pub fn settle_node(
     alloc: Global,
     scheme: &Scheme,
     node: Node,

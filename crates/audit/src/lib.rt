@@ -9,6 +9,6 @@ mod loading;
 
 pub use auditing::{audit, audit_watched, fault_of, load_run, read_first};
 pub use cutting::audit_cut;
-pub use ended::{EndedNode, report_run, table_of_ended};
+pub use ended::{EndedNode, report_run, settle_node, table_of_ended};
 pub use loading::load_cores;
 pub use report::Form;

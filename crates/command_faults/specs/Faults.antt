@@ -8,7 +8,8 @@ use Rattle.stores.specs.declared.fault.StoreFault.TheVariants as store_faults
 use Rattle.command_faults.specs.declared.fault.Cause.{Cause}
 use Rattle.command_faults.specs.declared.fault.Cause.TheVariants.{NotJson, Shape, TooMany, TooFew, CodeTwice, AccountTwice, UnknownAccount, AllotmentOverlap, Order, Truncated, TooLong}
 use Rattle.command_faults.specs.declared.fault.OpFault.{OpFault}
-use Rattle.command_faults.specs.declared.fault.OpFault.TheVariants.{Input, Read, Write, Store, Stuck, Unsettled, NoMemory}
+use Rattle.command_faults.specs.declared.fault.OpFault.TheVariants.{Input, Read, Write, Store, Stuck, Unsettled, Setup, NoMemory}
+use Rattle.command_faults.specs.SetupFaults.{setup_fault_status, setup_fault_text}
 use Rattle.streams.specs.declared.whole.ReadFault.{ReadFault}
 use Rattle.streams.specs.declared.whole.ReadFault.TheVariants as reading
 
@@ -33,6 +34,7 @@ op_fault_text (Write count) = codes "write failed after " ++ decimal count ++ co
 op_fault_text (Store node fault) = codes "store " ++ node_text node ++ codes ": " ++ fault_text fault
 op_fault_text (Stuck node place) = codes "stuck at " ++ node_text node ++ codes " " ++ decimal place
 op_fault_text (Unsettled node) = codes "unsettled " ++ node_text node
+op_fault_text (Setup fault) = setup_fault_text fault
 op_fault_text NoMemory = codes "out of memory"
 
 -- what a fault of a reader is to a command
@@ -45,7 +47,7 @@ abbrev pub of_store : Node → StoreFault → OpFault
 of_store node store_faults.NoMemory = NoMemory
 of_store node fault = Store node fault
 
--- 1: the journals are of no run, or what a node's threads were told isn't what one thread would have been told; 3: the input, or what it came by; 4: a store; 5: memory
+-- 1: the journals are of no run, or what a node's threads were told isn't what one thread would have been told; 2, 3 or 4: a node's setup; 3: the input, or what it came by; 4: a store; 5: memory
 abbrev pub exit_status : OpFault → ℕ
 exit_status (Input line cause) = 3
 exit_status Read = 3
@@ -53,4 +55,5 @@ exit_status (Write count) = 3
 exit_status (Store node fault) = 4
 exit_status (Stuck node place) = 1
 exit_status (Unsettled node) = 1
+exit_status (Setup fault) = setup_fault_status fault
 exit_status NoMemory = 5

@@ -3,6 +3,7 @@
 ghost use Rattle.std.specs.Prelude.{◌≡◌};
 ghost use Rattle.command_faults.specs.Faults.{exit_status, of_store};
 
+use crate::setup_fault::SetupFault;
 use std::error::Error;
 use std::fmt;
 use stores::StoreFault;
@@ -77,6 +78,8 @@ pub enum OpFault {
     /// What the threads of that node were told isn't what one thread alone would have been told, or its journal isn't
     /// recorded under the scheme.
     Unsettled { node: Node },
+    /// A node that is to stand alone can't be set up, for that fault.
+    Setup(SetupFault),
     /// Out of memory.
     NoMemory,
 }
@@ -95,6 +98,7 @@ impl fmt::Display for OpFault {
             OpFault::Store { node, fault } => write!(f, "store {node}: {fault}"),
             OpFault::Stuck { node, place } => write!(f, "stuck at {node} {place}"),
             OpFault::Unsettled { node } => write!(f, "unsettled {node}"),
+            OpFault::Setup(fault) => write!(f, "{fault}"),
             OpFault::NoMemory => write!(f, "out of memory"),
         }
     }
@@ -109,6 +113,16 @@ impl From<NoMemory> for OpFault {
 
     fn from(_: NoMemory) -> OpFault {
         OpFault::NoMemory
+    }
+}
+
+impl From<SetupFault> for OpFault {
+    ghost use Rattle.command_faults.specs.declared.fault.OpFault.TheVariants as faults;
+
+    ghost from_gives = { λ f e. e ≡ faults.Setup f };
+
+    fn from(fault: SetupFault) -> OpFault {
+        OpFault::Setup(fault)
     }
 }
 
@@ -144,6 +158,7 @@ impl OpFault {
             OpFault::Stuck { .. } | OpFault::Unsettled { .. } => 1,
             OpFault::Input { .. } | OpFault::Read | OpFault::Write(_) => 3,
             OpFault::Store { .. } => 4,
+            OpFault::Setup(fault) => fault.status(),
             OpFault::NoMemory => 5,
         }
     }

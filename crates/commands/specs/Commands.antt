@@ -22,10 +22,10 @@ use Rattle.rehearse.specs.Rehearsal.{FailsSo, Reports}
 use Rattle.rehearse.specs.Report.{IsReport}
 use Rattle.chart.specs.Chart.{IsChart}
 use Rattle.operator.specs.Show.{FailsToShow, shown}
-use Rattle.operator.specs.declared.command_line.Action.{Action}
-use Rattle.operator.specs.declared.command_line.Action.TheVariants.{Rehearse, Chart, Show, Audit, Events, Trace, Explain, Run}
-use Rattle.operator.specs.declared.command_line.Extent.{Extent}
-use Rattle.operator.specs.declared.command_line.Extent.TheVariants.{Furthest, Whole}
+use Rattle.operator.specs.declared.actions.Action.{Action}
+use Rattle.operator.specs.declared.actions.Action.TheVariants.{Rehearse, Chart, Show, Audit, Events, Trace, Explain, Run, Node as Alone}
+use Rattle.operator.specs.declared.actions.Extent.{Extent}
+use Rattle.operator.specs.declared.actions.Extent.TheVariants.{Furthest, Whole}
 use Rattle.audit.specs.Audits.{Audits, FailsToAudit, FailsToFindRun, HasRun}
 use Rattle.audit.specs.Cuts.{CutsOff, FailsToCutOff}
 use Rattle.audit.specs.Stores.{AreLoaded, AreUnwritten}
@@ -36,6 +36,7 @@ use Rattle.input_lines.specs.declared.script_line.ScriptLine.{ScriptLine}
 use Rattle.audit.specs.Ended.{states_of}
 use Rattle.run.specs.Runs.{FailsToRun, HaveEnded, IsLoadedAmong, IsRunReport}
 use Rattle.commands.specs.Opened.{AreStoresIn, FailsToOpen, HasScheme, HasScript, IsShut, IsStoreIn, LacksFolder, LacksScheme, LacksScript}
+use Rattle.commands.specs.Standing.{FailsToStand, StandsAlone}
 use Rattle.commands.specs.declared.archive.Archive.{Ghosts}
 
 -- ---- a run of loaded nodes
@@ -255,6 +256,7 @@ module _ {A F S : Type 0} (g : Ghosts A F S) (archive : A) (remaining : F → Op
   Performs (Trace scheme folder id form) r s v w = TracesFolder form (string_bytes scheme) (string_bytes folder) (string_bytes id) v w
   Performs (Explain topic) r s v w = (text : List ℕ) × Has topics (string_bytes topic) text × Appends v w text
   Performs (Run scheme folder script) r s v w = RunsFolder (string_bytes scheme) (string_bytes folder) (string_bytes script) v w
+  Performs (Alone words) r s v w = StandsAlone g archive remaining of words r s v w
 
   abbrev pub FailsToPerform : Action → OpFault → (r s before after : Option (List ℕ)) → Type 0
   FailsToPerform Rehearse fault r s v w = FailsSo IsReport fault r s v w
@@ -265,3 +267,4 @@ module _ {A F S : Type 0} (g : Ghosts A F S) (archive : A) (remaining : F → Op
   FailsToPerform (Trace scheme folder id form) fault r s v w = FailsToTraceFolder form (string_bytes scheme) (string_bytes folder) (string_bytes id) fault v w
   FailsToPerform (Explain topic) fault r s v w = FailsToExplain fault (string_bytes topic) v w
   FailsToPerform (Run scheme folder script) fault r s v w = FailsToRunFolder (string_bytes scheme) (string_bytes folder) (string_bytes script) fault v w
+  FailsToPerform (Alone words) fault r s v w = FailsToStand g archive remaining words fault v w

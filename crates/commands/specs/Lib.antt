@@ -1,3 +1,4 @@
 pub mod Commands
 pub mod Obeying
 pub mod Opened
+pub mod Standing

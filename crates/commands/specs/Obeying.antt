@@ -9,7 +9,7 @@ use Rattle.command_faults.specs.Faults.{exit_status}
 use Rattle.command_faults.specs.declared.fault.OpFault.{OpFault}
 use Rattle.command_faults.specs.declared.fault.OpFault.TheVariants.{NoMemory, Write}
 use Rattle.operator.specs.Words.{IsUsageFault, NamesAction, kyoto_link}
-use Rattle.operator.specs.declared.command_line.Action.{Action}
+use Rattle.operator.specs.declared.actions.Action.{Action}
 use Rattle.operator.specs.declared.command_line.UsageFault.TheVariants.{Help, Usage}
 use Rattle.commands.specs.Commands.{FailsToPerform, Performs}
 use Rattle.commands.specs.declared.archive.Archive.{Ghosts}

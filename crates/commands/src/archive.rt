@@ -1,8 +1,9 @@
 //! The files and the stores that the words of a command name.
-ghost use Rattle.std.specs.Prelude.{◌≡◌, true, false, IfErr, IfNone, IfOk, IfSome, OnOk, List, ℕ};
+ghost use Rattle.std.specs.Prelude.{◌≡◌, true, false, IfErr, IfNone, IfOk, IfSome, OnOk, List, ℕ, string_bytes};
 ghost use Rattle.stores.specs.declared.fault.StoreFault.{StoreFault as AFault};
 ghost use Rattle.units.specs.declared.code.Node.{Node as ANode};
 
+use command_faults::OpFault;
 use std::io::Read;
 use stores::{NodeStore, StoreFault};
 use units::Node;
@@ -35,6 +36,16 @@ pub trait Archive {
     /// Closing the store failed, for that fault.
     ghost unclosed: { Self → Self.Store → AFault → Type 0 };
 
+    /// The store is that of that node, and was made in a new file at that path.
+    ghost makes: { Self → List ℕ → ANode → Self.Store → Type 0 };
+
+    /// The file at that path has these bytes, and its owner alone may read and write it.
+    ghost is_private: { Self → List ℕ → List ℕ → Type 0 };
+
+    /// What is kept beside the store of that node in the folder at that path says that it is one of the scheme with that
+    /// sum.
+    ghost is_marked: { Self → List ℕ → ANode → List ℕ → Type 0 };
+
     /// Opens the file at the path, to be read. `None` where it can't be opened.
     fn open(&self, path: &str) -> Option<Self::File>
         ensures some { IfSome result (opens self.now path.now) }
@@ -65,4 +76,38 @@ pub trait Archive {
     fn close(&self, store: Self::Store) -> Result<(), StoreFault>
         ensures closes { OnOk result (closes self.now store) }
         ensures unclosed { IfErr result (unclosed self.now store) };
+
+    /// Makes a store of the node in a new file at the path.
+    ///
+    /// # Errors
+    ///
+    /// Fails with `Device` where there is a file at the path, and else with the store's fault.
+    fn make_store(&self, path: &str, node: Node) -> Result<Self::Store, StoreFault>
+        ensures makes { IfOk result (makes self.now path.now node) }
+        ensures whose { IfOk result (λ s. Self.Store.whose s ≡ node) };
+
+    /// The bytes of the file at the path, which its owner alone may read and write.
+    ///
+    /// # Errors
+    ///
+    /// Fails with `Setup` of `KeysUnread` where the file can't be read, and of `KeysShared` where others than its owner
+    /// may read or write it; and with `NoMemory` where memory ran out.
+    fn read_keys(&self, path: &str) -> Result<Vec<u8>, OpFault>
+        ensures { IfOk result (λ bytes. is_private self.now path.now bytes.items) };
+
+    /// The sum of a scheme that is kept beside the store of the node in the folder, if one is.
+    ///
+    /// # Errors
+    ///
+    /// Fails with `Setup` of `SchemeSum` where it can't be read, and with `NoMemory` where memory ran out.
+    fn kept_sum(&self, folder: &str, node: Node) -> Result<Option<String>, OpFault>
+        ensures { IfOk result (λ kept. IfSome kept (λ sum. is_marked self.now folder.now node (string_bytes sum))) };
+
+    /// Keeps the sum of a scheme beside the store of the node in the folder, where none is kept.
+    ///
+    /// # Errors
+    ///
+    /// Fails with `Setup` of `SchemeSum` where it can't be kept, and with `NoMemory` where memory ran out.
+    fn keep_sum(&self, folder: &str, node: Node, sum: &str) -> Result<(), OpFault>
+        ensures { OnOk result (is_marked self.now folder.now node sum.now) };
 }

@@ -2,11 +2,14 @@
 #![tactic(auto)]
 
 mod archive;
+mod exports;
 mod obeying;
 mod opening;
 mod performing;
+mod port_nodes;
 mod progress;
 mod running;
+mod standing;
 
 pub use archive::Archive;
 pub use obeying::{Ended, obey};

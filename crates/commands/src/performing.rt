@@ -7,6 +7,7 @@ use crate::archive::Archive;
 use crate::opening::{find_folder, open_store, open_stores, scheme_at};
 use crate::progress::Progress;
 use crate::running::run_folder;
+use crate::standing::stand_alone;
 use audit::{audit_cut, audit_watched};
 use chart::chart;
 use command_faults::{Cause, OpFault, node_of};
@@ -228,8 +229,7 @@ fn trace_folder<A: Archive, W: Write, P: Progress>(
 /// # Errors
 ///
 /// Fails with the first fault, in the order in which the command looks at what its words name. Nothing is written then,
-/// but where the output failed, and but for the answers of a script and a table that were written before a store failed
-/// to close.
+/// except where the output failed, and except for what a run or a node that stands alone has written before it failed.
 pub(crate) fn perform<A, I, W, P, R>(
     rt: &R,
     alloc: Global,
@@ -326,5 +326,6 @@ where
             writer,
             progress,
         ),
+        Action::Node(words) => stand_alone(rt, alloc, archive, words, reader, writer),
     }
 }

@@ -1,7 +1,7 @@
 -- The first fault of a script, at the line that is next.
 use Rattle.std.proofs.Common.{◌≡◌, ◌<◌, ◌+◌, ◌∙◌, ℕ, List, length}
 use Rattle.command_faults.specs.declared.fault.OpFault.{OpFault}
-use Rattle.command_faults.specs.declared.fault.OpFault.TheVariants.{Input, Read, Write, Store, Stuck, Unsettled, NoMemory}
+use Rattle.command_faults.specs.declared.fault.OpFault.TheVariants.{Input, Read, Write, Store, Stuck, Unsettled, Setup, NoMemory}
 use Rattle.streams.specs.Inputs.{longest_input}
 use Rattle.input_lines.proofs.LinesRead.{HasReadTo, read_fault}
 use Rattle.input_lines.specs.ScriptLines.{IsScriptLine}
@@ -19,3 +19,4 @@ next_fault lines rest room number done (Write count) read some is wrong = absurd
 next_fault lines rest room number done (Store node fault) read some is wrong = absurd wrong
 next_fault lines rest room number done (Stuck node place) read some is wrong = absurd wrong
 next_fault lines rest room number done (Unsettled node) read some is wrong = absurd wrong
+next_fault lines rest room number done (Setup fault) read some is wrong = absurd wrong

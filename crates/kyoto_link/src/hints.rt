@@ -2,8 +2,8 @@
 
 use crate::scheme_hints::tell_scheme;
 use crate::system_files::SystemFiles;
-use commands::command_faults::OpFault;
-use commands::operator::Action;
+use commands::command_faults::{OpFault, SetupFault};
+use commands::operator::{Action, NodeWords};
 use commands::{Archive, scheme_at};
 use std::fs;
 use std::io::IsTerminal;
@@ -66,7 +66,50 @@ fn named_by(action: &Action) -> Option<Named<'_>> {
             id: None,
             script: Some(script.as_str()),
         }),
+        Action::Node(words) => Some(Named {
+            scheme: words.scheme.as_str(),
+            folder: words.folder.as_str(),
+            node: Some(words.node.as_str()),
+            id: None,
+            script: None,
+        }),
     }
+}
+
+/// Tells of words of a node with that fault: what they are, and what they should be.
+fn tell_setup(rt: &HostRuntime, words: &NodeWords, fault: SetupFault) {
+    let node = words.node.as_str();
+    let scheme = words.scheme.as_str();
+    let folder = words.folder.as_str();
+    let listen = words.listen.as_str();
+    let keys = match &words.keys {
+        Some(path) => path.as_str(),
+        None => "",
+    };
+    let _ = match fault {
+        SetupFault::Unknown => eprintln!(rt; "kyoto-link: {node} is no node of {scheme}"),
+        SetupFault::Listen => eprintln!(rt;
+            "kyoto-link: {listen} is no address, as 127.0.0.1:7001 is one"
+        ),
+        SetupFault::Peer => eprintln!(rt; "kyoto-link: a peer is written as ITL=127.0.0.1:7000"),
+        SetupFault::Stranger(_) | SetupFault::Missing(_) => eprintln!(rt;
+            "kyoto-link: a registry has the peer ITL, and ITL has each registry of {scheme}"
+        ),
+        SetupFault::Port => eprintln!(rt;
+            "kyoto-link: {listen} is in use, or no address of this machine"
+        ),
+        SetupFault::KeysShared => eprintln!(rt;
+            "kyoto-link: 'chmod 600 {keys}' leaves it to its owner"
+        ),
+        SetupFault::OtherScheme | SetupFault::SchemeSum => eprintln!(rt;
+            "kyoto-link: {folder}/{node}.scheme has the sum of the scheme of {folder}/{node}.db"
+        ),
+        SetupFault::KeysUnread | SetupFault::KeysLine(_) | SetupFault::NoKey(_) => eprintln!(rt;
+            "kyoto-link: {keys} has a line for each peer: its name, a space, and 64 hexadecimal digits"
+        ),
+        SetupFault::Twice(_) | SetupFault::Exposed | SetupFault::CleanUp | SetupFault::NotTheLog =>
+            { eprintln!(rt; "kyoto-link: 'kyoto-link node --help' tells what words it takes") }
+    };
 }
 
 /// Names what could not be read: it is tried once more, in the order in which the commands read.
@@ -88,9 +131,12 @@ fn tell_unread(rt: &HostRuntime, named: &Named<'_>) {
         let _ = eprintln!(rt; "kyoto-link: {} is no folder", named.folder);
         return;
     }
-    let _ = eprintln!(rt;
-        "kyoto-link: there is no free port of 127.0.0.1, or no file handle is left"
-    );
+    let _ = match named.node {
+        Some(_) => eprintln!(rt; "kyoto-link: standard input can't be read"),
+        None => eprintln!(rt;
+            "kyoto-link: there is no free port of 127.0.0.1, or no file handle is left"
+        ),
+    };
 }
 
 /// Writes the line of the script, which is counted from 1, after its path.
@@ -130,6 +176,9 @@ pub(crate) fn explain(rt: &HostRuntime, action: &Action, fault: OpFault) {
             "kyoto-link: there is no topic {topic}; 'kyoto-link explain --help' tells what topics are"
         );
     }
+    if let (Action::Node(words), OpFault::Setup(fault)) = (action, fault) {
+        tell_setup(rt, words, fault);
+    }
     let Some(named) = named_by(action) else {
         return;
     };
@@ -145,6 +194,6 @@ pub(crate) fn explain(rt: &HostRuntime, action: &Action, fault: OpFault) {
                 named.scheme, named.folder
             );
         }
-        OpFault::Unsettled { .. } | OpFault::Write(_) | OpFault::NoMemory => {}
+        OpFault::Unsettled { .. } | OpFault::Setup(_) | OpFault::Write(_) | OpFault::NoMemory => {}
     }
 }

@@ -6,11 +6,13 @@ ghost use Rattle.std.specs.Process.{exit_status};
 ghost use Rattle.commands.specs.Obeying.{status_of};
 
 mod hints;
+mod operator_input;
 mod scheme_hints;
 mod system_files;
 mod watching;
 
 use crate::hints::explain;
+use crate::operator_input::StandardInput;
 use crate::system_files::SystemFiles;
 use crate::watching::Terminal;
 use clap::Error;
@@ -62,17 +64,28 @@ fn report(rt: &HostRuntime, ended: &Ended) -> ExitCode
     ExitCode::from(ended.status())
 }
 
+/// Whether the words name the command `node`, which reads its operator's lines for as long as it runs.
+fn is_node(words: &[String]) -> bool {
+    match words.get(1) {
+        Some(word) => word.as_str() == "node",
+        None => false,
+    }
+}
+
 /// Does what the words ask for. `threads` is the same runtime, as one that may start threads, wait and open sockets.
 fn run<R>(rt: &HostRuntime, threads: &R, words: &[String]) -> ExitCode
 where
     R: Threads + Wait + SystemClock + Net<Listener = TcpListener, Stream = TcpStream> + Sync,
 {
+    let Ok(mut input) = StandardInput::new(rt, threads, is_node(words)) else {
+        return report(rt, &Ended::NoAction(OpFault::NoMemory));
+    };
     let ended = obey(
         threads,
         rt.alloc(),
         &SystemFiles { rt },
         words,
-        &mut rt.reader(),
+        &mut input,
         &mut io::writer(rt),
         &Terminal { rt },
     );

@@ -2,12 +2,14 @@
 
 use crate::watching::MigrationLine;
 use commands::Archive;
+use commands::command_faults::{OpFault, SetupFault};
 use protocol::units::Node;
 use sqlite::File as StoreFile;
 use std::alloc::{AllocError, Global};
-use std::fs;
 use std::fs::File;
-use std::io::IsTerminal;
+use std::io::{ErrorKind, IsTerminal, Read, Write};
+use std::os::unix::fs::PermissionsExt;
+use std::{fs, io};
 use store_files::durable::SqlStore;
 use stores::StoreFault;
 
@@ -20,6 +22,28 @@ pub(crate) struct SystemFiles<'a> {
 /// Where the node's store is.
 fn store_path(alloc: Global, folder: &str, node: Node) -> Result<String, AllocError> {
     format!(in alloc; "{folder}/{node}.db")
+}
+
+/// Where the sum of the scheme of the node's store is.
+fn sum_path(alloc: Global, folder: &str, node: Node) -> Result<String, AllocError> {
+    format!(in alloc; "{folder}/{node}.scheme")
+}
+
+/// The permissions of a file that others than its owner have.
+const OF_OTHERS: u32 = 0o077;
+
+/// Where the sum is written before it gets its place, so that it is there as a whole or not at all.
+fn new_sum_path(alloc: Global, folder: &str, node: Node) -> Result<String, AllocError> {
+    format!(in alloc; "{folder}/{node}.scheme.new")
+}
+
+/// Writes the sum, and a newline, into a file at the first path, and moves it to the second one.
+fn write_sum(rt: &HostRuntime, new: &str, path: &str, sum: &str) -> io::Result<()> {
+    let mut file = fs::create(rt, new)?;
+    file.write_all(sum.as_bytes())?;
+    file.write_all(b"\n")?;
+    file.sync_all()?;
+    fs::rename(rt, new, path)
 }
 
 /// Tells, at a terminal, that a store isn't there and is made.
@@ -48,6 +72,12 @@ impl<'a> Archive for SystemFiles<'a> {
 
     ghost unclosed = { λ _ store fault. Unit {0} };
 
+    ghost makes = { λ _ path n store. Unit {0} };
+
+    ghost is_private = { λ _ path bytes. Unit {0} };
+
+    ghost is_marked = { λ _ folder n sum. Unit {0} };
+
     fn open(&self, path: &str) -> Option<File> {
         fs::open(self.rt, path).ok()
     }
@@ -74,5 +104,64 @@ impl<'a> Archive for SystemFiles<'a> {
     /// Copies the store's log into its database file, which has all its records by itself then, and closes it.
     fn close(&self, store: SqlStore<StoreFile>) -> Result<(), StoreFault> {
         store.checkpoint()
+    }
+
+    fn make_store(&self, path: &str, node: Node) -> Result<SqlStore<StoreFile>, StoreFault> {
+        match fs::exists(self.rt, path) {
+            Ok(false) => store_files::open_path(self.rt, path, node),
+            _ => Err(StoreFault::Device),
+        }
+    }
+
+    fn read_keys(&self, path: &str) -> Result<Vec<u8>, OpFault> {
+        let unread = OpFault::Setup(SetupFault::KeysUnread);
+        let Ok(mut file) = fs::open(self.rt, path) else {
+            return Err(unread);
+        };
+        let Ok(metadata) = file.metadata() else {
+            return Err(unread);
+        };
+        if metadata.permissions().mode() & OF_OTHERS != 0 {
+            return Err(OpFault::Setup(SetupFault::KeysShared));
+        }
+        let mut bytes = Vec::new(self.rt.alloc());
+        match file.read_to_end(&mut bytes) {
+            Ok(_) => Ok(bytes),
+            Err(error) if error.kind() == ErrorKind::OutOfMemory => Err(OpFault::NoMemory),
+            Err(_) => Err(unread),
+        }
+    }
+
+    fn kept_sum(&self, folder: &str, node: Node) -> Result<Option<String>, OpFault> {
+        let Ok(path) = sum_path(self.rt.alloc(), folder, node) else {
+            return Err(OpFault::NoMemory);
+        };
+        let kept = match fs::read_to_string(self.rt, path.as_str()) {
+            Ok(kept) => kept,
+            Err(error) => {
+                return match error.kind() {
+                    ErrorKind::NotFound => Ok(None),
+                    ErrorKind::OutOfMemory => Err(OpFault::NoMemory),
+                    _ => Err(OpFault::Setup(SetupFault::SchemeSum)),
+                };
+            }
+        };
+        match String::from_str(self.rt.alloc(), kept.as_str().trim_end()) {
+            Ok(sum) => Ok(Some(sum)),
+            Err(_) => Err(OpFault::NoMemory),
+        }
+    }
+
+    fn keep_sum(&self, folder: &str, node: Node, sum: &str) -> Result<(), OpFault> {
+        let Ok(path) = sum_path(self.rt.alloc(), folder, node) else {
+            return Err(OpFault::NoMemory);
+        };
+        let Ok(new) = new_sum_path(self.rt.alloc(), folder, node) else {
+            return Err(OpFault::NoMemory);
+        };
+        match write_sum(self.rt, new.as_str(), path.as_str(), sum) {
+            Ok(()) => Ok(()),
+            Err(_) => Err(OpFault::Setup(SetupFault::SchemeSum)),
+        }
     }
 }

@@ -1,40 +1,14 @@
-//! What makes connections.
+//! Connections that are made.
 ghost use Rattle.std.specs.Prelude.{◌≡◌, IfOk, Some};
 ghost use Rattle.tags.specs.Keys.{key_of};
 
+use crate::tagged::Tagged;
 use sessions::Dial;
 use std::alloc::Global;
 use std::sync::{Arc, OnceLock};
 use tagged_lines::{CheckingReader, MessageCell, MessageWriter};
-use tags::{Key, Keys};
+use tags::Key;
 use units::{NoMemory, Node};
-
-/// What makes connections whose messages have tags under these keys. One message goes over each. Its writer puts the
-/// message's tag before it, and its reader gives out the reply where it has its tag, and fails where it doesn't. No
-/// connection is made with a node with which no key is shared, and none where memory ran out.
-#[derive(Drop)]
-pub struct TaggedDialer<'k, D> {
-    inner: D,
-    keys: &'k Keys,
-    node: Node,
-    alloc: Global,
-}
-
-impl<'k, D> TaggedDialer<'k, D> {
-    /// What makes connections for `node` as that one does.
-    pub fn new(inner: D, keys: &'k Keys, node: Node, alloc: Global) -> TaggedDialer<'k, D>
-        ensures inner { result.inner ≡ inner }
-        ensures keys { result.keys ≡ keys.entry }
-        ensures node { result.node ≡ node }
-    {
-        TaggedDialer {
-            inner,
-            keys,
-            node,
-            alloc,
-        }
-    }
-}
 
 /// The two directions of a connection from one node to another, over those.
 fn made<'k, R: Drop, W: Drop>(
@@ -56,7 +30,7 @@ fn made<'k, R: Drop, W: Drop>(
     Ok((reader, writer))
 }
 
-impl<'k, D: Dial> Dial for TaggedDialer<'k, D> {
+impl<'k, D: Dial> Dial for Tagged<'k, D> {
     type Reader = CheckingReader<'k, D::Reader>;
 
     type Writer = MessageWriter<'k, D::Writer>;

@@ -3,9 +3,9 @@
 
 mod dialer;
 mod listener;
+mod tagged;
 
-pub use dialer::TaggedDialer;
-pub use listener::TaggedListener;
+pub use tagged::Tagged;
 pub use tagged_lines::{CheckingReader, MessageWriter, OpeningReader, ReplyWriter};
 
 #[cfg(test)]

@@ -1,39 +1,13 @@
-//! What accepts connections.
+//! Connections that are accepted.
 ghost use Rattle.std.specs.Prelude.{◌≡◌, IfOk};
 
+use crate::tagged::Tagged;
 use sessions::{Accepted, Listen};
 use std::alloc::Global;
 use std::sync::{Arc, OnceLock};
 use tagged_lines::{MessageCell, OpeningReader, ReplyWriter};
 use tags::Keys;
 use units::{NoMemory, Node};
-
-/// What accepts connections whose messages have tags under these keys. One message goes over each. Its reader gives out
-/// the message where it has its tag, and an empty line where it doesn't; its writer puts a tag before the reply to one
-/// that has. Where memory runs out, accepting a connection fails.
-#[derive(Drop)]
-pub struct TaggedListener<'k, L> {
-    inner: L,
-    keys: &'k Keys,
-    node: Node,
-    alloc: Global,
-}
-
-impl<'k, L> TaggedListener<'k, L> {
-    /// What accepts connections of `node` where that one does.
-    pub fn new(inner: L, keys: &'k Keys, node: Node, alloc: Global) -> TaggedListener<'k, L>
-        ensures inner { result.inner ≡ inner }
-        ensures keys { result.keys ≡ keys.entry }
-        ensures node { result.node ≡ node }
-    {
-        TaggedListener {
-            inner,
-            keys,
-            node,
-            alloc,
-        }
-    }
-}
 
 /// The two directions of a connection that `node` accepted, over those.
 fn accepted<'k, R: Drop, W: Drop>(
@@ -53,7 +27,7 @@ fn accepted<'k, R: Drop, W: Drop>(
     Ok((reader, writer))
 }
 
-impl<'k, L: Listen> Listen for TaggedListener<'k, L> {
+impl<'k, L: Listen> Listen for Tagged<'k, L> {
     type Reader = OpeningReader<'k, L::Reader>;
 
     type Writer = ReplyWriter<'k, L::Writer>;

@@ -1,7 +1,6 @@
 //! A message and its reply over connections in memory, and lines that are forged, cut or of others.
 
-use crate::dialer::TaggedDialer;
-use crate::listener::TaggedListener;
+use crate::tagged::Tagged;
 use crate::test_lines::{
     CUT, CUT_REPLY, KEYS_OF_JP, KEYS_OF_LOG, NO_MESSAGE, NO_MESSAGE_REPLY, OTHER_KEY, OTHER_REPLY,
     RECEIVED, REFLECTED, REFUSAL, REFUSED, REPLY, RIGHT, TEXT, TURNED, TURNED_REPLY, TWICE,
@@ -195,7 +194,7 @@ fn served(alloc: Global, keys: &Keys, row: &Row) -> Outcome {
         alloc,
         bytes: row.sent,
     };
-    let listener = TaggedListener::new(peer, keys, Node::Itl, alloc);
+    let listener = Tagged::new(peer, keys, Node::Itl, alloc);
     let Accepted::Connection(mut reader, mut writer) = listener.accept() else {
         return Outcome::NoMemory;
     };
@@ -290,7 +289,7 @@ const REPLY_ROWS: [ReplyRow; 8] = [
 /// Sends the message from JP to the log.
 fn exchanged(alloc: Global, keys: &Keys, sent: &'static [u8], expected: Exchange) -> Outcome {
     let peer = Peer { alloc, bytes: sent };
-    let dialer = TaggedDialer::new(peer, keys, jp(), alloc);
+    let dialer = Tagged::new(peer, keys, jp(), alloc);
     let Ok(message) = decode(alloc, TEXT) else {
         return Outcome::NoMemory;
     };
@@ -350,7 +349,7 @@ fn no_key_makes_no_connection(rt: HostRuntime) {
             alloc,
             bytes: REPLY,
         };
-        let dialer = TaggedDialer::new(peer, &keys, Node::Itl, alloc);
+        let dialer = Tagged::new(peer, &keys, Node::Itl, alloc);
         assert!(rt; dialer.connect(Node::Itl).is_none());
     }
 }

@@ -2,11 +2,12 @@
 use Rattle.std.proofs.Common.{◌≡◌, ◌<◌, ◌+◌, ◌∙◌, ◌||◌, ℕ, List, [], false, ap, drop, get_or, length, sym, take}
 use Rattle.std.proofs.lemmas.List.{drop_more, map_more}
 use Rattle.clap.specs.Simple.{new_shape}
-use Rattle.clap.specs.Words.{AddsArg, App, rule_of, with_rule, with_subcommand}
+use Rattle.clap.specs.Words.{AddsArg, App, app_of, rule_of, with_rule, with_subcommand}
 use Rattle.clap.specs.declared.builder.arg.Arg.{Arg}
 use Rattle.clap.specs.declared.builder.command.Command.{Command}
+use Rattle.clap.specs.declared.builder.command.Command.TheViews.{out-Command}
 use Rattle.operator.specs.Subcommands.{described, rule_in, rules_of, with_all}
-use Rattle.operator.specs.Words.{IsCommand}
+use Rattle.operator.specs.Words.{IsCommand, kyoto_link, program}
 use Rattle.operator.specs.declared.command_line.Argument.{Argument}
 use Rattle.operator.specs.declared.command_line.Subcommand.{Subcommand}
 
@@ -23,7 +24,17 @@ argument_added name arguments i d old new arg lt rule local is adds = (
   adds.globals ∙ ap (λ b. b || arg.global) is.1 ∙ local,
 )
 
-pub one_more : (subcommands : List Subcommand) (i : ℕ) (d : Subcommand) (old new whole : App) → i < length subcommands
-    → with_all old (drop i subcommands) ≡ whole → new ≡ with_subcommand old (described (get_or subcommands i d)) → with_all new (drop (i + 1) subcommands) ≡ whole
-one_more subcommands i d old new whole lt so is =
-    ap (λ a. with_all a (drop (i + 1) subcommands)) is ∙ sym (ap (with_all old) (drop_more subcommands i d lt)) ∙ so
+-- the command has no global argument, and with these subcommands it is the whole program
+pub record IsWholeWith (subcommands : List Subcommand) (command : Command) : Type 0 where
+  pub whole : with_all (app_of command) subcommands ≡ kyoto_link
+  pub local : (out-Command command).has_globals ≡ false
+
+pub before_all : (subcommands : List Subcommand) (command : Command) → IsCommand program command → with_all program subcommands ≡ kyoto_link → IsWholeWith subcommands command
+before_all subcommands command is whole = record { whole = ap (λ a. with_all a subcommands) is.0 ∙ whole; local = is.1 }
+
+pub one_more : (subcommands : List Subcommand) (i : ℕ) (d : Subcommand) (old new : Command) → i < length subcommands → IsWholeWith (drop i subcommands) old
+    → IsCommand (with_subcommand (app_of old) (described (get_or subcommands i d))) new → IsWholeWith (drop (i + 1) subcommands) new
+one_more subcommands i d old new lt has is = record {
+  whole = ap (λ a. with_all a (drop (i + 1) subcommands)) is.0 ∙ sym (ap (with_all (app_of old)) (drop_more subcommands i d lt)) ∙ has.whole;
+  local = is.1;
+}

@@ -1,7 +1,7 @@
 -- The words that show a store, and words that ask for help or are wrong, computed from the definitions alone.
-use Rattle.std.proofs.Common.{◌≡◌, ℕ, List, [], ◌∷◌, Option, Some, true, refl, codes, option_and_then}
-use Rattle.clap.specs.declared.error.kind.ErrorKind.TheVariants.{DisplayHelp, DisplayVersion, InvalidSubcommand, MissingRequiredArgument, MissingSubcommand, UnknownArgument}
-use Rattle.clap.specs.Words.{first_of, is_simple, subcommand_of, takes}
+use Rattle.std.proofs.Common.{◌≡◌, ℕ, List, [], ◌∷◌, Option, Some, None, true, refl, ◌++◌, codes, option_and_then}
+use Rattle.clap.specs.declared.error.kind.ErrorKind.TheVariants.{ArgumentConflict, DisplayHelp, DisplayVersion, InvalidSubcommand, InvalidValue, MissingRequiredArgument, MissingSubcommand, UnknownArgument}
+use Rattle.clap.specs.Words.{all_of, first_of, is_simple, subcommand_of, takes}
 use Rattle.clap.proofs.OnLiterals.{clap_on_literals}
 use Rattle.operator.specs.Words.{faults_in, kyoto_link}
 
@@ -136,3 +136,74 @@ traced_id = refl
 pub topic : option_and_then (λ p. first_of (codes "TOPIC") p.1) (subcommand_of kyoto_link (codes "kyoto-link" ∷ codes "explain" ∷ codes "106" ∷ [])) ≡ Some (codes "106")
 unfolding clap_on_literals
 topic = refl
+
+-- ---- words that run one node
+
+-- the words before the options
+abbrev node_front : List (List ℕ)
+node_front = codes "kyoto-link" ∷ codes "node" ∷ codes "s.json" ∷ codes "d" ∷ codes "ITL" ∷ []
+
+abbrev listens : List (List ℕ)
+listens = codes "--listen" ∷ codes "127.0.0.1:70" ∷ []
+
+-- two peers, of which the second one comes first by name, and one of them after `=`
+abbrev has_peers : List (List ℕ)
+has_peers = codes "--peer" ∷ codes "NZ=[::1]:71" ∷ codes "--peer=JP=[::1]:72" ∷ []
+
+abbrev node_words : List (List ℕ)
+node_words = node_front ++ listens ++ has_peers
+
+abbrev node_value : List ℕ → Option (List ℕ)
+node_value name = option_and_then (λ p. first_of name p.1) (subcommand_of kyoto_link node_words)
+
+pub node_taken : takes kyoto_link node_words ≡ true
+unfolding clap_on_literals
+node_taken = refl
+
+pub node_listens : node_value (codes "listen") ≡ Some (codes "127.0.0.1:70")
+unfolding clap_on_literals
+node_listens = refl
+
+pub node_peers : option_and_then (λ p. all_of (codes "peer") p.1) (subcommand_of kyoto_link node_words) ≡ Some (codes "NZ=[::1]:71" ∷ codes "JP=[::1]:72" ∷ [])
+unfolding clap_on_literals
+node_peers = refl
+
+pub no_keys : node_value (codes "keys") ≡ None
+unfolding clap_on_literals
+no_keys = refl
+
+pub no_clean_up : node_value (codes "clean-up") ≡ None
+unfolding clap_on_literals
+no_clean_up = refl
+
+-- options may stand before the words too
+abbrev all_node_words : List (List ℕ)
+all_node_words = codes "kyoto-link" ∷ codes "node" ∷ codes "--clean-up=60" ∷ codes "s.json" ∷ codes "--keys" ∷ codes "k" ∷ codes "d" ∷ codes "ITL" ∷ listens ++ has_peers
+
+pub with_keys : option_and_then (λ p. first_of (codes "keys") p.1) (subcommand_of kyoto_link all_node_words) ≡ Some (codes "k")
+unfolding clap_on_literals
+with_keys = refl
+
+pub with_clean_up : option_and_then (λ p. first_of (codes "clean-up") p.1) (subcommand_of kyoto_link all_node_words) ≡ Some (codes "60")
+unfolding clap_on_literals
+with_clean_up = refl
+
+pub no_listen : faults_in (node_front ++ has_peers) ≡ MissingRequiredArgument ∷ []
+unfolding clap_on_literals
+no_listen = refl
+
+pub no_peer : faults_in (node_front ++ listens) ≡ MissingRequiredArgument ∷ []
+unfolding clap_on_literals
+no_peer = refl
+
+pub listens_twice : faults_in (node_words ++ listens) ≡ ArgumentConflict ∷ []
+unfolding clap_on_literals
+listens_twice = refl
+
+pub keys_twice : faults_in (all_node_words ++ codes "--keys" ∷ codes "k" ∷ []) ≡ ArgumentConflict ∷ []
+unfolding clap_on_literals
+keys_twice = refl
+
+pub clean_up_without_seconds : faults_in (node_words ++ codes "--clean-up" ∷ []) ≡ InvalidValue ∷ []
+unfolding clap_on_literals
+clean_up_without_seconds = refl

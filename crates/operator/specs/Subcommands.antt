@@ -1,16 +1,20 @@
 -- The shape of each subcommand of a table, and the program with all of them. No public contract cites it.
-use Rattle.std.specs.Prelude.{ℕ, List, [], ◌∷◌, map}
+use Rattle.std.specs.Prelude.{ℕ, List, [], ◌∷◌, false, map, true}
+use Rattle.clap.specs.declared.builder.action.ArgAction.TheVariants.{Append, Set}
 use Rattle.clap.specs.Words.{App, Rule, Shape, with_subcommand}
 use Rattle.clap.specs.Simple.{new_shape}
-use Rattle.operator.specs.Words.{flag, positional}
+use Rattle.operator.specs.Words.{flag, option, positional}
 use Rattle.operator.specs.declared.command_line.Argument.{Argument}
 use Rattle.operator.specs.declared.command_line.ArgumentKind.{ArgumentKind}
-use Rattle.operator.specs.declared.command_line.ArgumentKind.TheVariants.{Flag, Positional}
+use Rattle.operator.specs.declared.command_line.ArgumentKind.TheVariants.{Flag, Optional, Positional, Repeated, Required}
 use Rattle.operator.specs.declared.command_line.Subcommand.{Subcommand}
 
 abbrev pub rule_with : ArgumentKind → List ℕ → Rule
 rule_with Positional name = positional name
 rule_with Flag name = flag name
+rule_with (Required value) name = option name Set true
+rule_with (Repeated value) name = option name Append true
+rule_with (Optional value) name = option name Set false
 
 abbrev pub rule_in : Argument → Rule
 rule_in a = rule_with a.kind a.name.now

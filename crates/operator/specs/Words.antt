@@ -1,7 +1,8 @@
 -- What the words of a command line name, by the matches that clap gives of them.
-use Rattle.std.specs.Prelude.{◌≡◌, ◌≢◌, ◌⊎◌, ℕ, List, [], ◌∷◌, Option, Some, true, false, codes, option_and_then, option_map, string_bytes}
-use Rattle.clap.specs.Words.{App, IsAmong, Kinds, Rule, Shape, fault_of, kind_of, new_app, new_rule, with_subcommand, shape_of, subcommand_name_of, subcommand_rows_of, first_of, app_of}
-use Rattle.clap.specs.declared.builder.action.ArgAction.TheVariants.{SetTrue}
+use Rattle.std.specs.Prelude.{◌≡◌, ◌≢◌, ◌⊎◌, ℕ, Bool, List, [], ◌∷◌, Option, Some, true, false, codes, map, option_and_then, option_map, string_bytes}
+use Rattle.clap.specs.Words.{App, IsAmong, Kinds, Rule, Shape, fault_of, kind_of, new_app, new_rule, with_subcommand, shape_of, subcommand_name_of, subcommand_rows_of, all_of, first_of, app_of, first_value, matched_of, raw_values}
+use Rattle.clap.specs.declared.builder.action.ArgAction.{ArgAction}
+use Rattle.clap.specs.declared.builder.action.ArgAction.TheVariants.{Append, Set, SetTrue}
 use Rattle.clap.specs.declared.builder.command.Command.TheViews.{out-Command}
 use Rattle.clap.specs.Simple.{new_shape}
 use Rattle.clap.specs.declared.builder.command.Command.{Command}
@@ -9,10 +10,11 @@ use Rattle.clap.specs.declared.error.Error.{Error}
 use Rattle.clap.specs.declared.error.kind.ErrorKind.{ErrorKind}
 use Rattle.clap.specs.declared.error.kind.ErrorKind.TheVariants.{OutOfMemory, DisplayHelp, DisplayVersion}
 use Rattle.clap.specs.declared.parser.matches.ArgMatches.{ArgMatches}
-use Rattle.operator.specs.declared.command_line.Action.{Action}
-use Rattle.operator.specs.declared.command_line.Action.TheVariants.{Audit, Chart, Events, Explain, Rehearse, Run, Show, Trace}
-use Rattle.operator.specs.declared.command_line.Extent.{Extent}
-use Rattle.operator.specs.declared.command_line.Extent.TheVariants.{Furthest, Whole}
+use Rattle.clap.specs.declared.parser.matches.Found.{Found}
+use Rattle.operator.specs.declared.actions.Action.{Action}
+use Rattle.operator.specs.declared.actions.Action.TheVariants.{Audit, Chart, Events, Explain, Node, Rehearse, Run, Show, Trace}
+use Rattle.operator.specs.declared.actions.Extent.{Extent}
+use Rattle.operator.specs.declared.actions.Extent.TheVariants.{Furthest, Whole}
 use Rattle.report.specs.declared.form.Form.{Form}
 use Rattle.report.specs.declared.form.Form.TheVariants.{Json, Lines}
 use Rattle.operator.specs.declared.command_line.UsageFault.{UsageFault}
@@ -29,6 +31,10 @@ positional name = record (new_rule name) { required = true }
 -- a flag, which takes no value
 abbrev pub flag : List ℕ → Rule
 flag name = record (new_rule name) { long = Some name; action = Some SetTrue }
+
+-- an option, which takes a value
+abbrev pub option : List ℕ → ArgAction → Bool → Rule
+option name action required = record (new_rule name) { long = Some name; value_names = 1; action = Some action; required = required }
 
 abbrev pub show_shape : Shape
 show_shape = record (new_shape (codes "show")) { rules = positional (codes "SCHEME") ∷ positional (codes "DIR") ∷ positional (codes "NODE") ∷ flag (codes "json") ∷ [] }
@@ -48,6 +54,9 @@ explain_shape = record (new_shape (codes "explain")) { rules = positional (codes
 abbrev pub run_shape : Shape
 run_shape = record (new_shape (codes "run")) { rules = positional (codes "SCHEME") ∷ positional (codes "DIR") ∷ positional (codes "SCRIPT") ∷ [] }
 
+abbrev pub node_shape : Shape
+node_shape = record (new_shape (codes "node")) { rules = positional (codes "SCHEME") ∷ positional (codes "DIR") ∷ positional (codes "NODE") ∷ option (codes "listen") Set true ∷ option (codes "peer") Append true ∷ option (codes "keys") Set false ∷ option (codes "clean-up") Set false ∷ [] }
+
 -- the program with the subcommands that read events
 abbrev pub with_readers : App
 with_readers = with_subcommand (with_subcommand program (new_shape (codes "rehearse"))) (new_shape (codes "chart"))
@@ -58,7 +67,7 @@ with_auditors = with_subcommand (with_subcommand (with_subcommand (with_subcomma
 
 -- the program with all its subcommands
 abbrev pub kyoto_link : App
-kyoto_link = with_subcommand (with_subcommand with_auditors explain_shape) run_shape
+kyoto_link = with_subcommand (with_subcommand (with_subcommand with_auditors explain_shape) run_shape) node_shape
 
 -- the kinds of fault of which clap finds one in the words; none where it takes them
 abbrev pub faults_in : List (List ℕ) → Kinds
@@ -74,9 +83,13 @@ IsUsageFault words NoMemory = Unit {0}
 IsUsageFault words (Help e) = IsAskedFor (kind_of e) × IsAmong (kind_of e) (faults_in words)
 IsUsageFault words (Usage e) = (kind_of e ≢ OutOfMemory) × (IsAskedFor (kind_of e) → ⊥) × IsAmong (kind_of e) (faults_in words)
 
--- the value of an argument of the subcommand
+-- the first value of an argument of the subcommand, if it has one
 abbrev pub argument_of : ArgMatches → List ℕ → Option (List ℕ)
 argument_of m name = option_and_then (first_of name) (option_map (λ p. p.1) (subcommand_rows_of m))
+
+-- all its values, in the order of the words
+abbrev pub arguments_of : ArgMatches → List ℕ → Option (List (List ℕ))
+arguments_of m name = option_and_then (all_of name) (option_map (λ p. p.1) (subcommand_rows_of m))
 
 -- the value of the flag `cut`
 abbrev pub extent_word : Extent → List ℕ
@@ -89,20 +102,22 @@ form_word Lines = codes "false"
 form_word Json = codes "true"
 
 -- the words of the action are the values of the arguments
-abbrev pub HasValues : (List ℕ → Option (List ℕ)) → Action → Type 0
-HasValues value Rehearse = Unit {0}
-HasValues value Chart = Unit {0}
-HasValues value (Show scheme folder node form) =
+abbrev pub HasValues : (value : List ℕ → Option (List ℕ)) → (values : List ℕ → Option (List (List ℕ))) → Action → Type 0
+HasValues value values Rehearse = Unit {0}
+HasValues value values Chart = Unit {0}
+HasValues value values (Show scheme folder node form) =
     (value (codes "SCHEME") ≡ Some (string_bytes scheme)) × (value (codes "DIR") ≡ Some (string_bytes folder)) × (value (codes "NODE") ≡ Some (string_bytes node)) × (value (codes "json") ≡ Some (form_word form))
-HasValues value (Audit scheme folder extent form) =
+HasValues value values (Audit scheme folder extent form) =
     (value (codes "SCHEME") ≡ Some (string_bytes scheme)) × (value (codes "DIR") ≡ Some (string_bytes folder)) × (value (codes "cut") ≡ Some (extent_word extent)) × (value (codes "json") ≡ Some (form_word form))
-HasValues value (Events scheme folder form) =
+HasValues value values (Events scheme folder form) =
     (value (codes "SCHEME") ≡ Some (string_bytes scheme)) × (value (codes "DIR") ≡ Some (string_bytes folder)) × (value (codes "json") ≡ Some (form_word form))
-HasValues value (Trace scheme folder id form) =
+HasValues value values (Trace scheme folder id form) =
     (value (codes "SCHEME") ≡ Some (string_bytes scheme)) × (value (codes "DIR") ≡ Some (string_bytes folder)) × (value (codes "ID") ≡ Some (string_bytes id)) × (value (codes "json") ≡ Some (form_word form))
-HasValues value (Explain topic) = value (codes "TOPIC") ≡ Some (string_bytes topic)
-HasValues value (Run scheme folder script) =
+HasValues value values (Explain topic) = value (codes "TOPIC") ≡ Some (string_bytes topic)
+HasValues value values (Run scheme folder script) =
     (value (codes "SCHEME") ≡ Some (string_bytes scheme)) × (value (codes "DIR") ≡ Some (string_bytes folder)) × (value (codes "SCRIPT") ≡ Some (string_bytes script))
+HasValues value values (Node words) =
+    (value (codes "SCHEME") ≡ Some (string_bytes words.scheme)) × (value (codes "DIR") ≡ Some (string_bytes words.folder)) × (value (codes "NODE") ≡ Some (string_bytes words.node)) × (value (codes "listen") ≡ Some (string_bytes words.listen)) × (values (codes "peer") ≡ Some (map string_bytes words.peers.items)) × (value (codes "keys") ≡ option_map string_bytes words.keys) × (value (codes "clean-up") ≡ option_map string_bytes words.clean_up)
 
 abbrev pub command_name : Action → List ℕ
 command_name Rehearse = codes "rehearse"
@@ -113,9 +128,10 @@ command_name (Events scheme folder form) = codes "events"
 command_name (Trace scheme folder id form) = codes "trace"
 command_name (Explain topic) = codes "explain"
 command_name (Run scheme folder script) = codes "run"
+command_name (Node words) = codes "node"
 
 abbrev pub NamesAction : ArgMatches → Action → Type 0
-NamesAction m a = (subcommand_name_of m ≡ Some (command_name a)) × HasValues (argument_of m) a
+NamesAction m a = (subcommand_name_of m ≡ Some (command_name a)) × HasValues (argument_of m) (arguments_of m) a
 
 -- ---- what the code follows; no public contract cites what stands below
 
@@ -131,6 +147,10 @@ IsCommand a c = (app_of c ≡ a) × ((out-Command c).has_globals ≡ false)
 abbrev pub IsSubcommand : Shape → Command → Type 0
 IsSubcommand s c = (shape_of c ≡ s) × ((out-Command c).has_globals ≡ false)
 
--- the action is that of the subcommand with these values
-abbrev pub IsOf : List ℕ → (List ℕ → Option (List ℕ)) → Action → Type 0
-IsOf name value a = (command_name a ≡ name) × HasValues value a
+-- all values that were found of an argument
+abbrev pub all_values : Found → List ℕ → Option (List (List ℕ))
+all_values found name = option_map raw_values (matched_of found name)
+
+-- the action is that of the subcommand, with the values that were found
+abbrev pub IsOf : List ℕ → Found → Action → Type 0
+IsOf name found a = (command_name a ≡ name) × HasValues (first_value found) (all_values found) a

@@ -1,85 +1,25 @@
 //! The command line.
-ghost use Rattle.std.specs.Prelude.{◌≡◌, [], true, false, Some, IfOk, IfErr, IfSome, codes, map, string_bytes};
+ghost use Rattle.std.specs.Prelude.{◌≡◌, [], true, false, IfOk, IfErr, map};
 ghost use Rattle.clap.specs.Takes.{takes};
 ghost use Rattle.clap.specs.Values.{kind_of};
-ghost use Rattle.clap.specs.Words.{App, HasMatchesOf, first_value, found_of, rule_of, with_subcommand};
+ghost use Rattle.clap.specs.Words.{App, HasMatchesOf, rule_of, with_subcommand};
 ghost use Rattle.clap.specs.declared.error.kind.ErrorKind.TheVariants.{OutOfMemory};
 ghost use Rattle.clap.specs.declared.parser.matches.ArgMatches.{ArgMatches};
-ghost use Rattle.operator.specs.Words.{NamesAction, IsCommand, IsFaultOf, IsOf, IsSubcommand, IsUsageFault, extent_word, faults_in, flag, form_word, kyoto_link, positional, program};
+ghost use Rattle.operator.specs.Words.{NamesAction, IsCommand, IsFaultOf, IsSubcommand, IsUsageFault, faults_in, flag, kyoto_link, option, positional, program};
 ghost use Rattle.operator.specs.Subcommands.{described, rule_in};
 
+use crate::actions::{Action, action_of};
 use crate::notes::{
-    AUDIT_NOTES, CHART_NOTES, EVENTS_NOTES, EXPLAIN_NOTES, NOTES, REHEARSE_NOTES, RUN_NOTES,
-    SHOW_NOTES, TRACE_NOTES,
+    AUDIT_NOTES, CHART_NOTES, EVENTS_NOTES, EXPLAIN_NOTES, NODE_NOTES, NOTES, REHEARSE_NOTES,
+    RUN_NOTES, SHOW_NOTES, TRACE_NOTES,
 };
 use clap::error::ErrorKind;
-use clap::{Arg, ArgAction, ArgMatches, Command, Error};
-use report::Form;
+use clap::{Arg, ArgAction, Command, Error};
 use std::alloc::{AllocError, Global};
 use std::convert::AsStr;
 
 /// What `--version` writes after the program's name.
 const VERSION: &str = "0.1.0";
-
-/// How many of the stores' records an audit's table is to explain.
-#[derive(Clone, Copy, Debug, PartialEq, Eq)]
-pub enum Extent {
-    /// All of them.
-    Whole,
-    /// As many first ones as a run explains.
-    Furthest,
-}
-
-/// What the words ask for.
-#[derive(Debug, Drop)]
-pub enum Action {
-    /// Run the events that standard input lists, and report.
-    Rehearse,
-    /// Run the events that standard input lists, and draw them.
-    Chart,
-    /// Write the records of the store of the node `node`, which is in the folder `folder`. The file `scheme` has the
-    /// scheme.
-    Show {
-        scheme: String,
-        folder: String,
-        node: String,
-        form: Form,
-    },
-    /// Write the table of a run that leads to the records of the stores in the folder `folder`, to all of them or to as
-    /// many as a run explains. The file `scheme` has the scheme.
-    Audit {
-        scheme: String,
-        folder: String,
-        extent: Extent,
-        form: Form,
-    },
-    /// Write the scheme and the events of a run that leads to the records of the stores in the folder `folder`. The file
-    /// `scheme` has the scheme.
-    Events {
-        scheme: String,
-        folder: String,
-        form: Form,
-    },
-    /// Write the records of the transaction `id` in the stores in the folder `folder`, in the order of a run that leads
-    /// to all records. The file `scheme` has the scheme.
-    Trace {
-        scheme: String,
-        folder: String,
-        id: String,
-        form: Form,
-    },
-    /// Write the text of the documents about the topic `topic`.
-    Explain {
-        topic: String,
-    },
-    /// Run the nodes of the scheme in threads, with their stores in the folder `folder`, while the lines of the file
-    /// `script` are ordered and asked, and report. The file `scheme` has the scheme.
-    Run {
-        scheme: String,
-        folder: String,
-        script: String,
-    },
-}
 
 /// Why the words name no action. The texts are `clap`'s.
 #[derive(Drop)]
@@ -99,6 +39,12 @@ enum ArgumentKind {
     Positional,
     /// As a flag, `--` before its name, or not at all.
     Flag,
+    /// As an option, `--` before its name and a value after it, once.
+    Required { value: &'static str },
+    /// As an option, once or more.
+    Repeated { value: &'static str },
+    /// As an option, once or not at all.
+    Optional { value: &'static str },
 }
 
 /// An argument of a subcommand.
@@ -164,6 +110,32 @@ const JSON: Argument = Argument {
     kind: ArgumentKind::Flag,
 };
 
+const LISTEN: Argument = Argument {
+    name: "listen",
+    help: "The address at which the node takes messages, as 127.0.0.1:7001",
+    kind: ArgumentKind::Required { value: "ADDRESS" },
+};
+
+const PEER: Argument = Argument {
+    name: "peer",
+    help: "A peer, and the address at which it takes messages, as ITL=127.0.0.1:7000",
+    kind: ArgumentKind::Repeated {
+        value: "NODE=ADDRESS",
+    },
+};
+
+const KEYS: Argument = Argument {
+    name: "keys",
+    help: "The file with the key of the link to each peer; without it, links have none",
+    kind: ArgumentKind::Optional { value: "FILE" },
+};
+
+const CLEAN_UP: Argument = Argument {
+    name: "clean-up",
+    help: "How many seconds lie between two clean-ups; without it, only lines order one",
+    kind: ArgumentKind::Optional { value: "SECONDS" },
+};
+
 /// The subcommands, in the order of the program's help.
 const SUBCOMMANDS: &[Subcommand] = &[
     Subcommand {
@@ -214,6 +186,12 @@ const SUBCOMMANDS: &[Subcommand] = &[
         notes: RUN_NOTES,
         arguments: &[SCHEME, DIR, SCRIPT],
     },
+    Subcommand {
+        name: "node",
+        about: "Run one node of a scheme on its own, and answer the lines of its operator, read from standard input",
+        notes: NODE_NOTES,
+        arguments: &[SCHEME, DIR, NODE, LISTEN, PEER, KEYS, CLEAN_UP],
+    },
 ];
 
 fn positional<'a>(alloc: Global, name: &'a str, help: &'a str) -> Arg<'a>
@@ -233,14 +211,44 @@ fn flag<'a>(alloc: Global, name: &'a str, help: &'a str) -> Arg<'a>
         .help(help)
 }
 
+/// An option with a value, of which `value` is the name in the help.
+fn option<'a>(
+    alloc: Global,
+    name: &'a str,
+    value: &'a str,
+    help: &'a str,
+    action: ArgAction,
+    required: bool,
+) -> Arg<'a>
+    ensures rule { rule_of result ≡ option name.now action required }
+    ensures global { result.global ≡ false }
+{
+    Arg::new(alloc, name)
+        .long(name)
+        .value_name(value)
+        .action(action)
+        .required(required)
+        .help(help)
+}
+
 impl Argument {
     fn arg<'a>(&self, alloc: Global) -> Arg<'a>
         ensures rule { rule_of result ≡ rule_in self.now }
         ensures global { result.global ≡ false }
     {
+        let (name, help) = (self.name, self.help);
         match self.kind {
-            ArgumentKind::Positional => positional(alloc, self.name, self.help),
-            ArgumentKind::Flag => flag(alloc, self.name, self.help),
+            ArgumentKind::Positional => positional(alloc, name, help),
+            ArgumentKind::Flag => flag(alloc, name, help),
+            ArgumentKind::Required { value } => {
+                option(alloc, name, value, help, ArgAction::Set, true)
+            }
+            ArgumentKind::Repeated { value } => {
+                option(alloc, name, value, help, ArgAction::Append, true)
+            }
+            ArgumentKind::Optional { value } => {
+                option(alloc, name, value, help, ArgAction::Set, false)
+            }
         }
     }
 }
@@ -290,152 +298,6 @@ fn command<'a>(alloc: Global) -> Result<Command<'a>, AllocError>
         program = subcommand.added_to(alloc, program)?;
     }
     Ok(program)
-}
-
-/// The value of an argument, or `None`, where there is none or memory was refused.
-fn value_of(alloc: Global, matches: &ArgMatches, name: &str) -> Option<String>
-    ensures { IfSome result (λ s. first_value (found_of matches.now) name.now ≡ Some (string_bytes s)) }
-{
-    let value = matches.get_str(name)?;
-    String::from_str(alloc, value).ok()
-}
-
-/// In which form is to be written, by the flag `json`.
-fn form_of(matches: &ArgMatches) -> Option<Form>
-    ensures { IfSome result (λ f. first_value (found_of matches.now) (codes "json") ≡ Some (form_word f)) }
-{
-    let value = matches.get_str("json")?;
-    if value == "true" {
-        return Some(Form::Json);
-    }
-    if value == "false" {
-        return Some(Form::Lines);
-    }
-    None
-}
-
-fn show_action(alloc: Global, matches: &ArgMatches) -> Option<Action>
-    ensures { IfSome result (IsOf (codes "show") (first_value (found_of matches.now))) }
-{
-    let scheme = value_of(alloc, matches, "SCHEME")?;
-    let folder = value_of(alloc, matches, "DIR")?;
-    let node = value_of(alloc, matches, "NODE")?;
-    let form = form_of(matches)?;
-    Some(Action::Show {
-        scheme,
-        folder,
-        node,
-        form,
-    })
-}
-
-/// How much is to be explained, by the flag `cut`.
-fn extent_of(matches: &ArgMatches) -> Option<Extent>
-    ensures { IfSome result (λ e. first_value (found_of matches.now) (codes "cut") ≡ Some (extent_word e)) }
-{
-    let value = matches.get_str("cut")?;
-    if value == "true" {
-        return Some(Extent::Furthest);
-    }
-    if value == "false" {
-        return Some(Extent::Whole);
-    }
-    None
-}
-
-fn audit_action(alloc: Global, matches: &ArgMatches) -> Option<Action>
-    ensures { IfSome result (IsOf (codes "audit") (first_value (found_of matches.now))) }
-{
-    let scheme = value_of(alloc, matches, "SCHEME")?;
-    let folder = value_of(alloc, matches, "DIR")?;
-    let extent = extent_of(matches)?;
-    let form = form_of(matches)?;
-    Some(Action::Audit {
-        scheme,
-        folder,
-        extent,
-        form,
-    })
-}
-
-fn events_action(alloc: Global, matches: &ArgMatches) -> Option<Action>
-    ensures { IfSome result (IsOf (codes "events") (first_value (found_of matches.now))) }
-{
-    let scheme = value_of(alloc, matches, "SCHEME")?;
-    let folder = value_of(alloc, matches, "DIR")?;
-    let form = form_of(matches)?;
-    Some(Action::Events {
-        scheme,
-        folder,
-        form,
-    })
-}
-
-fn trace_action(alloc: Global, matches: &ArgMatches) -> Option<Action>
-    ensures { IfSome result (IsOf (codes "trace") (first_value (found_of matches.now))) }
-{
-    let scheme = value_of(alloc, matches, "SCHEME")?;
-    let folder = value_of(alloc, matches, "DIR")?;
-    let id = value_of(alloc, matches, "ID")?;
-    let form = form_of(matches)?;
-    Some(Action::Trace {
-        scheme,
-        folder,
-        id,
-        form,
-    })
-}
-
-fn explain_action(alloc: Global, matches: &ArgMatches) -> Option<Action>
-    ensures { IfSome result (IsOf (codes "explain") (first_value (found_of matches.now))) }
-{
-    let topic = value_of(alloc, matches, "TOPIC")?;
-    Some(Action::Explain { topic })
-}
-
-fn run_action(alloc: Global, matches: &ArgMatches) -> Option<Action>
-    ensures { IfSome result (IsOf (codes "run") (first_value (found_of matches.now))) }
-{
-    let scheme = value_of(alloc, matches, "SCHEME")?;
-    let folder = value_of(alloc, matches, "DIR")?;
-    let script = value_of(alloc, matches, "SCRIPT")?;
-    Some(Action::Run {
-        scheme,
-        folder,
-        script,
-    })
-}
-
-/// The action that the matches name. `None` only where memory was refused, if `clap` gave them.
-fn action_of(alloc: Global, matches: &ArgMatches) -> Option<Action>
-    ensures { IfSome result (NamesAction matches.now) }
-{
-    let (name, inner) = matches.subcommand()?;
-    if name == "rehearse" {
-        return Some(Action::Rehearse);
-    }
-    if name == "chart" {
-        return Some(Action::Chart);
-    }
-    if name == "show" {
-        return show_action(alloc, inner);
-    }
-    if name == "audit" {
-        return audit_action(alloc, inner);
-    }
-    if name == "events" {
-        return events_action(alloc, inner);
-    }
-    if name == "trace" {
-        return trace_action(alloc, inner);
-    }
-    if name == "explain" {
-        return explain_action(alloc, inner);
-    }
-    if name == "run" {
-        return run_action(alloc, inner);
-    }
-    None
 }
 
 /// What an error of `clap` is to the program.

@@ -1,10 +1,12 @@
 //! The words of the command line, and the command `show`.
 #![tactic(auto)]
 
+mod actions;
 mod command_line;
 mod notes;
 mod showing;
 
-pub use command_line::{Action, Extent, UsageFault, parse_words};
+pub use actions::{Action, Extent, NodeWords};
+pub use command_line::{UsageFault, parse_words};
 pub use report::Form;
 pub use showing::show;

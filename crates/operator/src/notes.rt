@@ -170,3 +170,45 @@ Exit status:
   5  out of memory
 
 docs/FORMATS.md describes schemes, scripts, records, stores and the table.";
+
+/// The end of the help of `node`.
+pub(crate) const NODE_NOTES: &str =
+    "NODE is ITL or the code of a registry of the scheme, and its store is the file DIR/NODE.db. A missing store is
+made, and is empty; a store of format 1 is migrated to format 2, which needs room for twice its size beside it. The
+node goes on from the records that its store has. A registry needs a --peer for ITL alone, and ITL one for each
+registry. Without --keys all addresses must be of the loopback interface, as 127.0.0.1. With --clean-up, ITL cancels
+every SECONDS seconds what has expired. A line of standard input is one of a script, without the node's name, export
+PATH, or stop:
+
+  propose 1 JP 7 NZ:1:1-100:AAU
+  until NZ1 Completed 10000
+  export nz.db
+  stop
+
+A registry takes the orders propose, request, open and close, and ITL the orders eligible and clean-up; status and
+until are questions to either; and export writes the node's records into a new store at PATH. The first line of the
+output has the sum of the scheme, which is kept beside the store. Then each line is answered before the next one is
+read, with its number:
+
+  1 recorded 0
+  2 status Completed
+  3 exported 4
+
+An order may also be answered with repeat, late or refused CODE, an order that the node doesn't take with not
+possible, an export that failed with fault export, and a line of another form with fault order or fault too-long. At
+stop, or at the end of the lines, the node stops, and the last line says how many records it has, as records 4.
+
+Example:
+  kyoto-link node scheme.json stores NZ --listen 127.0.0.1:7001 --peer ITL=127.0.0.1:7000
+
+Exit status:
+  0  done
+  1  what the node's threads and its operator were told isn't what one thread would have been told (kyoto-link:
+     unsettled NZ)
+  2  the words are wrong, as an ADDRESS that is none, a peer too many or too few, or an address that needs keys
+  3  SCHEME or FILE has a fault, NODE is no node of the scheme, SCHEME, FILE, DIR or the lines could not be read,
+     others than its owner have access to FILE, the node's ADDRESS can't be had, or the output could not be written
+  4  the store has a fault (kyoto-link: store NZ: device), or is one of another scheme
+  5  out of memory
+
+docs/FORMATS.md describes schemes, scripts, records and stores.";

@@ -1,5 +1,6 @@
 -- What was told to a seat of a settled node is borne by the committed records.
-use Rattle.std.proofs.Common.{◌≡◌, ◌∙◌, ◌<◌, ◌≤◌, ℕ, zero, suc, List, [], ◌∷◌, length, take, Some, ap, subst, refl, arith}
+use Rattle.std.proofs.Common.{◌≡◌, ◌∙◌, ◌<◌, ◌≤◌, ℕ, zero, suc, List, [], ◌∷◌, ◌++◌, length, take, Some, ap, subst, refl, arith, length-append}
+use Rattle.std.proofs.lemmas.List.{take-append-le}
 use Rattle.std.specs.Prelude.{All, Contains, slice_get}
 use Rattle.units.specs.declared.code.Node.{Node}
 use Rattle.protocol.specs.Input.{Input}
@@ -20,13 +21,13 @@ use Rattle.run.specs.Heard.{HasHeard, HasNoted}
 
 -- ---- fronts of lists
 
-get_in_front : {X : Type 0} (c : ℕ) (xs : List X) (k : ℕ) (x : X) → k < c → slice_get xs k ≡ Some x → slice_get (take c xs) k ≡ Some x
+pub get_in_front : {X : Type 0} (c : ℕ) (xs : List X) (k : ℕ) (x : X) → k < c → slice_get xs k ≡ Some x → slice_get (take c xs) k ≡ Some x
 get_in_front zero xs k x low is = absurd (omega arith)
 get_in_front (suc c) [] k x low is = is
 get_in_front (suc c) (y ∷ xs) zero x low is = is
 get_in_front (suc c) (y ∷ xs) (suc k) x low is = get_in_front c xs k x (omega arith) is
 
-front_of_front : {X : Type 0} (c n : ℕ) (xs : List X) → n ≤ c → take n (take c xs) ≡ take n xs
+pub front_of_front : {X : Type 0} (c n : ℕ) (xs : List X) → n ≤ c → take n (take c xs) ≡ take n xs
 front_of_front c zero xs low = refl
 front_of_front zero (suc n) xs low = absurd (omega arith)
 front_of_front (suc c) (suc n) [] low = refl
@@ -38,7 +39,7 @@ front_long (suc c) n [] low most = most
 front_long (suc c) zero (x ∷ xs) low most = omega arith
 front_long (suc c) (suc n) (x ∷ xs) low most = let rest = front_long c n xs (omega arith) (omega arith) in omega arith
 
-all_of : {X : Type 0} (P : X → Type 0) (xs : List X) (x : X) → All P xs → Contains xs x → P x
+pub all_of : {X : Type 0} (P : X → Type 0) (xs : List X) (x : X) → All P xs → Contains xs x → P x
 all_of P xs x all is = subst P is.2 (all is.0 x is.1)
 
 -- ---- one node
@@ -71,3 +72,23 @@ module _ (scheme : Scheme) (n : Node) (held : StateView) (heard : List SeatView)
   borne settled is asked (Step Late) h = noted settled is asked (Step Late) h
   borne settled is asked (Status status) h = noted settled is asked (Status status) h
   borne settled is asked (Refused refusal) h = λ judged. noted settled is asked (Refused refusal) (h judged)
+
+-- ---- a journal that goes on
+
+get_more : {X : Type 0} (xs ys : List X) (k : ℕ) (x : X) → slice_get xs k ≡ Some x → slice_get (xs ++ ys) k ≡ Some x
+get_more [] ys k x is = absurd (cc (is))
+get_more (z ∷ xs) ys zero x is = is
+get_more (z ∷ xs) ys (suc k) x is = get_more xs ys k x is
+
+expected_more : (scheme : Scheme) (n : Node) (journal more : List Input) (asked : Asked) (told : Told) → IsExpectedWithin scheme n journal asked told → IsExpectedWithin scheme n (journal ++ more) asked told
+expected_more scheme n journal more asked told h =
+    (h.0, (omega (arith, h.1.0, length-append journal more), ap (λ (j : List Input). expected scheme n j asked) (take-append-le h.0 journal more h.1.0) ∙ h.1.1))
+
+-- what a journal bears, it bears when it has gone on
+pub borne_more : (scheme : Scheme) (n : Node) (journal more : List Input) (asked : Asked) (told : Told) → IsBorne scheme n journal asked told → IsBorne scheme n (journal ++ more) asked told
+borne_more scheme n journal more (Take input) (Step (Recorded place)) h = get_more journal more place input h
+borne_more scheme n journal more (Query id) (Step (Recorded place)) h = absurd h
+borne_more scheme n journal more asked (Step Repeat) h = expected_more scheme n journal more asked (Step Repeat) h
+borne_more scheme n journal more asked (Step Late) h = expected_more scheme n journal more asked (Step Late) h
+borne_more scheme n journal more asked (Status status) h = expected_more scheme n journal more asked (Status status) h
+borne_more scheme n journal more asked (Refused refusal) h = λ judged. expected_more scheme n journal more asked (Refused refusal) (h judged)

@@ -195,7 +195,7 @@ module _ (held : StateView) (heard threads : List SeatView) (seat : SeatView) (c
     named_once place x low at ordered = omega (arith, named place x low at, no_threads place x at ordered threads (front threads seat fits).0 none)
 
     -- the script's seat has the records that were ordered, in the order of their places
-    orders_in_turn : All IsOrdered seat.tickets → Ascend seat.tickets → seat.tickets ≡ ordered_from held.opening (drop held.opening held.journal)
+    pub orders_in_turn : All IsOrdered seat.tickets → Ascend seat.tickets → seat.tickets ≡ ordered_from held.opening (drop held.opening held.journal)
     orders_in_turn ordered ascend =
         ordered_are (drop held.opening held.journal) held.opening seat.tickets
         (All-weaker (Fits held) (IsFrom held.opening (drop held.opening held.journal)) (λ t fit.
@@ -220,7 +220,7 @@ module _ (held : StateView) (heard threads : List SeatView) (seat : SeatView) (c
         ]
 
     -- a record since the opening that was not ordered is one that a thread took
-    taken_at : (place : ℕ) (x : Input) → held.opening ≤ place → slice_get held.journal place ≡ Some x → was_ordered x ≡ false → Takes x
+    pub taken_at : (place : ℕ) (x : Input) → held.opening ≤ place → slice_get held.journal place ≡ Some x → was_ordered x ≡ false → Takes x
     taken_at place x low at other =
         let unfit = unnamed held (λ i. was_ordered i ≡ true) place x at (λ yes. true≢false (sym yes ∙ other)) seat.tickets (front threads seat fits).1 ordered in
         let s = named_by place threads (omega (arith, named place x low at, none_of place seat.tickets unfit)) in

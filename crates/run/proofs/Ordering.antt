@@ -243,19 +243,22 @@ IsRecordOfLine l told = IsRecordOf (asked_by l) told
 
 -- ---- the seats of all nodes
 
+-- of a seat that was told nothing
+pub has_none : (n : Node) (seat : SeatView) → seat.tickets ≡ [] → seat.notes ≡ [] → HasOrders n [] [] seat
+has_none n seat empty unnoted = record {
+  orders = empty;
+  notes = unnoted;
+  ordered = subst (All IsOrdered) (sym empty) (All-nil IsOrdered);
+  turns = λ e. (
+    subst Ascend (sym empty) (λ i j t u under at_i at_j. absurd (cc (at_i))),
+    subst (All (λ (t : Ticket). t.place < seat.seen)) (sym empty) (All-nil (λ (t : Ticket). t.place < seat.seen)),
+  );
+}
+
 no_orders : (scheme : Scheme) (seats : List SeatView) → All (λ (s : SeatView). (s.tickets ≡ []) × (s.notes ≡ [])) seats → HaveOrders scheme [] [] seats
 no_orders scheme seats none n at seat place is =
     let nothing : (seat.tickets ≡ []) × (seat.notes ≡ []) = subst (λ (s : SeatView). (s.tickets ≡ []) × (s.notes ≡ [])) (get_or_from_slice_get seats at seat seat is) (none at seat (slice_get_within seats at seat is)) in
-    let empty : seat.tickets ≡ [] = nothing.0 in
-    record {
-      orders = empty;
-      notes = nothing.1;
-      ordered = subst (All IsOrdered) (sym empty) (All-nil IsOrdered);
-      turns = λ e. (
-        subst Ascend (sym empty) (λ i j t u under at_i at_j. absurd (cc (at_i))),
-        subst (All (λ (t : Ticket). t.place < seat.seen)) (sym empty) (All-nil (λ (t : Ticket). t.place < seat.seen)),
-      );
-    }
+    has_none n seat nothing.0 nothing.1
 
 pub played_none : (scheme : Scheme) (answers : List ScriptAnswer) (seats : List SeatView) → answers ≡ [] → All (λ (s : SeatView). (s.tickets ≡ []) × (s.notes ≡ [])) seats → IsPlayed scheme [] answers seats
 played_none scheme answers seats none empty =
@@ -324,3 +327,25 @@ orders_next scheme olds news lines k answers more l answer at len have step long
     let next : suc k ≡ k + 1 = omega arith in
     subst (λ (ls : List ScriptLine). HaveOrders scheme ls more news) (sym (take_more k lines l at) ∙ ap (λ (m : ℕ). take m lines) next)
     (subst (λ (given : List ScriptAnswer). HaveOrders scheme (take k lines ++ l ∷ []) given news) (sym longer) (step (take k lines) answers len have))
+
+-- ---- the seat of one node, all of whose lines are that node's
+
+module _ (scheme : Scheme) (n : Node) (ls : List ScriptLine) (answers : List ScriptAnswer) (l : ScriptLine) (len : length answers ≡ length ls) where
+  -- a line that wasn't asked
+  pub has_unasked : (seat : SeatView) → HasOrders n ls answers seat → HasOrders n (ls ++ l ∷ []) (answers ++ NotPossible ∷ []) seat
+  has_unasked seat h = record {
+    orders = no_more IsRecordOfLine n ls answers seat.tickets l NotPossible len h.orders refl;
+    notes = no_more IsNotedOf n ls answers seat.notes l NotPossible len h.notes refl;
+    ordered = h.ordered;
+    turns = h.turns;
+  }
+
+  -- a line of the node's that was asked
+  pub has_asked : (told : Told) (old new : SeatView) → node_of l ≡ n → is_possible scheme l ≡ true → Adds (asked_by l) old new told → Notes (IsNotedOf l) old new told → HasOrders n ls answers old
+      → HasOrders n (ls ++ l ∷ []) (answers ++ Answered told ∷ []) new
+  has_asked told old new its possible a b h = record {
+    orders = subst (AreOrders n (ls ++ l ∷ []) (answers ++ Answered told ∷ [])) (sym a.tickets) (lines_more IsRecordOfLine n ls answers old.tickets l (Answered told) a.records len h.orders ((λ same. a.is), (λ others. absurd (others its))));
+    notes = subst (AreNotes n (ls ++ l ∷ []) (answers ++ Answered told ∷ [])) (sym b.added) (lines_more IsNotedOf n ls answers old.notes l (Answered told) b.notes len h.notes ((λ same. b.is), (λ others. absurd (others its))));
+    ordered = subst (All IsOrdered) (sym a.tickets) (ordered_more scheme l old.tickets a.records h.ordered possible (one_at_most (asked_by l) told a.records a.is));
+    turns = turns_more (asked_by l) old new told h.turns a;
+  }

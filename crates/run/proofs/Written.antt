@@ -3,7 +3,7 @@ use Rattle.std.proofs.Common.{◌≡◌, ◌<◌, ℕ, List, Option, Some, None,
 use Rattle.std.specs.Io.KnownBytes.{Appends, Keeps}
 use Rattle.protocol.specs.Scheme.{Scheme}
 use Rattle.command_faults.specs.declared.fault.OpFault.{OpFault}
-use Rattle.command_faults.specs.declared.fault.OpFault.TheVariants.{Input as Line, Read, Write, Store, Stuck, Unsettled, NoMemory}
+use Rattle.command_faults.specs.declared.fault.OpFault.TheVariants.{Input as Line, Read, Write, Store, Stuck, Unsettled, Setup, NoMemory}
 use Rattle.input_lines.specs.declared.script_line.ScriptLine.{ScriptLine}
 use Rattle.run.specs.Answers.{answer_lines}
 use Rattle.units.specs.declared.code.Node.{Node}
@@ -26,6 +26,7 @@ module _ {S : Type 0} (g : Ghosts S) (opened : Scheme → Node → List Input �
   late_fault Read ends seats ended h = absurd h
   late_fault (Write count) ends seats ended h = absurd h
   late_fault (Store told fault) ends seats ended h = absurd h
+  late_fault (Setup fault) ends seats ended h = absurd h
 
   module _ (lines : List ScriptLine) (before after : Option (List ℕ)) (answers : List ScriptAnswer) (seats : List SeatView) (heard : AreHeard scheme seats lines answers) (text : List ℕ) (is : text ≡ answer_lines 1 answers) where
     answered : Appends before after text → HasAnswered scheme lines before after
@@ -38,6 +39,7 @@ module _ {S : Type 0} (g : Ghosts S) (opened : Scheme → Node → List Input �
     fails_late NoMemory late written = inr (answered written)
     fails_late (Line line cause) late written = absurd late
     fails_late Read late written = absurd late
+    fails_late (Setup fault) late written = absurd late
     fails_late (Write count) late written = absurd late
 
     pub fails_in_answers : (e : OpFault) → ((count : ℕ) × (e ≡ Write count) × (count < length text) × Appends before after (take count text)) → FailsToRun g opened e scheme lines before after

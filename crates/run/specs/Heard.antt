@@ -50,6 +50,12 @@ IsHeard scheme seats l (Answered told) = (is_possible scheme l ≡ true) × IsHe
 abbrev pub AreHeard : Scheme → List SeatView → List ScriptLine → List ScriptAnswer → Type 0
 AreHeard scheme seats lines answers = AreAnswers (IsHeard scheme seats) lines answers
 
+-- a seat has kept all that it had
+pub record Grows (old new : SeatView) : Type 0 where
+  pub tickets : (t : Ticket) → Contains old.tickets t → Contains new.tickets t
+  pub notes : (note : Note) → Contains old.notes note → Contains new.notes note
+  pub confirmed : old.confirmed ≤ new.confirmed
+
 -- ---- what the code follows; no public contract cites what stands below
 
 -- what was taken is told once it is confirmed, or at once where no journal judged it; or the node had stopped before
@@ -57,12 +63,6 @@ abbrev pub IsConfirmed : SeatView → Note → SeatView → Told → Type 0
 IsConfirmed old note new told =
     ((told ≡ note.told) × (is_without_journal note.told ≡ true) × (new ≡ old))
     ⊎ (((told ≡ note.told) × (new ≡ confirmed old note)) ⊎ ((told ≡ Refused stopped) × (new ≡ old)))
-
--- a seat has kept all that it had
-pub record Grows (old new : SeatView) : Type 0 where
-  pub tickets : (t : Ticket) → Contains old.tickets t → Contains new.tickets t
-  pub notes : (note : Note) → Contains old.notes note → Contains new.notes note
-  pub confirmed : old.confirmed ≤ new.confirmed
 
 abbrev pub AllGrow : List SeatView → List SeatView → Type 0
 AllGrow olds news = (k : ℕ) (old : SeatView) → slice_get olds k ≡ Some old → (new : SeatView) × (slice_get news k ≡ Some new) × Grows old new

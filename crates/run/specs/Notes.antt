@@ -30,7 +30,7 @@ abbrev pub AreOfLines : {T : Type 0} (Of : ScriptLine → Told → List T → Ty
 AreOfLines {T} Of n (l ∷ ls) (answer ∷ answers) left = (first : List T) × (rest : List T) × (left ≡ first ++ rest) × IsOfLine Of n l answer first × AreOfLines Of n ls answers rest
 AreOfLines Of n _ _ left = left ≡ []
 
--- ---- notes, which the code follows; no public contract cites what stands below
+-- ---- notes
 
 -- one note, of what was asked and what was told
 abbrev pub IsNote : Asked → Told → List Note → Type 0
@@ -58,6 +58,8 @@ abbrev pub IsNotedOf : ScriptLine → Told → List Note → Type 0
 IsNotedOf (line.Order n input) told notes = IsNoted (Take input) told notes
 IsNotedOf (line.Status n id) told notes = IsNoted (Query id) told notes
 IsNotedOf (line.Until n id status turns) told notes = IsAwaited id status turns told notes
+
+-- ---- what the code follows; no public contract cites what stands below
 
 -- the notes are of the script's lines to the node, in the script's order
 abbrev pub AreNotes : Node → List ScriptLine → List ScriptAnswer → List Note → Type 0

@@ -31,6 +31,19 @@ IsRecordOf asked told records = records ≡ []
 abbrev pub AreOrders : Node → List ScriptLine → List ScriptAnswer → List Ticket → Type 0
 AreOrders n lines answers records = AreOfLines (λ l told. IsRecordOf (asked_by l) told) n lines answers records
 
+-- what one question more leaves in a seat
+pub record Adds (asked : Asked) (old new : SeatView) (told : Told) : Type 0 where
+  pub records : List Ticket
+  pub tickets : new.tickets ≡ old.tickets ++ records
+  pub is : IsRecordOf asked told records
+  pub grew : new.lengths ≡ Grew → (old.lengths ≡ Grew) × (old.seen ≤ new.seen) × All (λ (t : Ticket). (old.seen ≤ t.place + 1) × (t.place < new.seen)) records
+
+-- the notes that one question more leaves in a seat
+pub record Notes (Of : Told → List Note → Type 0) (old new : SeatView) (told : Told) : Type 0 where
+  pub notes : List Note
+  pub added : new.notes ≡ old.notes ++ notes
+  pub is : Of told notes
+
 -- ---- what the seats of a script have, which the code follows; no public contract cites what stands below
 
 -- no place is below one before it
@@ -56,16 +69,3 @@ HaveOrders scheme lines answers seats = (n : Node) (at : ℕ) (seat : SeatView) 
 pub record IsPlayed (scheme : Scheme) (lines : List ScriptLine) (answers : List ScriptAnswer) (seats : List SeatView) : Type 0 where
   pub heard : AreHeard scheme seats lines answers
   pub orders : HaveOrders scheme lines answers seats
-
--- what one question more leaves in a seat
-pub record Adds (asked : Asked) (old new : SeatView) (told : Told) : Type 0 where
-  pub records : List Ticket
-  pub tickets : new.tickets ≡ old.tickets ++ records
-  pub is : IsRecordOf asked told records
-  pub grew : new.lengths ≡ Grew → (old.lengths ≡ Grew) × (old.seen ≤ new.seen) × All (λ (t : Ticket). (old.seen ≤ t.place + 1) × (t.place < new.seen)) records
-
--- the notes that one question more leaves in a seat
-pub record Notes (Of : Told → List Note → Type 0) (old new : SeatView) (told : Told) : Type 0 where
-  pub notes : List Note
-  pub added : new.notes ≡ old.notes ++ notes
-  pub is : Of told notes

@@ -33,7 +33,11 @@ fn push_status(text: &mut String, number: u64, status: Option<Status>) -> Result
 }
 
 /// Adds the answer to the line with that number.
-fn push_answer(text: &mut String, number: u64, answer: ScriptAnswer) -> Result<(), NoMemory>
+///
+/// # Errors
+///
+/// Fails with `NoMemory` where memory ran out. The text may then have a part of it.
+pub fn push_answer(text: &mut String, number: u64, answer: ScriptAnswer) -> Result<(), NoMemory>
     ensures { OnOk result (string_bytes text.new ≡ string_bytes text.old ++ answer_line number answer) }
 {
     let outcome = match answer {

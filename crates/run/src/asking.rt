@@ -155,8 +155,10 @@ fn question_until<O: Opening, N: NodeTypes, P: Watch, R: Wait + SystemClock>(
     told
 }
 
-/// What the node with that index tells of a line of a script.
-pub(crate) fn ask<O: Opening, N: NodeTypes, P: Watch, R: Wait + SystemClock>(
+/// What the node at the station with that index tells of a line of a script: of an order once its record is committed, and
+/// of a question once the records that say so are. The seat keeps what it was told. Refusal `NODE_STOPPED` where the node
+/// stopped before, and refusal `OUT_OF_MEMORY` where memory ran out.
+pub fn ask<O: Opening, N: NodeTypes, P: Watch, R: Wait + SystemClock>(
     rt: &R,
     stations: &[Station<O, Core, N>],
     at: usize,

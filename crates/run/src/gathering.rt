@@ -40,9 +40,13 @@ fn all_seats<T: Taking>(
     Ok(seats)
 }
 
-/// The state with its store that the desk of that node leaves, which no thread shares any more. Fails with the fault
-/// that stopped the store, if one did, and with `Unsettled` where the desk is another node's.
-fn end_desk<O: Opening, S: NodeStore + Drop>(
+/// The state with its store that the desk of that node leaves, which no thread shares any more.
+///
+/// # Errors
+///
+/// Fails with the fault that stopped the store, if one did, and with `Unsettled` where the desk is another node's. The
+/// store is closed then.
+pub fn end_desk<O: Opening, S: NodeStore + Drop>(
     node: Node,
     desk: Desk<O, Core, S, RoomBell>,
 ) -> Result<Stored<Core, S>, OpFault>

@@ -12,10 +12,13 @@ mod threads;
 mod watch;
 mod wiring;
 
-pub use answer::ScriptAnswer;
+pub use answer::{ScriptAnswer, push_answer};
+pub use asking::ask;
+pub use gathering::end_desk;
+pub use playing::takes;
 pub use running::run_script;
 pub use watch::{Nobody, Watch};
-pub use wiring::LoadedNode;
+pub use wiring::{LoadedNode, station_of};
 
 // A run is that of the nodes of a world.
 pub use world;

@@ -25,7 +25,7 @@ use units::{NoMemory, Node};
 use world::Core;
 
 /// Whether a node of that kind takes the order.
-fn takes(node: Node, input: &Input) -> bool
+pub fn takes(node: Node, input: &Input) -> bool
     ensures { (scheme : AScheme) → result ≡ is_order (opening scheme) node input.now }
 {
     match input {

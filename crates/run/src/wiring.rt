@@ -16,8 +16,12 @@ pub struct LoadedNode<N: NodeTypes> {
     pub listener: N::Listener,
 }
 
-/// The node's station, with a desk of its state that has a bell for each of these peers. Or `NoMemory`.
-fn station_of<O: Opening, N: NodeTypes>(
+/// The node's station, with a desk of its state that has a bell for each of these peers.
+///
+/// # Errors
+///
+/// Fails with `NoMemory` where memory ran out. The store is closed then.
+pub fn station_of<O: Opening, N: NodeTypes>(
     alloc: Global,
     peers: &[Node],
     loaded: LoadedNode<N>,

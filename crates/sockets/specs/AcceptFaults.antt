@@ -1,4 +1,4 @@
--- Why a listener accepted no connection.
+-- Why a listener accepted no connection. No public contract cites it.
 use Rattle.std.specs.Prelude.{ℤ, pos, Bool, false, ◌||◌, Option, None, Some, if◌then◌else◌}
 use Rattle.std.specs.Ordering.{int_eq}
 use Rattle.std.specs.declared.io.ErrorKind.{ErrorKind}

@@ -12,6 +12,8 @@ end_at longest count None = if nat_le count longest then Partial else TooLong
 abbrev pub end_of_line : ℕ → List ℕ → LineEnd
 end_of_line longest bytes = end_at longest (length bytes) (position (λ b. b == 10) bytes)
 
+-- ---- what the code follows; no public contract cites what stands below
+
 -- how many bytes a session is to read: the line and its newline, and all that comes where it is too long
 abbrev pub length_of : LineEnd → Option ℕ
 length_of (Whole n) = Some (min (n + 1) (2 ^ 64 - 1))

@@ -1,4 +1,4 @@
--- Connections that wait for a line.
+-- Connections that wait for a line. No public contract cites it.
 use Rattle.std.specs.Prelude.{◌≡◌, ℕ, ◌<◌, ◌+◌, ◌-◌, ◌⊎◌, nat_le, nat_lt, ◌*◌, Bool, true, Option, None, Some, List, [], ◌∷◌, ◌++◌, length, drop, if◌then◌else◌}
 use Rattle.std.specs.BTreeMap.{is_at}
 use Rattle.std.specs.Map.{remove_entry}

@@ -12,7 +12,7 @@ use std::time::Instant;
 /// What has come of a connection.
 #[derive(Clone, Copy)]
 enum Arrival {
-    /// A line, or the beginning of one that is too long: so many bytes a session is to read.
+    /// A line, or the beginning of one that is too long, with the number of bytes that a session is to read.
     Line(u64),
     /// Less than a line, or nothing.
     Part,

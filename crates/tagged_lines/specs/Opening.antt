@@ -20,13 +20,13 @@ given_out keys node line (Giving at) left = drop at line
 abbrev pub opening_remaining : {R : Type 0} → (R → Option (List ℕ)) → OpeningView R → Option (List ℕ)
 opening_remaining remaining r = option_map (λ left. given_out r.keys r.node r.line r.stage left) (remaining r.inner)
 
+-- ---- what the code follows; no public contract cites what stands below
+
 -- what a stage says of the line that was read
 abbrev pub FitsStage : Stage → List ℕ → Type 0
 FitsStage Reading line = IsWithin longest_tagged line
 FitsStage Whole line = IsWithin longest_tagged line
 FitsStage (Giving at) line = at ≤ length line
-
--- ---- what the code follows; no public contract cites what stands below
 
 -- the node is the one that the text says it is from, or the text says no node's name
 abbrev pub IsSenderOf : List ℕ → Option Node → Type 0

@@ -1,4 +1,4 @@
--- What writers of lines with tags send.
+-- What writers of lines with tags send. No public contract cites it.
 use Rattle.std.specs.Prelude.{◌≡◌, ◌≤◌, ℕ, List, [], ◌∷◌, ◌++◌, length, Option, None, Some}
 use Rattle.tags.specs.Tags.{tagged, message_tag, reply_tag}
 use Rattle.tagged_lines.specs.Views.{MessageView}
@@ -29,8 +29,6 @@ reply_line (Some m) reply = tagged (reply_tag_of m reply) reply ++ 10 ∷ []
 -- the line is a reply to the message behind its tag
 abbrev pub IsTaggedReply : MessageView → List ℕ → Type 0
 IsTaggedReply m line = (reply : List ℕ) × (line ≡ tagged (reply_tag_of m reply) reply)
-
--- ---- what the code follows; no public contract cites what stands below
 
 -- what a reader of a reply has, where it gives out the line from there on
 abbrev pub FitsCheck : Check → List ℕ → Type 0

@@ -25,6 +25,8 @@ mod message_rows;
 #[cfg(test)]
 mod named;
 #[cfg(test)]
+mod node_word_rows;
+#[cfg(test)]
 mod outbox_rows;
 #[cfg(test)]
 mod part_rows;

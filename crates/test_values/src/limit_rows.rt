@@ -1,6 +1,6 @@
 //! The limits of inputs, from both sides, and the texts of the faults.
 use crate::same::{assert_same, assert_same_in, room};
-use command_faults::{Cause, OpFault, read_scheme, write_out};
+use command_faults::{Cause, OpFault, SetupFault, read_scheme, write_out};
 use protocol::units::{Code, Node};
 use rehearse::rehearse;
 use std::alloc::Global;
@@ -51,6 +51,56 @@ fn faults_are_told(rt: HostRuntime) {
     ];
     for (fault, text, status) in told {
         assert_told(&rt, rt.alloc(), fault, text, status);
+    }
+}
+
+#[test]
+fn setup_faults_are_told(rt: HostRuntime) {
+    let node = nz(&rt);
+    let told: [(SetupFault, &str, u8); 16] = [
+        (SetupFault::Listen, "--listen: no address", 2),
+        (SetupFault::Peer, "--peer: no node with its address", 2),
+        (
+            SetupFault::Stranger(node),
+            "--peer: nothing is sent to NZ",
+            2,
+        ),
+        (
+            SetupFault::Twice(Node::Itl),
+            "--peer: ITL is there twice",
+            2,
+        ),
+        (SetupFault::Missing(node), "--peer: NZ is missing", 2),
+        (
+            SetupFault::Exposed,
+            "--keys: an address beyond the loopback interface needs them",
+            2,
+        ),
+        (SetupFault::CleanUp, "--clean-up: no number of seconds", 2),
+        (SetupFault::NotTheLog, "--clean-up: ITL alone cleans up", 2),
+        (SetupFault::Unknown, "no node of the scheme", 3),
+        (SetupFault::KeysUnread, "--keys: read failed", 3),
+        (
+            SetupFault::KeysShared,
+            "--keys: others than the owner have access",
+            3,
+        ),
+        (
+            SetupFault::KeysLine(34),
+            "--keys: line 34: no further node with its key",
+            3,
+        ),
+        (SetupFault::NoKey(Node::Itl), "--keys: ITL is missing", 3),
+        (SetupFault::Port, "--listen: the address can't be had", 3),
+        (SetupFault::OtherScheme, "the store is of another scheme", 4),
+        (
+            SetupFault::SchemeSum,
+            "the scheme's sum beside the store can't be read or written",
+            4,
+        ),
+    ];
+    for (fault, text, status) in told {
+        assert_told(&rt, rt.alloc(), OpFault::Setup(fault), text, status);
     }
 }
 

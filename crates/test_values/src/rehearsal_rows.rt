@@ -199,7 +199,7 @@ fn writes_on_after_interruptions(rt: HostRuntime) {
 
 /// What the words of a command line ask for, or why they ask for nothing.
 #[derive(Clone, Copy, PartialEq, Eq, Debug)]
-enum Outcome {
+pub(crate) enum Outcome {
     Rehearse,
     Chart,
     Show(Form),
@@ -208,6 +208,7 @@ enum Outcome {
     Trace(Form),
     Explain,
     Run,
+    Node,
     Help,
     Usage,
     NoMemory,
@@ -224,6 +225,7 @@ fn parsed_once(alloc: Global, words: &[&str]) -> Outcome {
         Ok(Action::Trace { form, .. }) => Outcome::Trace(*form),
         Ok(Action::Explain { .. }) => Outcome::Explain,
         Ok(Action::Run { .. }) => Outcome::Run,
+        Ok(Action::Node(_)) => Outcome::Node,
         Err(UsageFault::Help(_)) => Outcome::Help,
         Err(UsageFault::Usage(_)) => Outcome::Usage,
         Err(UsageFault::NoMemory) => Outcome::NoMemory,
@@ -232,7 +234,7 @@ fn parsed_once(alloc: Global, words: &[&str]) -> Outcome {
     outcome
 }
 
-fn outcome_of(alloc: Global, words: &[&str]) -> Outcome {
+pub(crate) fn outcome_of(alloc: Global, words: &[&str]) -> Outcome {
     again!(parsed_once(alloc, words), Outcome::NoMemory => ())
 }
 
@@ -357,7 +359,7 @@ fn assert_show(rt: &impl Abort, action: &Action, words: [&str; 3]) {
 }
 
 /// What the words of a command line ask for.
-fn action(rt: &impl Abort, alloc: Global, words: &[&str]) -> Action {
+pub(crate) fn action(rt: &impl Abort, alloc: Global, words: &[&str]) -> Action {
     let parsed = again!(parse_words(alloc, words), Err(UsageFault::NoMemory) => ());
     parsed.ok().expect(rt, "an action")
 }

@@ -1,7 +1,7 @@
 use Rattle.std.proofs.Common.{◌≡◌, Some, codes, rules}
 use Rattle.clap.specs.Words.{subcommand_name_of}
 use Rattle.operator.proofs.ShowWords.{names_action}
-use Rattle.operator.proofs.command_line.action_of.Goals as goal
+use Rattle.operator.proofs.actions.action_of.Goals as goal
 
 pub returns-then-eq-3 : goal.returns-then-eq-3
 returns-then-eq-3 c =
@@ -32,3 +32,8 @@ pub returns-then-eq-8 : goal.returns-then-eq-8
 returns-then-eq-8 c =
     let name : subcommand_name_of c.args.matches.now ≡ Some (codes "run") = search rules in
     names_action c.args.matches.now c.in_ok-name.inner.now c.run_action.result (codes "run") name c.in_ok-name.ensures.rows c.run_action.ensures
+
+pub returns-then-eq-9 : goal.returns-then-eq-9
+returns-then-eq-9 c =
+    let name : subcommand_name_of c.args.matches.now ≡ Some (codes "node") = search rules in
+    names_action c.args.matches.now c.in_ok-name.inner.now c.node_action.result (codes "node") name c.in_ok-name.ensures.rows c.node_action.ensures

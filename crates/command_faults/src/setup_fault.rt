@@ -1,0 +1,111 @@
+//! Why a node that is to stand alone can't be set up.
+
+ghost use Rattle.std.specs.Prelude.{◌≡◌};
+ghost use Rattle.command_faults.specs.SetupFaults.{setup_fault_status};
+
+use std::error::Error;
+use std::fmt;
+use units::Node;
+
+/// Why a node that is to stand alone can't be set up.
+#[derive(Clone, Copy, Debug, PartialEq, Eq)]
+pub enum SetupFault {
+    /// The value of `--listen` is no address.
+    Listen,
+    /// A value of `--peer` isn't a node with its address.
+    Peer,
+    /// A `--peer` is of that node, to which this one sends nothing: a registry sends to the log alone, and the log to
+    /// the registries.
+    Stranger(Node),
+    /// Two `--peer` are of that node.
+    Twice(Node),
+    /// No `--peer` is of that node, to which this one sends.
+    Missing(Node),
+    /// An address isn't one of the loopback interface, and there are no keys.
+    Exposed,
+    /// The value of `--clean-up` is no number of seconds, which is at least 1.
+    CleanUp,
+    /// There is a `--clean-up`, and the node is a registry.
+    NotTheLog,
+    /// The word is no node of the scheme.
+    Unknown,
+    /// The file of keys can't be read.
+    KeysUnread,
+    /// The file of keys may be read or written by others than its owner.
+    KeysShared,
+    /// That line of the file of keys, counted from 1, isn't a node with its key, or is one of a node that stands above.
+    KeysLine(u64),
+    /// The file of keys has none for that node.
+    NoKey(Node),
+    /// The address of `--listen` can't be listened at.
+    Port,
+    /// The store is one of another scheme.
+    OtherScheme,
+    /// The scheme's sum beside the store can't be read or written.
+    SchemeSum,
+}
+
+impl fmt::Display for SetupFault {
+    ghost use Rattle.std.specs.Prelude.{Some};
+    ghost use Rattle.command_faults.specs.SetupFaults.{setup_fault_text};
+
+    ghost output = { λ f. Some (setup_fault_text f) };
+
+    fn fmt<W: fmt::Write>(&self, f: &mut fmt::Formatter<W>) -> fmt::Result {
+        match *self {
+            SetupFault::Listen => write!(f, "--listen: no address"),
+            SetupFault::Peer => write!(f, "--peer: no node with its address"),
+            SetupFault::Stranger(node) => write!(f, "--peer: nothing is sent to {node}"),
+            SetupFault::Twice(node) => write!(f, "--peer: {node} is there twice"),
+            SetupFault::Missing(node) => write!(f, "--peer: {node} is missing"),
+            SetupFault::Exposed => write!(
+                f,
+                "--keys: an address beyond the loopback interface needs them"
+            ),
+            SetupFault::CleanUp => write!(f, "--clean-up: no number of seconds"),
+            SetupFault::NotTheLog => write!(f, "--clean-up: ITL alone cleans up"),
+            SetupFault::Unknown => write!(f, "no node of the scheme"),
+            SetupFault::KeysUnread => write!(f, "--keys: read failed"),
+            SetupFault::KeysShared => write!(f, "--keys: others than the owner have access"),
+            SetupFault::KeysLine(line) => write!(
+                f,
+                "--keys: line {line}: no further node with its key"
+            ),
+            SetupFault::NoKey(node) => write!(f, "--keys: {node} is missing"),
+            SetupFault::Port => write!(f, "--listen: the address can't be had"),
+            SetupFault::OtherScheme => write!(f, "the store is of another scheme"),
+            SetupFault::SchemeSum => write!(
+                f,
+                "the scheme's sum beside the store can't be read or written"
+            ),
+        }
+    }
+}
+
+impl Error for SetupFault {}
+
+impl SetupFault {
+    /// The program's exit status: 2 where the words are wrong by themselves, 4 where they aren't those of the store, and
+    /// 3 else.
+    pub fn status(&self) -> u8
+        ensures { result ≡ setup_fault_status self.now }
+    {
+        match self {
+            SetupFault::Listen
+            | SetupFault::Peer
+            | SetupFault::Stranger(_)
+            | SetupFault::Twice(_)
+            | SetupFault::Missing(_)
+            | SetupFault::Exposed
+            | SetupFault::CleanUp
+            | SetupFault::NotTheLog => 2,
+            SetupFault::Unknown
+            | SetupFault::KeysUnread
+            | SetupFault::KeysShared
+            | SetupFault::KeysLine(_)
+            | SetupFault::NoKey(_)
+            | SetupFault::Port => 3,
+            SetupFault::OtherScheme | SetupFault::SchemeSum => 4,
+        }
+    }
+}

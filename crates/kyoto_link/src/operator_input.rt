@@ -1,0 +1,113 @@
+//! Standard input, and that of a node, whose operator may write nothing for long.
+
+use mio::unix::SourceFd;
+use mio::{Events, Interest, Poll, Token};
+use std::alloc::Global;
+use std::io::{self, BufReader, ErrorKind, Input, Read, StdinLock};
+use std::net::Net;
+use std::time::Duration;
+
+/// The file descriptor of standard input.
+const STANDARD_INPUT: i32 = 0;
+
+/// How long a read waits for something to be written, in milliseconds.
+const LONGEST_WAIT: u64 = 250;
+
+/// How many bytes are read at once at most.
+const READ_AT_ONCE: usize = 4_096;
+
+/// What waits until there is something to read.
+#[derive(Drop)]
+struct Watch {
+    poll: Poll,
+    events: Events,
+}
+
+impl Watch {
+    /// What waits for standard input. `None` where the system can't wait for it, as for a file, which always has
+    /// something to read or has ended.
+    fn new<R: Net>(rt: &R, alloc: Global) -> Option<Watch> {
+        let poll = Poll::new(rt).ok()?;
+        let events = Events::with_capacity(alloc, 1).ok()?;
+        let watch = Watch { poll, events };
+        watch
+            .poll
+            .registry()
+            .register(&mut SourceFd(&STANDARD_INPUT), Token(0), Interest::READABLE)
+            .ok()?;
+        Some(watch)
+    }
+
+    /// Waits until there is something to read or the input has ended, which is `true`, for `LONGEST_WAIT` milliseconds
+    /// at most.
+    fn has_come(&mut self) -> io::Result<bool> {
+        // An event comes once, so that what a read has left would wait for more otherwise.
+        self.poll.registry().reregister(
+            &mut SourceFd(&STANDARD_INPUT),
+            Token(0),
+            Interest::READABLE,
+        )?;
+        let longest = Some(Duration::from_millis(LONGEST_WAIT));
+        self.poll.poll(&mut self.events, longest)?;
+        Ok(!self.events.is_empty())
+    }
+}
+
+/// Standard input, of which a read fails with `WouldBlock` where nothing was written for `LONGEST_WAIT` milliseconds.
+#[derive(Drop)]
+pub(crate) struct OperatorInput {
+    stdin: StdinLock<'static>,
+    watch: Option<Watch>,
+}
+
+impl Read for OperatorInput {
+    fn read(&mut self, piece: &mut [u8]) -> io::Result<usize> {
+        if let Some(watch) = &mut self.watch {
+            if !watch.has_come()? {
+                return Err(ErrorKind::WouldBlock.into());
+            }
+        }
+        self.stdin.read(piece)
+    }
+}
+
+/// Standard input, as a command reads it.
+#[derive(Drop)]
+pub(crate) enum StandardInput {
+    /// Each read waits until something is written.
+    Waiting(StdinLock<'static>),
+    /// A read returns now and then where nothing is.
+    Returning(BufReader<OperatorInput>),
+}
+
+impl StandardInput {
+    /// That of a node's operator, or that of any other command.
+    ///
+    /// # Errors
+    ///
+    /// Fails with `OutOfMemory`.
+    pub(crate) fn new<R: Net>(
+        rt: &HostRuntime,
+        net: &R,
+        is_operator: bool,
+    ) -> io::Result<StandardInput> {
+        if !is_operator {
+            return Ok(StandardInput::Waiting(rt.reader()));
+        }
+        let input = OperatorInput {
+            stdin: rt.reader(),
+            watch: Watch::new(net, rt.alloc()),
+        };
+        let reader = BufReader::with_capacity(rt.alloc(), READ_AT_ONCE, input)?;
+        Ok(StandardInput::Returning(reader))
+    }
+}
+
+impl Read for StandardInput {
+    fn read(&mut self, piece: &mut [u8]) -> io::Result<usize> {
+        match self {
+            StandardInput::Waiting(stdin) => stdin.read(piece),
+            StandardInput::Returning(reader) => reader.read(piece),
+        }
+    }
+}

@@ -1,0 +1,4 @@
+pub mod Peers
+pub mod Setups
+pub mod Sums
+pub mod Words

@@ -1,0 +1,5 @@
+pub mod Asking
+pub mod Lives
+pub mod Reading
+pub mod Shifts
+pub mod Turns

@@ -1,0 +1,109 @@
+-- What a node's operator asked, and its clock, one after another, and what came of it.
+use Rattle.std.specs.Prelude.{◌≡◌, ◌≢◌, ◌⊎◌, ◌<◌, ◌+◌, ℕ, Bool, true, false, All, List, [], ◌∷◌, ◌++◌, codes, decimal, length}
+use Rattle.units.specs.Limits.{longest_line}
+use Rattle.units.specs.declared.code.Node.{Node}
+use Rattle.units.specs.declared.code.Node.TheVariants.{Itl}
+use Rattle.protocol.specs.Input.TheVariants.{CleanUp}
+use Rattle.protocol.specs.Moment.{Moment}
+use Rattle.protocol.specs.Scheme.{Scheme}
+use Rattle.desk.specs.declared.notes.Asked.{Asked}
+use Rattle.desk.specs.declared.notes.Asked.TheVariants.{Take}
+use Rattle.desk.specs.declared.notes.Told.{Told}
+use Rattle.input_lines.specs.declared.script_line.ScriptLine.{ScriptLine}
+use Rattle.input_lines.specs.declared.script_line.ScriptLine.TheVariants.{Order}
+use Rattle.run.specs.Answers.{answer_line, asked_by, is_possible, node_of}
+use Rattle.run.specs.declared.answer.ScriptAnswer.{ScriptAnswer}
+use Rattle.run.specs.declared.answer.ScriptAnswer.TheVariants.{NotPossible, Told as Answered}
+use Rattle.one_node.specs.Asking.{Asks}
+use Rattle.one_node.specs.declared.answering.LineFault.{LineFault}
+use Rattle.one_node.specs.declared.answering.LineFault.TheVariants as faults
+
+pub data Turn : Type 0 where
+  -- a line, the order or question that it writes, and the answer
+  Line : List ℕ → ScriptLine → ScriptAnswer → Turn
+  -- a line that asks for nothing, or for an export that failed, and why
+  Unread : List ℕ → LineFault → Turn
+  -- a line that asks for an export, and how many records were exported
+  Exported : List ℕ → ℕ → Turn
+  -- a clean-up that the clock ordered at that moment, and what the node told of it
+  Timed : Moment → Told → Turn
+
+-- ---- what was read and written
+
+-- the lines, without their newlines
+abbrev pub raw_lines : List Turn → List (List ℕ)
+raw_lines [] = []
+raw_lines (Line raw l answer ∷ turns) = raw ∷ raw_lines turns
+raw_lines (Unread raw fault ∷ turns) = raw ∷ raw_lines turns
+raw_lines (Exported raw count ∷ turns) = raw ∷ raw_lines turns
+raw_lines (Timed moment told ∷ turns) = raw_lines turns
+
+abbrev pub fault_word : LineFault → List ℕ
+fault_word faults.Order = codes "order"
+fault_word faults.TooLong = codes "too-long"
+fault_word faults.Export = codes "export"
+
+-- the line with that number is none that a node is asked by
+abbrev pub fault_line : ℕ → LineFault → List ℕ
+fault_line number fault = decimal number ++ codes " fault " ++ fault_word fault ++ codes "\n"
+
+-- as many records were exported for the line with that number
+abbrev pub export_line : ℕ → ℕ → List ℕ
+export_line number count = decimal number ++ codes " exported " ++ decimal count ++ codes "\n"
+
+-- the answers to the lines, the first of which has that number
+abbrev pub answers_text : ℕ → List Turn → List ℕ
+answers_text number [] = []
+answers_text number (Line raw l answer ∷ turns) = answer_line number answer ++ answers_text (number + 1) turns
+answers_text number (Unread raw fault ∷ turns) = fault_line number fault ++ answers_text (number + 1) turns
+answers_text number (Exported raw count ∷ turns) = export_line number count ++ answers_text (number + 1) turns
+answers_text number (Timed moment told ∷ turns) = answers_text number turns
+
+-- ---- what was asked
+
+-- the orders and questions, those of the clock too
+abbrev pub lines_of : List Turn → List ScriptLine
+lines_of [] = []
+lines_of (Line raw l answer ∷ turns) = l ∷ lines_of turns
+lines_of (Unread raw fault ∷ turns) = lines_of turns
+lines_of (Exported raw count ∷ turns) = lines_of turns
+lines_of (Timed moment told ∷ turns) = Order Itl (CleanUp moment) ∷ lines_of turns
+
+-- and what came of each
+abbrev pub answers_of : List Turn → List ScriptAnswer
+answers_of [] = []
+answers_of (Line raw l answer ∷ turns) = answer ∷ answers_of turns
+answers_of (Unread raw fault ∷ turns) = answers_of turns
+answers_of (Exported raw count ∷ turns) = answers_of turns
+answers_of (Timed moment told ∷ turns) = Answered told ∷ answers_of turns
+
+-- the line asks for an export to that path
+abbrev pub IsExportLine : List ℕ → List ℕ → Type 0
+IsExportLine line path = line ≡ codes "export " ++ path
+
+abbrev pub AsksExport : List ℕ → Type 0
+AsksExport line = (path : List ℕ) × IsExportLine line path
+
+-- the node under the scheme, and what stands behind what was told of something asked
+module _ (scheme : Scheme) (n : Node) (Backs : Asked → Told → Type 0) where
+  -- the node takes no such order, or it was asked
+  abbrev pub IsAnswer : ScriptLine → ScriptAnswer → Type 0
+  IsAnswer l NotPossible = (node_of l ≢ n) ⊎ (is_possible scheme l ≡ false)
+  IsAnswer l (Answered told) = (node_of l ≡ n) × (is_possible scheme l ≡ true) × Backs (asked_by l) told
+
+  -- the same; the moments that the node's clock told; and what stands behind an export
+  module _ (tells : Moment → Type 0) (Carries : List ℕ → ℕ → Type 0) where
+    abbrev pub IsTurn : Turn → Type 0
+    IsTurn (Line raw l answer) = Asks n raw l × IsAnswer l answer
+    IsTurn (Unread raw faults.Order) = (l : ScriptLine) → Asks n raw l → ⊥
+    IsTurn (Unread raw faults.TooLong) = longest_line < length raw
+    IsTurn (Unread raw faults.Export) = AsksExport raw
+    IsTurn (Exported raw count) = Carries raw count
+    IsTurn (Timed moment told) = (n ≡ Itl) × tells moment × Backs (Take (CleanUp moment)) told
+
+-- ---- what the code follows; no public contract cites what stands below
+
+-- whether the line is the node's and it takes such an order
+abbrev pub IsPossible : Scheme → Node → ScriptLine → Bool → Type 0
+IsPossible scheme n l true = (node_of l ≡ n) × (is_possible scheme l ≡ true)
+IsPossible scheme n l false = (node_of l ≢ n) ⊎ (is_possible scheme l ≡ false)

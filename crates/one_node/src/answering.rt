@@ -1,0 +1,50 @@
+//! What a node's operator is answered.
+ghost use Rattle.std.specs.Prelude.{◌≡◌, ◌++◌, IfOk, OnOk, string_bytes};
+ghost use Rattle.one_node.specs.Turns.{export_line, fault_line, fault_word};
+
+use std::alloc::Global;
+use std::fmt::Write;
+use units::NoMemory;
+
+/// Why a line asks for nothing, or for an export that failed.
+#[derive(Clone, Copy, Debug, PartialEq, Eq)]
+pub enum LineFault {
+    /// It is no order and no question.
+    Order,
+    /// It has more than `LONGEST_LINE` bytes.
+    TooLong,
+    /// It asks for an export, and the records weren't exported.
+    Export,
+}
+
+impl LineFault {
+    /// The word for it.
+    fn word(self) -> &'static str
+        ensures { result.now ≡ fault_word self }
+    {
+        match self {
+            LineFault::Order => "order",
+            LineFault::TooLong => "too-long",
+            LineFault::Export => "export",
+        }
+    }
+}
+
+/// Adds the answer to the line with that number, which has that fault. The text may have a part of it after
+/// `NoMemory`.
+pub(crate) fn push_fault(text: &mut String, number: u64, fault: LineFault) -> Result<(), NoMemory>
+    ensures { OnOk result (string_bytes text.new ≡ string_bytes text.old ++ fault_line number fault) }
+{
+    let word = fault.word();
+    writeln!(text, "{number} fault {word}")?;
+    Ok(())
+}
+
+/// Adds the answer to the line with that number, for which as many records were exported. The text may have a part of it
+/// after `NoMemory`.
+pub(crate) fn push_export(text: &mut String, number: u64, count: usize) -> Result<(), NoMemory>
+    ensures { OnOk result (string_bytes text.new ≡ string_bytes text.old ++ export_line number count) }
+{
+    writeln!(text, "{number} exported {count}")?;
+    Ok(())
+}

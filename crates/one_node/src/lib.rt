@@ -1,0 +1,16 @@
+//! The command `node`: one node of a scheme with its threads, and the lines that its operator writes.
+#![tactic(auto)]
+
+mod answering;
+mod asking;
+mod exporting;
+mod life;
+mod living;
+mod operator;
+mod reading;
+mod shift;
+mod timer;
+
+pub use answering::LineFault;
+pub use exporting::{Exporter, NotExported};
+pub use living::{Setting, run_alone};

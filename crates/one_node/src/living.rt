@@ -1,0 +1,411 @@
+//! The life of a node that stands alone: shift after shift, until its operator ends it.
+ghost use Rattle.std.specs.Prelude.{◌≡◌, ◌<◌, ◌++◌, ◌∷◌, [], true, false, ℕ, List, All, IfOk, Ok, OnOk, length, string_bytes};
+ghost use Rattle.std.specs.Io.KnownBytes.{Appends};
+ghost use Rattle.desk.specs.Keeping.{IsKept, MayOpen, StoredView};
+ghost use Rattle.desk.specs.Views.{SeatView, committed_records, opened_with};
+ghost use Rattle.protocol.specs.Input.{Input as AnInput};
+ghost use Rattle.protocol.specs.Registries.{is_node};
+ghost use Rattle.sessions.specs.Orders.{HasNoOrder, HasOnly};
+ghost use Rattle.sessions.specs.Threads.{AreOfThread, IsOfThread};
+ghost use Rattle.one_node.specs.Lives.{EndsShift, IsLife, WorksOn, begins_with, records_line};
+ghost use Rattle.one_node.specs.Shifts.{IsBegun, Operates, empty_seat};
+
+use crate::exporting::Exporter;
+use crate::life::Life;
+use crate::operator::{Counter, Next, Operator};
+use crate::shift::Shift;
+use crate::timer::Timer;
+use audit::settle_node;
+use command_faults::{OpFault, store_fault, write_out};
+use desk::stores::NodeStore;
+use desk::{Opening, Seat, Stored};
+use protocol::NodeCore;
+use protocol::scheme::Scheme;
+use run::{LoadedNode, end_desk, station_of};
+use sessions::{Muster, Network, NodeThreads, NodeTypes, Station};
+use std::alloc::Global;
+use std::fmt::Write as FmtWrite;
+use std::io::{Read, Write};
+use std::marker::Brand;
+use std::rt::Clock as SystemClock;
+use std::sync::Wait;
+use std::thread::Threads;
+use std::time::Duration;
+use units::{NoMemory, Node};
+use world::Core;
+
+/// What a node that stands alone is run with: the scheme, the nodes that it sends to, how it meets them, and how often its
+/// clock orders a clean-up, if it does.
+#[derive(Drop)]
+pub struct Setting<'a, N: NodeTypes> {
+    pub scheme: &'a Scheme,
+    pub peers: &'a [Node],
+    pub network: &'a Network<N>,
+    pub clean_up: Option<Duration>,
+}
+
+/// That station alone. Fails with `NoMemory` where memory ran out: then its store is closed.
+fn one_station<O: Opening, N: NodeTypes>(
+    alloc: Global,
+    station: Station<O, Core, N>,
+) -> Result<Vec<Station<O, Core, N>>, NoMemory>
+    ensures { IfOk result (λ v. 0 < length v.items) }
+{
+    let mut stations = Vec::new(alloc);
+    stations.push(station)?;
+    Ok(stations)
+}
+
+/// Runs that node at its station, and no other, for a shift, while the operator's lines are answered.
+fn run_station<O, N, I, W, R>(
+    rt: &R,
+    alloc: Global,
+    setting: &Setting<'_, N>,
+    node: Node,
+    stations: &[Station<O, Core, N>],
+    operator: &mut Operator,
+    timer: &mut Timer,
+    reader: &mut I,
+    writer: &mut W,
+) -> Result<Shift, OpFault>
+where
+    O: Opening + Send,
+    N: NodeTypes,
+    I: Read,
+    W: Write,
+    R: Threads + Wait + SystemClock + Sync,
+    requires member { is_node setting.now.scheme.now node ≡ true }
+    requires station { 0 < length stations.now }
+    ensures taken { IfOk result (λ s. All (AreOfThread
+        (N.Dialer.leads setting.now.network.now.dialer) N.Dialer.Reader.remaining N.Dialer.Writer.contents
+        N.Store.NodeStore O.opened (N.Clock.tells setting.now.network.now.clock)) s.threads.items) }
+    ensures none { IfOk result (λ s. All HasNoOrder s.threads.items) }
+    ensures talks { IfOk result (λ s. Operates setting.now.scheme.now node
+        (N.Clock.tells setting.now.network.now.clock)
+        operator.old.line.held.items operator.new.line.held.items (I.remaining reader.old) (I.remaining reader.new)
+        (W.contents writer.old) (W.contents writer.new) operator.old.count operator.new.count empty_seat s.seat
+        (Ok s.next)) }
+{
+    let muster = Muster::new();
+    let threads = NodeThreads::new(alloc, &stations[0], setting.network, setting.peers, &muster)?;
+    let counter = Counter {
+        scheme: setting.scheme,
+        node,
+        stations,
+        network: setting.network,
+    };
+    operator.run_shift(
+        rt, alloc, &counter, &threads, &muster, timer, reader, writer,
+    )
+}
+
+/// The seats of the node's threads, and the operator's after them. Fails with `NoMemory` where memory ran out.
+fn all_seats(threads: Vec<Seat>, seat: Seat) -> Result<Vec<Seat>, NoMemory>
+    ensures { IfOk result (λ v. v.items ≡ threads.items ++ seat ∷ []) }
+{
+    let mut seats = threads;
+    if seats.reserve(1).is_err() {
+        drop(seats);
+        drop(seat);
+        return Err(NoMemory);
+    }
+    seats.push_reserved(seat);
+    Ok(seats)
+}
+
+/// Takes the node's desk apart, which no thread shares any more, and settles what was told at it.
+fn end_shift<O: Opening, L: Life, N: NodeTypes>(
+    alloc: Global,
+    scheme: &Scheme,
+    node: Node,
+    stations: Vec<Station<O, Core, N>>,
+    shift: Shift,
+) -> Result<(LoadedNode<N>, Next), OpFault>
+    requires took { All (HasOnly L.takes) shift.threads.items }
+    requires none { All HasNoOrder shift.threads.items }
+    ensures ends { IfOk result (λ r. EndsShift N.Store.NodeStore O.opened scheme.now node L.takes r.0.stored
+        shift.seat) }
+    ensures stands { IfOk result (λ r. N.Store.must_reopen r.0.stored.store ≡ false) }
+    ensures next { IfOk result (λ r. r.1 ≡ shift.next) }
+{
+    let Shift {
+        threads,
+        seat,
+        next,
+    } = shift;
+    let mut stations = stations;
+    let popped = stations.pop();
+    drop(stations);
+    let Some(Station { desk, listener, .. }) = popped else {
+        drop(threads);
+        drop(seat);
+        return Err(OpFault::Unsettled { node });
+    };
+    let seats = all_seats(threads, seat)?;
+    let stored = end_desk(node, desk)?;
+    let core = settle_node(alloc, scheme, node, stored.state(), seats.as_slice())?;
+    drop(core);
+    drop(seats);
+    Ok((LoadedNode { stored, listener }, next))
+}
+
+/// Makes a desk of the node's state, and runs the node at it for a shift, while the operator's lines are answered. Then
+/// what was told is settled.
+fn work_shift<O, L, N, I, W, R>(
+    rt: &R,
+    alloc: Global,
+    setting: &Setting<'_, N>,
+    loaded: LoadedNode<N>,
+    operator: &mut Operator,
+    timer: &mut Timer,
+    reader: &mut I,
+    writer: &mut W,
+) -> Result<(LoadedNode<N>, Next), OpFault>
+where
+    O: Opening + Send,
+    L: Life,
+    N: NodeTypes,
+    I: Read,
+    W: Write,
+    R: Threads + Wait + SystemClock + Sync,
+    requires member { is_node setting.now.scheme.now loaded.stored.state.node ≡ true }
+    requires may_open { MayOpen N.Store.NodeStore O.opened loaded.stored }
+    requires takes { (input : AnInput)
+        → IsOfThread
+        (N.Dialer.leads setting.now.network.now.dialer) N.Dialer.Reader.remaining N.Dialer.Writer.contents
+        N.Store.NodeStore O.opened (N.Clock.tells setting.now.network.now.clock) input → L.takes input }
+    ensures stands { IfOk result (λ r. N.Store.must_reopen r.0.stored.store ≡ false) }
+    ensures shift { IfOk result (λ r. (seat : SeatView)
+        × EndsShift N.Store.NodeStore O.opened setting.now.scheme.now loaded.stored.state.node L.takes r.0.stored seat
+        × Operates setting.now.scheme.now loaded.stored.state.node
+        (N.Clock.tells setting.now.network.now.clock)
+        operator.old.line.held.items operator.new.line.held.items (I.remaining reader.old) (I.remaining reader.new)
+        (W.contents writer.old) (W.contents writer.new) operator.old.count operator.new.count empty_seat seat
+        (Ok r.1)) }
+{
+    let node = loaded.stored.state().node();
+    let stations = one_station(alloc, station_of(alloc, setting.peers, loaded)?)?;
+    let ran = run_station(
+        rt,
+        alloc,
+        setting,
+        node,
+        stations.as_slice(),
+        operator,
+        timer,
+        reader,
+        writer,
+    );
+    match ran {
+        Ok(shift) => end_shift::<O, L, N>(alloc, setting.scheme, node, stations, shift),
+        Err(fault) => {
+            drop(stations);
+            Err(fault)
+        }
+    }
+}
+
+/// The node with a state that runs, and whose whole journal is that of its opening.
+///
+/// # Errors
+///
+/// Fails with the store's fault. The store is closed then.
+fn reopen_node<N: NodeTypes>(left: LoadedNode<N>) -> Result<LoadedNode<N>, OpFault>
+    requires { N.Store.must_reopen left.stored.store ≡ false }
+    ensures state { IfOk result (λ r. r.stored.state
+        ≡ opened_with left.stored.state.scheme left.stored.state.node left.stored.state.journal) }
+    ensures keeps { IfOk result (λ r. IsKept N.Store.NodeStore r.stored) }
+{
+    let LoadedNode { stored, listener } = left;
+    let node = stored.state().node();
+    match stored.reopen() {
+        Ok(stored) => Ok(LoadedNode { stored, listener }),
+        Err(fault) => {
+            drop(listener);
+            Err(store_fault(node, fault))
+        }
+    }
+}
+
+/// Runs the node for a shift. Afterwards its state runs, with its whole journal as that of its opening, where it is to go
+/// on; and it has stopped, where it is to end.
+fn next_shift<L, N, I, W, R>(
+    rt: &R,
+    alloc: Global,
+    setting: &Setting<'_, N>,
+    loaded: LoadedNode<N>,
+    operator: &mut Operator,
+    timer: &mut Timer,
+    reader: &mut I,
+    writer: &mut W,
+) -> Result<(LoadedNode<N>, Next), OpFault>
+where
+    L: Life,
+    N: NodeTypes,
+    I: Read,
+    W: Write,
+    R: Threads + Wait + SystemClock + Sync,
+    requires member { is_node setting.now.scheme.now loaded.stored.state.node ≡ true }
+    requires opened { loaded.stored.state
+        ≡ opened_with setting.now.scheme.now loaded.stored.state.node loaded.stored.state.journal }
+    requires first { (more : List AnInput) × (loaded.stored.state.journal ≡ L.first ++ more) }
+    requires takes { (input : AnInput)
+        → IsOfThread
+        (N.Dialer.leads setting.now.network.now.dialer) N.Dialer.Reader.remaining N.Dialer.Writer.contents
+        N.Store.NodeStore (begins_with setting.now.scheme.now loaded.stored.state.node L.first)
+        (N.Clock.tells setting.now.network.now.clock) input → L.takes input }
+    ensures shift { (begun : List ℕ) → IsBegun operator.old.line.held.items begun → IfOk result
+        (λ r. WorksOn setting.now.scheme.now loaded.stored.state.node (N.Clock.tells setting.now.network.now.clock) L.takes
+        loaded.stored.state.journal r.0.stored.state begun operator.new.line.held.items (I.remaining reader.old)
+        (I.remaining reader.new) (W.contents writer.old) (W.contents writer.new) operator.old.count operator.new.count
+        r.1) }
+    ensures keeps { IfOk result (λ r. IsKept N.Store.NodeStore r.0.stored) }
+{
+    let (left, next) = work_shift::<Brand, L, N, I, W, R>(
+        rt, alloc, setting, loaded, operator, timer, reader, writer,
+    )?;
+    match next {
+        Next::On => Ok((reopen_node(left)?, Next::On)),
+        Next::Export => Ok((reopen_node(left)?, Next::Export)),
+        Next::End => Ok((left, Next::End)),
+    }
+}
+
+/// The last line of a node with that many records.
+fn last_line(alloc: Global, records: usize) -> Result<String, NoMemory>
+    ensures { IfOk result (λ s. string_bytes s ≡ records_line records) }
+{
+    let mut text = String::new(alloc);
+    writeln!(text, "records {records}")?;
+    Ok(text)
+}
+
+/// Writes the last line, with the number of the node's committed records.
+fn write_end<C: NodeCore, S: NodeStore, W: Write>(
+    alloc: Global,
+    stored: &Stored<C, S>,
+    writer: &mut W,
+) -> Result<(), OpFault>
+    ensures { OnOk result (Appends (W.contents writer.old) (W.contents writer.new)
+        (records_line (length (committed_records stored.now.state)))) }
+{
+    let text = last_line(alloc, stored.state().committed().len())?;
+    write_out(writer, text.as_str())
+}
+
+/// As `run_alone`, of a life of which that is known.
+fn live<L, N, E, I, W, R>(
+    rt: &R,
+    alloc: Global,
+    setting: &Setting<'_, N>,
+    loaded: LoadedNode<N>,
+    exporter: &E,
+    reader: &mut I,
+    writer: &mut W,
+) -> Result<Stored<Core, N::Store>, OpFault>
+where
+    L: Life,
+    N: NodeTypes,
+    E: Exporter,
+    I: Read,
+    W: Write,
+    R: Threads + Wait + SystemClock + Sync,
+    requires member { is_node setting.now.scheme.now loaded.stored.state.node ≡ true }
+    requires opened { loaded.stored.state
+        ≡ opened_with setting.now.scheme.now loaded.stored.state.node loaded.stored.state.journal }
+    requires first { loaded.stored.state.journal ≡ L.first }
+    requires takes { (input : AnInput)
+        → IsOfThread
+        (N.Dialer.leads setting.now.network.now.dialer) N.Dialer.Reader.remaining N.Dialer.Writer.contents
+        N.Store.NodeStore (begins_with setting.now.scheme.now loaded.stored.state.node L.first)
+        (N.Clock.tells setting.now.network.now.clock) input → L.takes input }
+    ensures life { IfOk result (λ s. IsLife setting.now.scheme.now loaded.stored.state.node
+        (N.Clock.tells setting.now.network.now.clock) L.takes
+        (λ path records. E.holds exporter.now path loaded.stored.state.node records) loaded.stored.state.journal
+        (committed_records s.state) (I.remaining reader.old) (I.remaining reader.new) (W.contents writer.old) (W.contents writer.new)) }
+    ensures keeps { IfOk result (IsKept N.Store.NodeStore) }
+{
+    let mut operator = Operator::new(alloc)?;
+    let mut timer = Timer::new(rt, setting.clean_up);
+    let mut standing = loaded;
+    for _ in rt.forever() {
+        let (left, next) = next_shift::<L, N, I, W, R>(
+            rt,
+            alloc,
+            setting,
+            standing,
+            &mut operator,
+            &mut timer,
+            reader,
+            writer,
+        )?;
+        match next {
+            Next::On => standing = left,
+            Next::Export => {
+                let state = left.stored.state();
+                operator.answer_export(exporter, state.node(), state.committed(), writer)?;
+                standing = left;
+            }
+            Next::End => {
+                let LoadedNode { stored, listener } = left;
+                drop(listener);
+                write_end(alloc, &stored, writer)?;
+                return Ok(stored);
+            }
+        }
+    }
+    unreachable!()
+}
+
+/// Runs one node of a scheme in threads, while its operator's lines are answered, each at once when it is committed:
+/// orders and questions as a script has them, without the node's name, and `export PATH`, for which the threads rest until
+/// the records are in a new store at the path. At the line `stop`, or at the end of the lines,
+/// the node stops, its threads end, and the number of its committed records is written as the last line. The reader may
+/// fail with `WouldBlock`, `TimedOut` or `Interrupted` where no line has come yet, and must do so now and then: what the
+/// threads and the operator were told is settled between two reads, once much of it has gathered.
+///
+/// Returns the state with its store. The journal begins with the records that it was loaded with, and bears each answer;
+/// it begins with the records of each export too.
+/// Since then it has the operator's orders that were answered as recorded, in their order, each once, and the clean-ups
+/// that the clock ordered. What else it has is a message, at a moment that the clock told, or the acknowledgement of a
+/// message that the store had as a committed record's, and that its peer replied over a connection that it received.
+///
+/// # Errors
+///
+/// The store is closed then, and its records are there all the same. Fails with
+///
+/// - `Store`: the store failed, which has stopped the node.
+/// - `Unsettled`: the threads or the operator were told something else than one thread alone would have been told.
+/// - `Read`: the reader failed.
+/// - `Write`: the output failed, after the number of bytes of a line that the fault tells.
+/// - `NoMemory`: memory ran out, or the system had too few threads.
+pub fn run_alone<N, E, I, W, R>(
+    rt: &R,
+    alloc: Global,
+    setting: &Setting<'_, N>,
+    loaded: LoadedNode<N>,
+    exporter: &E,
+    reader: &mut I,
+    writer: &mut W,
+) -> Result<Stored<Core, N::Store>, OpFault>
+where
+    N: NodeTypes,
+    E: Exporter,
+    I: Read,
+    W: Write,
+    R: Threads + Wait + SystemClock + Sync,
+    requires member { is_node setting.now.scheme.now loaded.stored.state.node ≡ true }
+    requires opened { loaded.stored.state
+        ≡ opened_with setting.now.scheme.now loaded.stored.state.node loaded.stored.state.journal }
+    ensures life { IfOk result (λ s. IsLife setting.now.scheme.now loaded.stored.state.node
+        (N.Clock.tells setting.now.network.now.clock) (IsOfThread
+        (N.Dialer.leads setting.now.network.now.dialer) N.Dialer.Reader.remaining N.Dialer.Writer.contents
+        N.Store.NodeStore
+        (begins_with setting.now.scheme.now loaded.stored.state.node loaded.stored.state.journal)
+        (N.Clock.tells setting.now.network.now.clock))
+        (λ path records. E.holds exporter.now path loaded.stored.state.node records) loaded.stored.state.journal
+        (committed_records s.state) (I.remaining reader.old) (I.remaining reader.new) (W.contents writer.old) (W.contents writer.new)) }
+    ensures keeps { IfOk result (IsKept N.Store.NodeStore) }
+{
+    live::<Brand, N, E, I, W, R>(rt, alloc, setting, loaded, exporter, reader, writer)
+}

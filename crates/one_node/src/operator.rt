@@ -1,0 +1,320 @@
+//! The operator of a node, who writes lines and is answered each of them.
+ghost use Rattle.std.specs.Prelude.{◌≡◌, ◌<◌, ◌+◌, ◌++◌, ◌∷◌, [], true, List, ℕ, IfOk, OnOk, length};
+ghost use Rattle.std.specs.Io.KnownBytes.{Appends};
+ghost use Rattle.units.specs.declared.code.Node.{Node as ANode};
+ghost use Rattle.protocol.specs.Registries.{is_node};
+ghost use Rattle.protocol.specs.Scheme.{Scheme as AScheme};
+ghost use Rattle.input_lines.specs.declared.script_line.ScriptLine.{ScriptLine as ALine};
+ghost use Rattle.run.specs.Heard.{Grows, HasHeard};
+ghost use Rattle.run.specs.Orders.{HasOrders};
+ghost use Rattle.run.specs.declared.answer.ScriptAnswer.{ScriptAnswer as AnAnswer};
+ghost use Rattle.one_node.specs.Shifts.{IsBegun, IsNext, IsTimed, Operates, TakesLine, Talks};
+ghost use Rattle.one_node.specs.Turns.{IsAnswer, IsPossible, fault_line};
+
+use crate::answering::{LineFault, push_fault};
+use crate::asking::asked_by;
+use crate::exporting::export_path;
+use crate::reading::{LineBuffer, Step};
+use crate::timer::Timer;
+use command_faults::{OpFault, write_out};
+use desk::{Clock, Opening, Seat};
+use input_lines::{ScriptLine, WordsFault};
+use protocol::scheme::Scheme;
+use run::{Nobody, ScriptAnswer, ask, push_answer, takes};
+use sessions::{Network, NodeTypes, Station};
+use std::alloc::Global;
+use std::io::{Read, Write};
+use std::rt::Clock as SystemClock;
+use std::sync::Wait;
+use std::thread;
+use std::time::Duration;
+use units::{NoMemory, Node};
+use wire::Input;
+use world::Core;
+
+/// How long the operator's thread sleeps where there is nothing to read, in milliseconds.
+const QUIET_PAUSE: u64 = 10;
+
+/// How many notes are kept at least before they are settled.
+const LEAST_NOTES: usize = 2_048;
+
+/// Settling goes through the journal once, so that more notes are kept where it is long: one for so many records.
+const RECORDS_A_NOTE: usize = 64;
+
+/// How many bytes an answer has at most.
+const LONGEST_ANSWER: usize = 64;
+
+/// What comes after a step of the operator's.
+#[derive(Clone, Copy, Debug, PartialEq, Eq)]
+pub(crate) enum Next {
+    /// Another step.
+    On,
+    /// The records' export, which the line that is held asks for.
+    Export,
+    /// The node's end: the operator asked for it, or the lines ended.
+    End,
+}
+
+/// Where orders and questions go: a node at its station, under its scheme.
+#[derive(Drop)]
+pub(crate) struct Counter<'a, O: Opening, N: NodeTypes> {
+    pub(crate) scheme: &'a Scheme,
+    pub(crate) node: Node,
+    /// The node's station, and no other.
+    pub(crate) stations: &'a [Station<O, Core, N>],
+    pub(crate) network: &'a Network<N>,
+}
+
+/// Whether the line is for that node, which is one of the scheme's, and the node takes such an order.
+fn is_possible(node: Node, line: &ScriptLine) -> bool
+    ensures { (scheme : AScheme) → is_node scheme node ≡ true → IsPossible scheme node line.now result }
+{
+    match line {
+        ScriptLine::Order { node: named, input } => *named == node && takes(node, input),
+        ScriptLine::Status { node: named, .. } => *named == node,
+        ScriptLine::Until { node: named, .. } => *named == node,
+    }
+}
+
+impl<'a, O: Opening, N: NodeTypes> Counter<'a, O, N> {
+    /// What the node tells of an order or a question, where it is possible.
+    fn answer<R: Wait + SystemClock>(
+        &self,
+        rt: &R,
+        seat: &mut Seat,
+        line: &ScriptLine,
+    ) -> ScriptAnswer
+        requires member { is_node self.now.scheme.now self.now.node ≡ true }
+        requires station { 0 < length self.now.stations.now }
+        ensures answer { IsAnswer self.now.scheme.now self.now.node (HasHeard seat.new) line.now result }
+        ensures grows { Grows seat.old seat.new }
+        ensures orders { (lines : List ALine) (answers : List AnAnswer) → length answers ≡ length lines
+            → HasOrders self.now.node lines answers seat.old
+            → HasOrders self.now.node (lines ++ line.now ∷ []) (answers ++ result ∷ []) seat.new }
+    {
+        if is_possible(self.node, line) {
+            ScriptAnswer::Told(ask(rt, self.stations, 0, seat, line, &mut Nobody))
+        } else {
+            ScriptAnswer::NotPossible
+        }
+    }
+
+    /// Whether the desk has stopped, or so much was noted there that it is to be settled.
+    fn is_to_settle<R: Wait>(&self, rt: &R, seat: &Seat) -> bool {
+        let Some(station) = self.stations.first() else {
+            return true;
+        };
+        if !station.desk.is_running(rt) {
+            return true;
+        }
+        let notes = station
+            .desk
+            .unrecorded_count(rt)
+            .saturating_add(seat.notes().len());
+        notes >= LEAST_NOTES.max(station.desk.committed_count(rt) / RECORDS_A_NOTE)
+    }
+
+    /// Orders a clean-up at the clock's moment, where the node is the log.
+    fn clean_up<R: Wait + SystemClock>(&self, rt: &R, seat: &mut Seat)
+        requires member { is_node self.now.scheme.now self.now.node ≡ true }
+        requires station { 0 < length self.now.stations.now }
+        ensures { IsTimed self.now.scheme.now self.now.node (N.Clock.tells self.now.network.now.clock) seat.old
+            seat.new }
+    {
+        match self.node {
+            Node::Itl => self.order_clean_up(rt, seat),
+            Node::Registry(_) => {}
+        }
+    }
+
+    /// Orders a clean-up at the clock's moment. The node is the log.
+    fn order_clean_up<R: Wait + SystemClock>(&self, rt: &R, seat: &mut Seat)
+        requires log { self.now.node ≡ ANode.Itl }
+        requires member { is_node self.now.scheme.now self.now.node ≡ true }
+        requires station { 0 < length self.now.stations.now }
+        ensures { IsTimed self.now.scheme.now self.now.node (N.Clock.tells self.now.network.now.clock) seat.old
+            seat.new }
+    {
+        let moment = self.network.clock.now();
+        let line = ScriptLine::Order {
+            node: Node::Itl,
+            input: Input::CleanUp(moment),
+        };
+        let _told = ask(rt, self.stations, 0, seat, &line, &mut Nobody);
+    }
+}
+
+/// An operator: what was read of the next line, and how many lines were answered.
+#[derive(Drop)]
+pub(crate) struct Operator {
+    pub(crate) alloc: Global,
+    pub(crate) line: LineBuffer,
+    count: u64,
+}
+
+impl Operator {
+    /// An operator of whom no line was read. Fails with `NoMemory` where memory ran out.
+    pub(crate) fn new(alloc: Global) -> Result<Operator, NoMemory>
+        ensures line { IfOk result (λ o. o.line.held.items ≡ []) }
+        ensures count { IfOk result (λ o. o.count ≡ 0) }
+    {
+        let line = LineBuffer::new(alloc)?;
+        Ok(Operator {
+            alloc,
+            line,
+            count: 0,
+        })
+    }
+
+    /// The number of the line that is held. Fails with `NoMemory` after the last number that there is.
+    pub(crate) fn number(&self) -> Result<u64, NoMemory>
+        ensures { IfOk result (λ number. number ≡ self.now.count + 1) }
+    {
+        match self.count.checked_add(1) {
+            Some(number) => Ok(number),
+            None => Err(NoMemory),
+        }
+    }
+
+    /// Writes the answer to the line that is held, which has that number, and begins the next one.
+    pub(crate) fn write_answer<W: Write>(
+        &mut self,
+        writer: &mut W,
+        text: &str,
+        number: u64,
+    ) -> Result<(), OpFault>
+        ensures written { OnOk result (Appends (W.contents writer.old) (W.contents writer.new) text.now) }
+        ensures count { OnOk result (self.new.count ≡ number) }
+        ensures line { OnOk result (self.new.line.held.items ≡ []) }
+    {
+        write_out(writer, text)?;
+        self.count = number;
+        self.line.begin();
+        Ok(())
+    }
+
+    /// Answers the line that is held, which has that fault.
+    pub(crate) fn refuse<W: Write>(
+        &mut self,
+        writer: &mut W,
+        fault: LineFault,
+    ) -> Result<(), OpFault>
+        ensures written { OnOk result (Appends (W.contents writer.old) (W.contents writer.new)
+            (fault_line (self.old.count + 1) fault)) }
+        ensures count { OnOk result (self.new.count ≡ self.old.count + 1) }
+        ensures line { OnOk result (self.new.line.held.items ≡ []) }
+    {
+        let number = self.number()?;
+        let mut text = String::new(self.alloc);
+        push_fault(&mut text, number, fault)?;
+        self.write_answer(writer, text.as_str(), number)
+    }
+
+    /// Asks the node what the line that is held asks for, and answers it. `Export` where it asks for an export, which isn't
+    /// answered yet, and `End` where it asks for the node's end.
+    fn take_line<O: Opening, N: NodeTypes, W: Write, R: Wait + SystemClock>(
+        &mut self,
+        rt: &R,
+        counter: &Counter<'_, O, N>,
+        writer: &mut W,
+        seat: &mut Seat,
+    ) -> Result<Next, OpFault>
+        requires member { is_node counter.now.scheme.now counter.now.node ≡ true }
+        requires station { 0 < length counter.now.stations.now }
+        ensures { IfOk result (λ next. TakesLine counter.now.scheme.now counter.now.node
+            (N.Clock.tells counter.now.network.now.clock) self.old.line.held.items (W.contents writer.old)
+            (W.contents writer.new) self.old.count self.new.count seat.old seat.new self.new.line.held.items next) }
+    {
+        if self.line.held() == b"stop".as_slice() {
+            return Ok(Next::End);
+        }
+        if export_path(self.line.held()).is_some() {
+            return Ok(Next::Export);
+        }
+        let number = self.number()?;
+        // Before anything is asked, so that memory for the answer can't run out after it.
+        let Ok(mut text) = String::with_capacity(self.alloc, LONGEST_ANSWER) else {
+            return Err(OpFault::NoMemory);
+        };
+        match asked_by(self.alloc, counter.node, self.line.held()) {
+            Ok(line) => {
+                let answer = counter.answer(rt, seat, &line);
+                push_answer(&mut text, number, answer)?;
+                self.write_answer(writer, text.as_str(), number)?;
+                Ok(Next::On)
+            }
+            Err(WordsFault::Order) => {
+                self.refuse(writer, LineFault::Order)?;
+                Ok(Next::On)
+            }
+            Err(WordsFault::NoMemory) => Err(OpFault::NoMemory),
+        }
+    }
+
+    /// Orders the clean-up that is due, or reads on, and answers the line where one is read to its end.
+    fn step<O: Opening, N: NodeTypes, I: Read, W: Write, R: Wait + SystemClock>(
+        &mut self,
+        rt: &R,
+        counter: &Counter<'_, O, N>,
+        timer: &mut Timer,
+        reader: &mut I,
+        writer: &mut W,
+        seat: &mut Seat,
+    ) -> Result<Next, OpFault>
+        requires member { is_node counter.now.scheme.now counter.now.node ≡ true }
+        requires station { 0 < length counter.now.stations.now }
+        ensures { (begun : List ℕ) → IsBegun self.old.line.held.items begun → IfOk result
+            (λ next. (left : List ℕ) × Talks counter.now.scheme.now counter.now.node
+            (N.Clock.tells counter.now.network.now.clock) begun (I.remaining reader.old) (I.remaining reader.new)
+            (W.contents writer.old) (W.contents writer.new) self.old.count self.new.count seat.old seat.new left
+            × IsNext self.new.line.held.items (I.remaining reader.new) left next) }
+    {
+        if timer.is_due(rt) {
+            counter.clean_up(rt, seat);
+            return Ok(Next::On);
+        }
+        match self.line.step(reader) {
+            Step::Line => self.take_line(rt, counter, writer, seat),
+            Step::TooLong => {
+                self.refuse(writer, LineFault::TooLong)?;
+                Ok(Next::On)
+            }
+            Step::Quiet => {
+                thread::sleep(rt, Duration::from_millis(QUIET_PAUSE));
+                Ok(Next::On)
+            }
+            Step::Ended => Ok(Next::End),
+            Step::Failed => Err(OpFault::Read),
+        }
+    }
+
+    /// Answers lines until the operator asks for an export, which is `Export`, or for the node's end, which is `End`; or
+    /// until the desk has stopped, or so much was noted at it that the notes are to be settled, which is `On`.
+    pub(crate) fn operate<O: Opening, N: NodeTypes, I: Read, W: Write, R: Wait + SystemClock>(
+        &mut self,
+        rt: &R,
+        counter: &Counter<'_, O, N>,
+        timer: &mut Timer,
+        reader: &mut I,
+        writer: &mut W,
+        seat: &mut Seat,
+    ) -> Result<Next, OpFault>
+        requires member { is_node counter.now.scheme.now counter.now.node ≡ true }
+        requires station { 0 < length counter.now.stations.now }
+        ensures { Operates counter.now.scheme.now counter.now.node (N.Clock.tells counter.now.network.now.clock)
+            self.old.line.held.items self.new.line.held.items (I.remaining reader.old) (I.remaining reader.new)
+            (W.contents writer.old) (W.contents writer.new) self.old.count self.new.count seat.old seat.new result }
+    {
+        for _ in rt.forever() {
+            if counter.is_to_settle(rt, seat) {
+                return Ok(Next::On);
+            }
+            match self.step(rt, counter, timer, reader, writer, seat)? {
+                Next::On => {}
+                Next::Export => return Ok(Next::Export),
+                Next::End => return Ok(Next::End),
+            }
+        }
+        unreachable!()
+    }
+}

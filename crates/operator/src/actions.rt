@@ -1,0 +1,284 @@
+//! The actions that the words of the command line name, and how they are read from the matches of `clap`.
+ghost use Rattle.std.specs.Prelude.{◌≡◌, Some, IfOk, IfSome, codes, map, option_map, string_bytes};
+ghost use Rattle.clap.specs.Words.{first_value, found_of};
+ghost use Rattle.operator.specs.Words.{IsOf, NamesAction, extent_word, form_word};
+
+use clap::ArgMatches;
+use report::Form;
+use std::alloc::{AllocError, Global};
+
+/// How many of the stores' records an audit's table is to explain.
+#[derive(Clone, Copy, Debug, PartialEq, Eq)]
+pub enum Extent {
+    /// All of them.
+    Whole,
+    /// As many first ones as a run explains.
+    Furthest,
+}
+
+/// What the words ask for.
+#[derive(Debug, Drop)]
+pub enum Action {
+    /// Run the events that standard input lists, and report.
+    Rehearse,
+    /// Run the events that standard input lists, and draw them.
+    Chart,
+    /// Write the records of the store of the node `node`, which is in the folder `folder`. The file `scheme` has the
+    /// scheme.
+    Show {
+        scheme: String,
+        folder: String,
+        node: String,
+        form: Form,
+    },
+    /// Write the table of a run that leads to the records of the stores in the folder `folder`, to all of them or to as
+    /// many as a run explains. The file `scheme` has the scheme.
+    Audit {
+        scheme: String,
+        folder: String,
+        extent: Extent,
+        form: Form,
+    },
+    /// Write the scheme and the events of a run that leads to the records of the stores in the folder `folder`. The file
+    /// `scheme` has the scheme.
+    Events {
+        scheme: String,
+        folder: String,
+        form: Form,
+    },
+    /// Write the records of the transaction `id` in the stores in the folder `folder`, in the order of a run that leads
+    /// to all records. The file `scheme` has the scheme.
+    Trace {
+        scheme: String,
+        folder: String,
+        id: String,
+        form: Form,
+    },
+    /// Write the text of the documents about the topic `topic`.
+    Explain {
+        topic: String,
+    },
+    /// Run the nodes of the scheme in threads, with their stores in the folder `folder`, while the lines of the file
+    /// `script` are ordered and asked, and report. The file `scheme` has the scheme.
+    Run {
+        scheme: String,
+        folder: String,
+        script: String,
+    },
+    /// Run one node of the scheme by itself, while standard input orders and asks.
+    Node(NodeWords),
+}
+
+/// The words of the action `Node`.
+#[derive(Debug, Drop)]
+pub struct NodeWords {
+    /// The file with the scheme.
+    pub scheme: String,
+    /// The folder with the node's store.
+    pub folder: String,
+    /// The node.
+    pub node: String,
+    /// The address at which the node takes messages.
+    pub listen: String,
+    /// The node's peers with their addresses, one or more, in the order of the words.
+    pub peers: Vec<String>,
+    /// The file with the keys of the links, or `None`, where the links have none.
+    pub keys: Option<String>,
+    /// How many seconds lie between two clean-ups, or `None`, where the node does none of its own accord.
+    pub clean_up: Option<String>,
+}
+
+/// The value of an argument, or `None`, where there is none or memory was refused.
+fn value_of(alloc: Global, matches: &ArgMatches, name: &str) -> Option<String>
+    ensures { IfSome result (λ s. first_value (found_of matches.now) name.now ≡ Some (string_bytes s)) }
+{
+    let value = matches.get_str(name)?;
+    String::from_str(alloc, value).ok()
+}
+
+/// The value of an argument that may be left out, or `None`, where it was.
+fn optional_value(
+    alloc: Global,
+    matches: &ArgMatches,
+    name: &str,
+) -> Result<Option<String>, AllocError>
+    ensures { IfOk result (λ o. first_value (found_of matches.now) name.now ≡ option_map string_bytes o) }
+{
+    match matches.get_str(name) {
+        Some(value) => Ok(Some(String::from_str(alloc, value)?)),
+        None => Ok(None),
+    }
+}
+
+/// A copy of the texts.
+fn copies_of(alloc: Global, texts: &[&str]) -> Result<Vec<String>, AllocError>
+    ensures { IfOk result (λ copies. map string_bytes copies.items ≡ map (λ text. text.now) texts.now) }
+{
+    let mut copies = Vec::new(alloc);
+    for text in texts {
+        copies.push(String::from_str(alloc, text)?)?;
+    }
+    Ok(copies)
+}
+
+/// In which form is to be written, by the flag `json`.
+fn form_of(matches: &ArgMatches) -> Option<Form>
+    ensures { IfSome result (λ f. first_value (found_of matches.now) (codes "json") ≡ Some (form_word f)) }
+{
+    let value = matches.get_str("json")?;
+    if value == "true" {
+        return Some(Form::Json);
+    }
+    if value == "false" {
+        return Some(Form::Lines);
+    }
+    None
+}
+
+fn show_action(alloc: Global, matches: &ArgMatches) -> Option<Action>
+    ensures { IfSome result (IsOf (codes "show") (found_of matches.now)) }
+{
+    let scheme = value_of(alloc, matches, "SCHEME")?;
+    let folder = value_of(alloc, matches, "DIR")?;
+    let node = value_of(alloc, matches, "NODE")?;
+    let form = form_of(matches)?;
+    Some(Action::Show {
+        scheme,
+        folder,
+        node,
+        form,
+    })
+}
+
+/// How much is to be explained, by the flag `cut`.
+fn extent_of(matches: &ArgMatches) -> Option<Extent>
+    ensures { IfSome result (λ e. first_value (found_of matches.now) (codes "cut") ≡ Some (extent_word e)) }
+{
+    let value = matches.get_str("cut")?;
+    if value == "true" {
+        return Some(Extent::Furthest);
+    }
+    if value == "false" {
+        return Some(Extent::Whole);
+    }
+    None
+}
+
+fn audit_action(alloc: Global, matches: &ArgMatches) -> Option<Action>
+    ensures { IfSome result (IsOf (codes "audit") (found_of matches.now)) }
+{
+    let scheme = value_of(alloc, matches, "SCHEME")?;
+    let folder = value_of(alloc, matches, "DIR")?;
+    let extent = extent_of(matches)?;
+    let form = form_of(matches)?;
+    Some(Action::Audit {
+        scheme,
+        folder,
+        extent,
+        form,
+    })
+}
+
+fn events_action(alloc: Global, matches: &ArgMatches) -> Option<Action>
+    ensures { IfSome result (IsOf (codes "events") (found_of matches.now)) }
+{
+    let scheme = value_of(alloc, matches, "SCHEME")?;
+    let folder = value_of(alloc, matches, "DIR")?;
+    let form = form_of(matches)?;
+    Some(Action::Events {
+        scheme,
+        folder,
+        form,
+    })
+}
+
+fn trace_action(alloc: Global, matches: &ArgMatches) -> Option<Action>
+    ensures { IfSome result (IsOf (codes "trace") (found_of matches.now)) }
+{
+    let scheme = value_of(alloc, matches, "SCHEME")?;
+    let folder = value_of(alloc, matches, "DIR")?;
+    let id = value_of(alloc, matches, "ID")?;
+    let form = form_of(matches)?;
+    Some(Action::Trace {
+        scheme,
+        folder,
+        id,
+        form,
+    })
+}
+
+fn explain_action(alloc: Global, matches: &ArgMatches) -> Option<Action>
+    ensures { IfSome result (IsOf (codes "explain") (found_of matches.now)) }
+{
+    let topic = value_of(alloc, matches, "TOPIC")?;
+    Some(Action::Explain { topic })
+}
+
+fn run_action(alloc: Global, matches: &ArgMatches) -> Option<Action>
+    ensures { IfSome result (IsOf (codes "run") (found_of matches.now)) }
+{
+    let scheme = value_of(alloc, matches, "SCHEME")?;
+    let folder = value_of(alloc, matches, "DIR")?;
+    let script = value_of(alloc, matches, "SCRIPT")?;
+    Some(Action::Run {
+        scheme,
+        folder,
+        script,
+    })
+}
+
+fn node_action(alloc: Global, matches: &ArgMatches) -> Option<Action>
+    ensures { IfSome result (IsOf (codes "node") (found_of matches.now)) }
+{
+    let scheme = value_of(alloc, matches, "SCHEME")?;
+    let folder = value_of(alloc, matches, "DIR")?;
+    let node = value_of(alloc, matches, "NODE")?;
+    let listen = value_of(alloc, matches, "listen")?;
+    let peers = copies_of(alloc, matches.get_strs("peer")?).ok()?;
+    let keys = optional_value(alloc, matches, "keys").ok()?;
+    let clean_up = optional_value(alloc, matches, "clean-up").ok()?;
+    Some(Action::Node(NodeWords {
+        scheme,
+        folder,
+        node,
+        listen,
+        peers,
+        keys,
+        clean_up,
+    }))
+}
+
+/// The action that the matches name. `None` only where memory was refused, if `clap` gave them.
+pub(crate) fn action_of(alloc: Global, matches: &ArgMatches) -> Option<Action>
+    ensures { IfSome result (NamesAction matches.now) }
+{
+    let (name, inner) = matches.subcommand()?;
+    if name == "rehearse" {
+        return Some(Action::Rehearse);
+    }
+    if name == "chart" {
+        return Some(Action::Chart);
+    }
+    if name == "show" {
+        return show_action(alloc, inner);
+    }
+    if name == "audit" {
+        return audit_action(alloc, inner);
+    }
+    if name == "events" {
+        return events_action(alloc, inner);
+    }
+    if name == "trace" {
+        return trace_action(alloc, inner);
+    }
+    if name == "explain" {
+        return explain_action(alloc, inner);
+    }
+    if name == "run" {
+        return run_action(alloc, inner);
+    }
+    if name == "node" {
+        return node_action(alloc, inner);
+    }
+    None
+}

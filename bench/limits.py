@@ -233,7 +233,24 @@ def is_written(command, case, text):
     if command == "chart":
         return text.startswith("sequenceDiagram\n") and text.endswith("end\n")
     lines_of = text.splitlines()
+    if command == "node":
+        return len(lines_of) == 2 and lines_of[0].startswith("scheme ") and lines_of[1].startswith("records ")
     return lines_of[-1:] == ["end"] and (command != "run" or case.answer is None or case.answer in lines_of[: len(case.script)])
+
+
+def node_words(case, node, scheme, stores):
+    """The words for a node by itself. A scheme with a fault is told of before its peers are looked at."""
+    codes = (codes_of_registries(case.scheme) or ["AA"]) if node == "ITL" else ["ITL"]
+    peers = [word for code in codes for word in ("--peer", f"{code}=127.0.0.1:1")]
+    return ["node", scheme, stores, node, "--listen", "127.0.0.1:0", *peers]
+
+
+def codes_of_registries(text):
+    """The codes of a scheme's registries, or none where the text is no scheme."""
+    try:
+        return [it["code"] for it in json.loads(text)["registries"]]
+    except (ValueError, RecursionError, TypeError, KeyError):
+        return []
 
 
 def runs_of(case, room):
@@ -251,6 +268,11 @@ def runs_of(case, room):
     yield "show", ["show", given_scheme, stores, node], given, case.stored
     ran = case.ran or case.stored
     yield "audit", ["audit", given_scheme, stores], given, ran if case.records else case.stored
+    nothing = room / "nothing"
+    nothing.touch()
+    # A node by itself ends with its lines, of which there are none. Of the stores it reads its own alone.
+    own = ran if f"store {node}" in ran[1] else case.stored
+    yield "node", node_words(case, node, given_scheme, stores), nothing, own
     yield "run", ["run", given_scheme, stores, given_script], given, ran
 
 

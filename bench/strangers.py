@@ -16,7 +16,7 @@ from hard_run import send_slowly, sit_idle
 from node_group import HOST, LOG, group_of, wait_for
 
 # By how much a node's memory may grow, after a warm-up of that part of the messages.
-MOST_GROWTH, WARM_UP = 1 << 20, 0.05
+MOST_GROWTH, WARM_UP = 1 << 20, 0.1
 # How many strangers come at once, and how many lines they send over one connection.
 STRANGERS, MOST_LINES = 4, 200
 # Of links with keys, which take a line a connection, a part of the messages is enough.

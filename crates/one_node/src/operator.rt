@@ -35,8 +35,9 @@ use world::Core;
 /// How long the operator's thread sleeps where there is nothing to read, in milliseconds.
 const QUIET_PAUSE: u64 = 10;
 
-/// How many notes are kept at least before they are settled.
-const LEAST_NOTES: usize = 2_048;
+/// How many notes are kept at least before they are settled. The C library keeps for each thread the most memory that its
+/// notes have taken, so that a larger number makes a node larger for good.
+const LEAST_NOTES: usize = 512;
 
 /// Settling goes through the journal once, so that more notes are kept where it is long: one for so many records.
 const RECORDS_A_NOTE: usize = 64;

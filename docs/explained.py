@@ -1,8 +1,12 @@
 #!/usr/bin/env python3
-"""Compares the examples of `kyoto-link explain` with the documents. Ends with status 1 where one differs.
+"""Compares the examples of `kyoto-link explain` with the documents.
 
-The text of a topic has the rows about it of the tables in PROTOCOL.md and FORMATS.md, without their markup. It is
-compared with the `output` in the topic's folder of crates/test_examples/data/explain. `--write` writes these folders.
+    explained.py [--write]
+
+The text of a topic has the rows about it from the tables in PROTOCOL.md and FORMATS.md, without their markup. It must
+be the same as `output` in the topic's folder of crates/test_examples/data/explain, and the file `word` there must have
+the topic's name. A line is printed for each file that differs, and the exit status is 1 if there is one. With --write
+the script writes these files first.
 """
 import pathlib
 import re
@@ -15,7 +19,7 @@ WIDTH = 100
 
 
 def rows_of(document):
-    """Each row of a document's tables: the heading that it stands under, the table's columns, and the cells."""
+    """Yields each row of a document's tables: the heading above it, the table's columns, and the cells."""
     section, columns = "", None
     for line in (DOCS / document).read_text().splitlines():
         if line.startswith("#"):
@@ -39,18 +43,19 @@ def codes_in(cell):
 
 
 def named_by(fault):
-    """The topic of a fault, as `order` of `kyoto-link: line 2: order`, or `keys` of `kyoto-link: --keys: read failed`."""
+    """Returns the topic of a fault, as `order` of `kyoto-link: line 2: order`, or `keys` of `kyoto-link: --keys: read
+    failed`."""
     word = re.sub(r"^(kyoto-link: )?(line \d+: |store NZ: |fault |--)?", "", fault).split()[0].removesuffix(":")
     return {"out": "memory", "no": "node", "the": "scheme"}.get(word, word)
 
 
 def has_own_table(name, topics):
-    """Whether the topic is a word of a scheme's or of a store's faults, which have tables of their own."""
+    """Returns whether the topic is a word of a scheme's or of a store's faults, which have tables of their own."""
     return any(part.startswith(f"{name}: a fault of a s") for part in topics.get(name, []))
 
 
 def kind_of(code, order):
-    """The node and the input to which a code belongs."""
+    """Returns the node and the input to which a code belongs."""
     if order is not None:
         return f"a refusal of {order}".replace(", ", " or ").replace("of ack", "of an ack")
     if code < 200:
@@ -59,7 +64,8 @@ def kind_of(code, order):
 
 
 def parts_of(section, columns, cells, topics):
-    """The topics that a row is about, each with its kind and the row's paragraphs. `topics` are those before it."""
+    """Yields the topics of a row, each with its kind and the row's paragraphs. `topics` are those of the rows before
+    it."""
     row, first = dict(zip(columns, cells)), cells[0]
     if section == "Refusals by number":
         order = plain(row["Order"]) if "Order" in row else None
@@ -76,14 +82,14 @@ def parts_of(section, columns, cells, topics):
         outcome = plain(first).split(maxsplit=1)[1]
         name = re.sub(r" \d+$", "", outcome).replace(" ", "-")
         yield name, f"an outcome in a report ({outcome})", [f"When: {row['When']}"]
-    elif columns == ["Line", "What was told"]:
+    elif columns == ["Line", "Meaning"]:
         for outcome in (code.removeprefix("N ") for code in codes_in(first)):
             for name in {outcome.split()[0], outcome.replace(" ", "-")} & topics.keys():
-                yield name, f"an outcome in a report of a run ({outcome})", [f"What was told: {row['What was told']}"]
-    elif columns == ["Answer", "When"]:
-        for answer in (code.removeprefix("N ") for code in codes_in(first)):
-            if answer.startswith("fault "):
-                yield named_by(answer), f"an answer of a node ({answer})", [f"When: {row['When']}"]
+                yield name, f"an outcome in a report of a run ({outcome})", [f"Meaning: {row['Meaning']}"]
+    elif columns == ["Outcome", "When"]:
+        for outcome in (code.removeprefix("N ") for code in codes_in(first)):
+            if outcome.startswith("fault "):
+                yield named_by(outcome), f"an outcome at a node ({outcome})", [f"When: {row['When']}"]
     elif columns == ["Line", "Status", "When"]:
         line = codes_in(first)[0]
         if not has_own_table(named_by(line), topics):
@@ -95,7 +101,7 @@ def parts_of(section, columns, cells, topics):
 
 
 def texts_of_documents():
-    """The text of each topic, by its name."""
+    """Returns the text of each topic by its name."""
     topics = {}
     for document in ("PROTOCOL.md", "FORMATS.md"):
         for row in rows_of(document):
@@ -119,7 +125,7 @@ def main():
                 path.parent.mkdir(exist_ok=True)
                 path.write_text(text)
             if not path.exists() or path.read_text() != text:
-                print(f"{name}: `{file}` is not as in the documents")
+                print(f"{name}: `{file}` differs from the documents")
                 status = 1
     sys.exit(status)
 

@@ -1,4 +1,4 @@
--- What the map of the accounts answers.
+-- The statuses that the map of the accounts gives.
 use Rattle.std.proofs.Common.{◌≡◌, ℕ, List, [], ◌∷◌, map, Bool, true, false, cond, eqb, Option, Some, None, IsSome, refl, sym, ap, ◌∙◌, arith}
 use Rattle.std.specs.BTreeMap as tree
 use Rattle.std.specs.BTreeMap.{BTreeMap}
@@ -30,7 +30,7 @@ pub get-account_statuses : (accounts : BTreeMap ℕ Account) (n : ℕ) → get (
 unfolding account_statuses
 get-account_statuses accounts n = get-from_entries nat_cmp_total (map (λ e. (e.0, e.1.account_status)) accounts.entries) n ∙ account_status_found accounts.entries n
 
--- what the map of the accounts answers, by the accounts
+-- the status that the map gives an account, by the accounts
 pub get_accounts : (accounts : BTreeMap ℕ Account) (m : FinMap nat_cmp AccountStatus) → account_statuses accounts ≡ m → (n : ℕ) → get m n ≡ option_map (λ a. a.account_status) (tree.get nat_cmp accounts n)
 get_accounts accounts m e n = ap (λ k. get k n) (sym e) ∙ get-account_statuses accounts n
 

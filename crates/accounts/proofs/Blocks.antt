@@ -9,7 +9,7 @@ use Rattle.units.proofs.BlockLists.{covers_at}
 use Rattle.accounts.specs.Refusals.{IsUnitOf}
 
 module _ {X : Type 0} where
-  -- so of each element, so of one of them
+  -- a property of each element is one of any of them
   pub all_at : (P : X → Type 0) (xs : List X) → AllWithin P xs 0 (length xs) → (x : X) → IsAmong xs x → P x
   all_at P xs all x m = subst P (sym m.1.1) (all m.0 x (omega arith) m.1.0)
 

@@ -1,5 +1,5 @@
--- How many entries of maps pass tests: if at each key one map's entry counts as much as those of two others together,
--- so do all.
+-- The number of entries of maps that pass tests: if at each key one map's entry counts as much as those of two others
+-- together, all its entries do.
 use Rattle.std.proofs.Common.{◌≡◌, ℕ, ◌+◌, ◌<◌, List, [], ◌∷◌, ◌++◌, map, Bool, true, false, true≢false, is_some, ◌&&◌, not, cond, T, Option, Some, None, refl, sym, ap, ◌∙◌, subst, arith, inl, inr}
 use Rattle.std.specs.declared.cmp.Ordering.{Ordering}
 use Rattle.std.specs.declared.cmp.Ordering.TheVariants.{Less, Equal, Greater}
@@ -27,7 +27,7 @@ both : (a b : Bool) → T (a && b) → T a × T b
 both true b h = (tt, h)
 both false b h = absurd h
 
--- what an entry counts, if there is one
+-- the count of an entry, if there is one
 abbrev pub tally : {X : Type 0} → (X → Bool) → Option X → ℕ
 tally passes None = 0
 tally passes (Some x) = cond (passes x) 1 0
@@ -140,7 +140,7 @@ module _ {K : Type 0} (R : K → K → Ordering) (o : IsTotalOrder R) (same : Cm
   missing : {X : Type 0} (k : K) (es : List (K × X)) → list_any (eq_by_cmp R k) (keys es) ≡ false → find R k es ≡ None
   missing k es h = none_of (find R k es) (list_any (eq_by_cmp R k) (keys es)) (is_some-find R k es) h
 
-  -- if at each key one map's entry counts as much as those of two others together, so do all
+  -- if at each key one map's entry counts as much as those of two others together, all its entries do
   pub counts_add : {X Y Z : Type 0} (p : X → Bool) (q : Y → Bool) (r : Z → Bool) (m : FinMap R X) (n : FinMap R Y) (l : FinMap R Z) → ((k : K) → tally p (get m k) ≡ tally q (get n k) + tally r (get l k))
       → count_of p (entries m) ≡ count_of q (entries n) + count_of r (entries l)
   counts_add p q r m n l h =

@@ -1,6 +1,6 @@
--- What holdings keep beside their unit holdings stays in step with them through each change.
--- Each call is seen unit by unit (`OneUnit`); the counts follow by `Counts.counts_add`, where a list of blocks counts
--- as the map from units to kinds that it means.
+-- The tables of holdings beside their unit holdings stay in step with them through each change. Each call is seen unit
+-- by unit (`OneUnit`); the counts follow by `Counts.counts_add`, where a list of blocks counts as the map from units to
+-- kinds that it means.
 use Rattle.std.proofs.Common.{◌≡◌, ◌⊎◌, ℕ, ◌+◌, ◌-◌, ◌^◌, ◌<◌, ◌≤◌, List, [], ◌∷◌, ◌++◌, Bool, true, false, ◌&&◌, ◌||◌, true≢false, cond, eqb, Option, Some, None, IsSome, is_some, refl, sym, ap, ◌∙◌, subst, arith, inl, inr}
 use Rattle.std.specs.BTreeMap as tree
 use Rattle.std.specs.BTreeMap.{BTreeMap}

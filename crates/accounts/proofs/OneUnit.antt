@@ -1,4 +1,4 @@
--- What becomes of one unit's holding, seen by tests: whether a transaction reserves it, and what it counts.
+-- The changes of one unit's holding, by tests: whether a transaction reserves it, and whether it counts.
 use Rattle.std.proofs.Common.{◌≡◌, ℕ, ◌+◌, Bool, true, false, ◌&&◌, ◌||◌, not, is_some, cond, eqb, Option, Some, None, refl, sym, ap, ◌∙◌, inl, inr, arith}
 use Rattle.std.specs.Option.{option_map, option_or}
 use Rattle.std.proofs.lemmas.Bool.{cases_Bool}
@@ -35,7 +35,7 @@ twice : (t : Bool) → false ≡ cond t false false
 twice true = refl
 twice false = refl
 
--- what a unit holding counts for an account and a transaction
+-- the count of a unit holding for an account and a transaction
 share_tally : (n : ℕ) (q : TransactionId) (o : Option UnitHolding) → tally (is_share n q) o ≡ cond (reserves q o) (tally (is_in n) o) 0
 share_tally n q None = refl
 share_tally n q (Some unit_holding) = split (eqb unit_holding.account n) (is_reserved_by q unit_holding)

@@ -1,4 +1,4 @@
--- How many unit holdings pass a test: that there are fewer than a number can say, and how counts of two maps compare,
+-- The number of unit holdings that pass a test: that it is in the range of numbers, and how counts of two maps compare,
 -- unit by unit.
 use Rattle.std.proofs.Common.{◌≡◌, ℕ, ◌+◌, ◌^◌, ◌≤◌, List, [], ◌∷◌, Bool, true, false, ◌&&◌, not, cond, Option, Some, None, IsSome, is_some, refl, sym, ap, ◌∙◌, arith}
 use Rattle.std.specs.Cmp.{tied_itself}
@@ -57,7 +57,7 @@ all_small (e ∷ es) h = (
   all_small es (λ s i. h s (found (eq_by_cmp unit_cmp s e.0) e.1 (find unit_cmp s es) i)),
 )
 
--- fewer units than a number can say
+-- the number of units is in the range of numbers
 pub count_bound : (p : UnitHolding → Bool) (unit_holdings : UnitHoldings) → AreInRange unit_holdings → count p unit_holdings ≤ 2 ^ 63
 count_bound p unit_holdings range =
     let small = all_small (entries unit_holdings) (λ s i. range s (ap is_some (get-entries unit_holdings s) ∙ i)) in

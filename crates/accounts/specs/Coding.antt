@@ -1,4 +1,4 @@
--- How holdings are stored, by which a proof tells them apart.
+-- The encoding of holdings by which a proof distinguishes them.
 use Rattle.std.specs.Prelude.{refl}
 use Rattle.std.specs.Coded.{Coded, code_by, coded×, coded_ℕ}
 use Rattle.std.specs.FinMap as map

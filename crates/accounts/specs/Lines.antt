@@ -9,7 +9,7 @@ use Rattle.accounts.specs.Holdings.{HoldingsView}
 use Rattle.accounts.specs.declared.unit_holding.UnitHolding.{UnitHolding}
 use Rattle.accounts.specs.declared.unit_holding.HeldBlock.{HeldBlock}
 
--- a line as an interval of units that are held so
+-- a line as an interval of units with that holding
 abbrev pub unit_holding_interval : HeldBlock → Interval UnitHolding
 unit_holding_interval l = record {
   origin = l.block.raw.origin;
@@ -19,8 +19,8 @@ unit_holding_interval l = record {
   label = record { account = l.account; kind = l.block.raw.kind; reserving = l.reserving };
 }
 
--- by account and then in the order of units, neighbours with one account, kind and label joined; each unit that is
--- held is in one line, which says how
+-- by account and then in the order of units, with neighbours of one account, kind and label joined; each unit that is
+-- held is in one line, which has its holding
 pub record AreLines (held : HoldingsView) (lines : List HeldBlock) : Type 0 where
   pub ordered : AreCanonical (λ (unit_holding : UnitHolding). unit_holding.account) (map unit_holding_interval lines)
   pub apart : AreKept (map unit_holding_interval lines)

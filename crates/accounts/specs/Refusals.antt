@@ -35,7 +35,7 @@ AreHeld held account blocks = (b : Block) (s : Serial) → IsUnitOf blocks b s �
 abbrev pub AreFree : HoldingsView → List Block → Type 0
 AreFree held blocks = (s : Serial) (unit_holding : UnitHolding) → IsTrue (covers blocks s) → map.get held.unit_holdings s ≡ Some unit_holding → unit_holding.reserving ≡ None
 
--- a unit of a block that isn't held so
+-- a unit of a block that isn't held in that account with that kind
 pub record IsLacking (held : HoldingsView) (account : ℕ) (blocks : List Block) : Type 0 where
   pub block : Block
   pub unit : Serial
@@ -50,7 +50,7 @@ pub record IsReserved (held : HoldingsView) (blocks : List Block) : Type 0 where
   pub is : map.get held.unit_holdings unit ≡ Some unit_holding
   pub reserved : IsSome unit_holding.reserving
 
--- what may be reserved
+-- the units that may be reserved
 pub record MayReserve (held : HoldingsView) (account : ℕ) (blocks : List Block) : Type 0 where
   pub open_account : IsOpen held account
   pub held_so : AreHeld held account blocks

@@ -1,4 +1,4 @@
--- What a change of one transaction's reservation leaves of the others. No public contract cites it.
+-- The other reservations after one transaction's reservation was changed. No public contract cites it.
 use Rattle.std.specs.Prelude.{◌≡◌, List, false}
 use Rattle.std.specs.BTreeMap.{BTreeMap, get}
 use Rattle.units.specs.declared.block.Block.{Block}
@@ -8,7 +8,7 @@ use Rattle.accounts.specs.Tables.{blocks_of, shares_of}
 use Rattle.accounts.specs.declared.reservation.Reservation.{Reservation}
 use Rattle.accounts.specs.declared.reservation.Share.{Share}
 
--- the transaction reserves these, and the others what they did
+-- the transaction reserves these, and the others reserve the same as before
 pub record AreGiven (id : TransactionId) (blocks : List Block) (shares : List Share) (old new : BTreeMap TransactionId Reservation) : Type 0 where
   pub blocks_are : blocks_of new id ≡ blocks
   pub shares_are : shares_of new id ≡ shares

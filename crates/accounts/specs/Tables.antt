@@ -1,5 +1,5 @@
--- What holdings keep beside their unit holdings: each account's counts, and what each transaction reserves. No public
--- contract cites it.
+-- The tables that holdings have beside their unit holdings: each account's counts, and each transaction's reservation.
+-- No public contract cites it.
 use Rattle.std.specs.Prelude.{◌≡◌, ℕ, ◌+◌, ◌-◌, ◌≤◌, cond, List, [], Bool, false, ◌==◌, ◌&&◌, Option, Some, None, IsSome, count_by}
 use Rattle.std.specs.BTreeMap as tree
 use Rattle.std.specs.BTreeMap.{BTreeMap}
@@ -24,14 +24,14 @@ use Rattle.accounts.specs.declared.unit_holding.UnitHolding.{UnitHolding}
 use Rattle.accounts.specs.declared.reservation.Reservation.{Reservation}
 use Rattle.accounts.specs.declared.reservation.Share.{Share}
 
--- how many units an account has, as the table says; one that isn't there has none
+-- the number of units of an account, by the table; an account that isn't there has none
 abbrev pub held_in : Option Account → ℕ
 held_in account = option_map_or (λ a. a.held) account 0
 
 abbrev pub held_at : BTreeMap ℕ Account → ℕ → ℕ
 held_at accounts number = held_in (tree.get nat_cmp accounts number)
 
--- how many of them are free
+-- the number of those that are free
 abbrev pub free_in : Option Account → ℕ
 free_in account = option_map_or (λ a. a.free) account 0
 
@@ -54,11 +54,11 @@ with_more_free count a = record a { free = a.free + count }
 abbrev pub with_fewer : ℕ → Account → Account
 with_fewer count a = record a { held = a.held - count }
 
--- how many units the blocks have, where none is in two of them
+-- the number of units of the blocks, where none is in two of them
 abbrev pub units_in : List Block → ℕ
 units_in blocks = sum_by (λ b. size (interval_of b)) blocks
 
--- how many units of the account the shares have
+-- the number of units of the account in the shares
 abbrev pub share_of : List Share → ℕ → ℕ
 share_of shares account = sum_by (λ s. cond (s.account == account) s.count 0) shares
 
@@ -69,14 +69,14 @@ blocks_in reservation = option_map_or (λ r. r.blocks.items) reservation []
 abbrev pub blocks_of : BTreeMap TransactionId Reservation → TransactionId → List Block
 blocks_of reservations id = blocks_in (tree.get id_cmp reservations id)
 
--- how many units of which accounts it reserves
+-- the number of units that it reserves in each account
 abbrev pub shares_in : Option Reservation → List Share
 shares_in reservation = option_map_or (λ r. r.shares.items) reservation []
 
 abbrev pub shares_of : BTreeMap TransactionId Reservation → TransactionId → List Share
 shares_of reservations id = shares_in (tree.get id_cmp reservations id)
 
--- held in the account, of the kind, and so reserved
+-- held in the account, of the kind, and reserved by that transaction or by none
 abbrev pub unit_holding_in : ℕ → Option TransactionId → Kind → UnitHolding
 unit_holding_in account reserving kind = record { account = account; kind = kind; reserving = reserving }
 
@@ -101,8 +101,8 @@ abbrev pub reserves : TransactionId → Option UnitHolding → Bool
 reserves id None = false
 reserves id (Some unit_holding) = is_reserved_by id unit_holding
 
--- the blocks have the units that the transaction reserves, each in one block, and the shares say how many of them are
--- of which account
+-- the blocks have the units that the transaction reserves, each in one block, and the shares have the number of them in
+-- each account
 pub record IsListed (unit_holdings : UnitHoldings) (id : TransactionId) (blocks : List Block) (shares : List Share) : Type 0 where
   pub exact : (s : Serial) → reserves id (map.get unit_holdings s) ≡ covers blocks s
   pub apart : AllApart blocks

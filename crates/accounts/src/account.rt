@@ -12,7 +12,7 @@ use std::alloc::Global;
 use std::collections::BTreeMap;
 use units::NoMemory;
 
-/// An account of the registry: how many units it has, and how many of these are free.
+/// An account of the registry: the number of its units, and the number of those that are free.
 #[derive(Clone, Copy, Debug, PartialEq, Eq)]
 pub(crate) struct Account {
     pub account_status: AccountStatus,
@@ -40,7 +40,7 @@ pub(crate) fn open_accounts(
     Ok(accounts)
 }
 
-/// Gives the account of that number the status, if there is one.
+/// Gives the account of that number the status, if there is such an account.
 pub(crate) fn set_account_status(
     accounts: &mut BTreeMap<u64, Account>,
     number: u64,
@@ -55,7 +55,7 @@ pub(crate) fn set_account_status(
     }
 }
 
-/// The account of that number has `count` more units, all free.
+/// Adds `count` free units to the account of that number.
 pub(crate) fn put_in(accounts: &mut BTreeMap<u64, Account>, number: u64, count: u64)
     requires held { held_at accounts.old number + count < 2 ^ 64 }
     requires free { free_at accounts.old number + count < 2 ^ 64 }
@@ -69,7 +69,7 @@ pub(crate) fn put_in(accounts: &mut BTreeMap<u64, Account>, number: u64, count: 
     }
 }
 
-/// `count` of the account's free units are free no more.
+/// Makes `count` of the account's free units reserved.
 pub(crate) fn reserve(accounts: &mut BTreeMap<u64, Account>, number: u64, count: u64)
     requires { count ≤ free_at accounts.old number }
     ensures { (n : ℕ) → tree.get nat_cmp accounts.new n
@@ -81,7 +81,7 @@ pub(crate) fn reserve(accounts: &mut BTreeMap<u64, Account>, number: u64, count:
     }
 }
 
-/// `count` more of the account's units are free.
+/// Makes `count` of the account's reserved units free.
 fn release(accounts: &mut BTreeMap<u64, Account>, number: u64, count: u64)
     requires { free_at accounts.old number + count < 2 ^ 64 }
     ensures { (n : ℕ) → tree.get nat_cmp accounts.new n
@@ -93,7 +93,7 @@ fn release(accounts: &mut BTreeMap<u64, Account>, number: u64, count: u64)
     }
 }
 
-/// The account has `count` fewer units.
+/// Takes `count` units out of the account.
 fn take_out(accounts: &mut BTreeMap<u64, Account>, number: u64, count: u64)
     requires { count ≤ held_at accounts.old number }
     ensures { (n : ℕ) → tree.get nat_cmp accounts.new n
@@ -105,7 +105,7 @@ fn take_out(accounts: &mut BTreeMap<u64, Account>, number: u64, count: u64)
     }
 }
 
-/// The shares' units, which were reserved, are free.
+/// Makes the shares' units, which were reserved, free.
 pub(crate) fn release_all(accounts: &mut BTreeMap<u64, Account>, shares: &[Share])
     requires { (n : ℕ) → free_at accounts.old n + share_of shares.now n < 2 ^ 64 }
     ensures { (n : ℕ) → tree.get nat_cmp accounts.new n
@@ -116,7 +116,7 @@ pub(crate) fn release_all(accounts: &mut BTreeMap<u64, Account>, shares: &[Share
     }
 }
 
-/// The shares' units, which were reserved, are in their accounts no more.
+/// Takes the shares' units, which were reserved, out of their accounts.
 pub(crate) fn take_out_all(accounts: &mut BTreeMap<u64, Account>, shares: &[Share])
     requires { (n : ℕ) → share_of shares.now n ≤ held_at accounts.old n }
     ensures { (n : ℕ) → tree.get nat_cmp accounts.new n

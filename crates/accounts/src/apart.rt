@@ -10,7 +10,8 @@ ghost use Rattle.accounts.specs.Tables.{units_in};
 use std::alloc::Global;
 use units::{Block, NoMemory, UnitMap, blocks_of};
 
-/// Blocks that share no unit and have the units of these. Each of their units is of the kind of one of these.
+/// Blocks that share no unit and together have the units of the given blocks. Each unit has the kind of one of the
+/// given blocks.
 pub(crate) fn apart(alloc: Global, blocks: &[Block]) -> Result<Vec<Block>, NoMemory>
     ensures apart { IfOk result (λ v. AllApart v.items) }
     ensures same { IfOk result (λ v. (s : Serial) → covers v.items s ≡ covers blocks.now s) }
@@ -25,7 +26,7 @@ pub(crate) fn apart(alloc: Global, blocks: &[Block]) -> Result<Vec<Block>, NoMem
     Ok(blocks_of(alloc, &intervals)?)
 }
 
-/// How many units the blocks have.
+/// The number of units of the blocks.
 pub(crate) fn count(blocks: &[Block]) -> u64
     requires { AllApart blocks.now }
     ensures { result ≡ units_in blocks.now }

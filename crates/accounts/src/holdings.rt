@@ -79,7 +79,7 @@ fn is_reserved_by(unit_holding: &UnitHolding, id: TransactionId) -> bool
     unit_holding.reserving == Some(id)
 }
 
-/// The unit holding when the transaction has let it go.
+/// The unit holding after the transaction has released it.
 fn released(unit_holding: UnitHolding, id: TransactionId) -> UnitHolding
     ensures { result ≡ released id unit_holding }
 {
@@ -93,7 +93,7 @@ fn released(unit_holding: UnitHolding, id: TransactionId) -> UnitHolding
     }
 }
 
-/// Puts the units of each block into the account, with their block's kind, so reserved.
+/// Puts the units of each block into the account, with their block's kind and with that reserving transaction or none.
 fn set_unit_holdings(
     unit_holdings: &mut UnitMap<UnitHolding>,
     account: u64,
@@ -117,8 +117,8 @@ fn set_unit_holdings(
 }
 
 impl Holdings {
-    /// Open accounts of these numbers, which hold nothing. A number that stands twice is one
-    /// account. Or `NoMemory`.
+    /// Open accounts of these numbers, which hold nothing. A number that is listed twice is one account. Fails with
+    /// `NoMemory` where memory runs out.
     pub fn new(alloc: Global, accounts: &[u64]) -> Result<Holdings, NoMemory>
         ensures accounts { IfOk result (λ h. (n : ℕ)
             → map.get h.accounts n ≡ (if list_any (λ a. a == n) accounts.now then Some Open else None)) }
@@ -133,7 +133,7 @@ impl Holdings {
         })
     }
 
-    /// Whether the account is open. `None`: the registry has no such account. Takes no memory.
+    /// Whether the account is open, or `None` where the registry has no such account. Takes no memory.
     pub fn is_open(&self, account: u64) -> Option<bool>
         ensures { result ≡ option_map is_open (map.get self.now.accounts account) }
     {
@@ -227,11 +227,10 @@ impl Holdings {
         blocks.iter().all(|block| self.holds_free(account, block))
     }
 
-    /// Whether the account may reserve the blocks' units: it is open and has them all with their
-    /// blocks' kinds, none of them reserved. Each check looks at all units before the next one
-    /// does. Refused with `ACCOUNT_NOT_OPEN`: the account is unknown or closed; `UNIT_NOT_HELD`: a
-    /// unit isn't held in the account with its block's kind; `UNIT_RESERVED`: a unit is reserved.
-    /// Takes no memory.
+    /// Whether the account may reserve the blocks' units: it is open and has them all with their blocks' kinds, none of
+    /// them reserved. Each check looks at all units before the next one does. Refused with `ACCOUNT_NOT_OPEN`: the
+    /// account is unknown or closed; `UNIT_NOT_HELD`: a unit isn't held in the account with its block's kind;
+    /// `UNIT_RESERVED`: a unit is reserved. Takes no memory.
     pub fn check(&self, account: u64, blocks: &[Block]) -> Result<(), Refusal>
         ensures ok { OnOk result (MayReserve self.now account blocks.now) }
         ensures err { IfErr result (λ r. IsReserveRefusal self.now account blocks.now r.code) }
@@ -241,7 +240,8 @@ impl Holdings {
                 code: ACCOUNT_NOT_OPEN,
             });
         }
-        // Where nothing is wrong, one walk finds so. Else two of them tell what comes first in the order of refusals.
+        // Where nothing is wrong, one walk finds that. Otherwise two of them find the first one in the order of
+        // refusals.
         if self.holds_each_free(account, blocks) {
             return Ok(());
         }
@@ -310,7 +310,7 @@ impl Holdings {
         release_all(&mut self.accounts, &reservation.shares);
     }
 
-    /// Takes out what the transaction reserves. Takes no memory.
+    /// Takes out the units that the transaction reserves. Takes no memory.
     pub fn remove(&mut self, id: TransactionId)
         ensures accounts { self.new.accounts ≡ self.old.accounts }
         ensures unit_holdings { (s : Serial)
@@ -345,7 +345,7 @@ impl Holdings {
         Ok(())
     }
 
-    /// Whether `open_account` would open the account: refused as it refuses. Takes no memory.
+    /// Whether `open_account` would open the account; refused as it refuses. Takes no memory.
     pub fn may_open(&self, account: u64) -> Result<(), Refusal>
         ensures ok { OnOk result (map.get self.now.accounts account ≡ Some Closed) }
         ensures err { IfErr result (λ r. IsOpenRefusal self.now account r.code) }
@@ -373,7 +373,7 @@ impl Holdings {
         Ok(())
     }
 
-    /// Whether `close_account` would close the account: refused as it refuses. Takes no memory.
+    /// Whether `close_account` would close the account; refused as it refuses. Takes no memory.
     pub fn may_close(&self, account: u64) -> Result<(), Refusal>
         ensures ok { OnOk result ((map.get self.now.accounts account ≡ Some Open) × (HasUnits self.now account → ⊥)) }
         ensures err { IfErr result (λ r. IsCloseRefusal self.now account r.code) }
@@ -390,7 +390,7 @@ impl Holdings {
         }
     }
 
-    /// How many units the account has.
+    /// The number of units of the account.
     fn held_count(&self, account: u64) -> u64
         ensures { result ≡ count_by (λ e. is_in account e.1) (map.entries self.now.unit_holdings) }
     {
@@ -431,8 +431,8 @@ impl Holdings {
         self.unit_holdings.get(unit)
     }
 
-    /// The intervals of units that are held in one way, by their first units: none shares a unit with another, and
-    /// neighbours that are held in the same way are one. Takes no memory.
+    /// The intervals of units that are held in one way, keyed by their first units. No two intervals share a unit, and
+    /// neighbours that are held in the same way are joined. Takes no memory.
     pub fn pieces(&self) -> &BTreeMap<Unit, Span<UnitHolding>>
         ensures kept { AreKept (intervals_of result.now.entries) }
         ensures joined { AreCanonical (λ _. 0) (intervals_of result.now.entries) }
@@ -461,7 +461,7 @@ impl Holdings {
         blocks.iter().any(|block| self.holds_some_of(block))
     }
 
-    /// How many units the account has that no transaction reserves. Takes no memory.
+    /// The number of the account's units that no transaction reserves. Takes no memory.
     pub fn free_count(&self, account: u64) -> u64
         ensures { result ≡ count_by (λ e. is_free_in account e.1) (map.entries self.now.unit_holdings) }
     {
@@ -471,8 +471,8 @@ impl Holdings {
         }
     }
 
-    /// What is held, as lines by account and then in the order of units, neighbours with one
-    /// account, kind and reserving transaction joined. Or `NoMemory`.
+    /// The holdings as lines, by account and then in the order of units, with neighbours of one account, kind and
+    /// reserving transaction joined. Fails with `NoMemory` where memory runs out.
     pub fn lines(&self, alloc: Global) -> Result<Vec<HeldBlock>, NoMemory>
         ensures { IfOk result (λ v. AreLines self.now v.items) }
     {

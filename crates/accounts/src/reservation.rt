@@ -1,4 +1,4 @@
-//! What transactions reserve.
+//! The reservations of transactions.
 ghost use Rattle.std.specs.BTreeMap as tree;
 ghost use Rattle.std.specs.Prelude.{◌≡◌, ◌-◌, List, ◌∷◌, [], ◌++◌, length, take, None, OnOk, OnErr, if◌then◌else◌};
 ghost use Rattle.units.specs.declared.block.Block.{Block};
@@ -13,14 +13,14 @@ use std::alloc::Global;
 use std::collections::BTreeMap;
 use units::{Block, NoMemory};
 
-/// How many units of an account.
+/// A number of units of an account.
 #[derive(Clone, Copy, Debug, PartialEq, Eq)]
 pub(crate) struct Share {
     pub account: u64,
     pub count: u64,
 }
 
-/// What a transaction reserves: blocks that share no unit, and how many of their units are of which account.
+/// The reservation of a transaction: blocks that share no unit, and the number of their units in each account.
 #[derive(Debug)]
 pub(crate) struct Reservation {
     pub blocks: Vec<Block>,
@@ -37,7 +37,7 @@ impl Drop for Reservation {
 }
 
 impl Reservation {
-    /// More blocks and one more share. After `NoMemory` nothing has changed.
+    /// Adds blocks and one share. After `NoMemory` nothing has changed.
     fn extend(&mut self, blocks: &[Block], share: Share) -> Result<(), NoMemory>
         ensures ok { OnOk result ((self.new.blocks.items ≡ self.old.blocks.items ++ blocks.now)
             × (self.new.shares.items ≡ self.old.shares.items ++ share ∷ [])) }
@@ -50,7 +50,7 @@ impl Reservation {
         Ok(())
     }
 
-    /// Without its last blocks, as many as that, and without its last share.
+    /// Removes the last `count` blocks and the last share.
     fn shorten(&mut self, count: usize)
         ensures blocks { self.new.blocks.items ≡ take (length self.old.blocks.items - count) self.old.blocks.items }
         ensures shares { self.new.shares.items ≡ take (length self.old.shares.items - 1) self.old.shares.items }
@@ -61,8 +61,8 @@ impl Reservation {
     }
 }
 
-/// Adds blocks and a share to what the transaction reserves, in its own lists. After `NoMemory` each transaction
-/// reserves what it did.
+/// Adds blocks and a share to the transaction's reservation, in its own lists. After `NoMemory` each reservation is as
+/// it was.
 pub(crate) fn extend(
     alloc: Global,
     reservations: &mut BTreeMap<TransactionId, Reservation>,
@@ -88,7 +88,7 @@ pub(crate) fn extend(
     Ok(())
 }
 
-/// Takes out what the transaction reserves, and returns it.
+/// Removes the transaction's reservation, and returns it.
 pub(crate) fn take(
     reservations: &mut BTreeMap<TransactionId, Reservation>,
     id: TransactionId,
@@ -100,7 +100,7 @@ pub(crate) fn take(
     reservations.remove(&id)
 }
 
-/// Takes the blocks and the share back that `extend` added last. Takes no memory.
+/// Removes the blocks and the share that `extend` added last. Takes no memory.
 pub(crate) fn shorten(
     reservations: &mut BTreeMap<TransactionId, Reservation>,
     id: TransactionId,

@@ -1,4 +1,4 @@
-//! What a unit is held as.
+//! The ways in which a unit is held.
 
 use status::TransactionId;
 use units::{Block, Kind, Label};

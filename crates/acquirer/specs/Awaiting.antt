@@ -20,6 +20,6 @@ awaited_cmp = awaited-order.it
 abbrev pub AreAwaited : BTreeMap TransactionId IncomingTransfer → BTreeSet Awaited → Type 0
 AreAwaited transfers awaited = (q : Awaited) → contains awaited_cmp awaited q ≡ is_awaited_by q.account (tree.get id_cmp transfers q.id)
 
--- the entry is that one
+-- the entry is the given one
 abbrev pub is_awaited_entry : Awaited → Option Awaited → Bool
 is_awaited_entry q entry = option_map_or (λ p. (p.account == q.account) && same_id p.id q.id) entry false

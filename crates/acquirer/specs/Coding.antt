@@ -1,4 +1,4 @@
--- How an acquirer's table is stored, by which a proof tells it apart.
+-- The encoding of an acquirer's table by which a proof distinguishes it.
 use Rattle.std.specs.Prelude.{refl}
 use Rattle.std.specs.Coded.{Coded, code_by, coded×}
 use Rattle.std.specs.FinMap as map

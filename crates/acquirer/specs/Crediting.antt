@@ -1,4 +1,4 @@
--- What an acquirer may take in.
+-- The contents that an acquirer may credit.
 use Rattle.std.specs.Prelude.{◌≡◌, true, List, None}
 use Rattle.std.specs.FinMap as map
 use Rattle.units.specs.Apart.{AllApart}

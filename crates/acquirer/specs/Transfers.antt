@@ -1,4 +1,4 @@
--- What an acquirer keeps of the transfers to it, and what it reads off that.
+-- The transfers that an acquirer keeps, and the facts that it reads off them.
 use Rattle.std.specs.Prelude.{ℕ, Bool, false, ◌==◌, ◌&&◌, Option, option_and_then}
 use Rattle.std.specs.BTreeMap.{BTreeMap}
 use Rattle.std.specs.FinMap.{FinMap, from_entries}
@@ -19,7 +19,7 @@ pub record AcquirerView : Type 0 where
   pub code : Code
   pub transfers : FinMap id_cmp IncomingTransfer
 
--- what the table asks of a transfer
+-- the recorded status of a transfer, as the status table takes it
 abbrev pub known_of : IncomingTransfer → RecordedStatus
 known_of x = option_map_or (λ k. Stands x.status) x.content Bare
 
@@ -34,7 +34,7 @@ kept_content x = option_and_then (λ y. y.content) x
 abbrev pub is_awaited_by : ℕ → Option IncomingTransfer → Bool
 is_awaited_by account x = option_map_or (λ y. same_status y.status Accepted && option_map_or (λ k. k.to_account == account) y.content false) x false
 
--- the transfer when it has come to that status
+-- the transfer after it moved to that status
 abbrev pub finished : Status → IncomingTransfer → IncomingTransfer
 finished new x = record x { status = new }
 

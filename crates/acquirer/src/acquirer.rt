@@ -45,8 +45,8 @@ use std::marker::Model;
 use units::refusal_code::{NO_ROW, TRANSFER_ACCEPTED};
 use units::{Code, Items, NoMemory, Refusal};
 
-/// The transfers to a registry, by their identifiers. It decides what the acquirer's table says to an input, without
-/// any change, and does then what a decision that moves a transfer asks for.
+/// The transfers to a registry, by their identifiers. Without any change it gives the decision of the acquirer's table
+/// on an input; other calls carry out a decision that moves a transfer.
 #[derive(Debug)]
 pub struct Acquirer {
     code: Code,
@@ -81,7 +81,7 @@ impl Model for Acquirer {
     ghost invariant = { λ s. AreAwaited s.transfers s.awaited };
 }
 
-/// The codes of what was found.
+/// The codes of the findings.
 fn codes_in(found: &Option<AcquirerCodes>) -> &[u16]
     ensures { result.now ≡ codes_in found.now }
 {
@@ -126,7 +126,7 @@ impl Acquirer {
         transfer.content.as_ref()
     }
 
-    /// What the table asks of the transfer.
+    /// The recorded status of the transfer, as the status table takes it.
     fn known(&self, id: TransactionId) -> RecordedStatus
         ensures { result ≡ known_transfer (map.get self.now.transfers id) }
     {
@@ -136,7 +136,8 @@ impl Acquirer {
         }
     }
 
-    /// What is found in the proposal of a transfer whose content isn't recorded, and nothing in any other. Or `NoMemory`.
+    /// The findings in the proposal of a transfer whose content isn't recorded, and none in any other. Fails with
+    /// `NoMemory` where memory runs out.
     pub fn findings(
         &self,
         alloc: Global,
@@ -156,8 +157,8 @@ impl Acquirer {
         acquirer_findings(alloc, scheme, self.code, holdings, content)
     }
 
-    /// What the table says to a proposal that the log passes on, in which that was found. Where a content is recorded
-    /// for the transfer, it is equal to that. Fails with `NO_ROW` where the table has no such row.
+    /// The table's decision on a proposal that the log passes on, with these findings. Where a content is recorded for
+    /// the transfer, the proposal's content is equal to it. Fails with `NO_ROW` where the table has no such row.
     pub fn proposal(
         &self,
         id: TransactionId,
@@ -173,8 +174,8 @@ impl Acquirer {
         ))
     }
 
-    /// What is sent where a transfer comes, by what was found in its proposal: Accepted to the log, or Rejected with the
-    /// codes.
+    /// The message that is sent where a transfer arrives, by the findings in its proposal: Accepted to the log, or
+    /// Rejected with the codes.
     pub fn notifies(
         &self,
         alloc: Global,
@@ -199,7 +200,7 @@ impl Acquirer {
         }
     }
 
-    /// What the table says to the log's notification of that status. A transfer isn't Completed while the registry
+    /// The table's decision on the log's notification of that status. A transfer isn't Completed while the registry
     /// holds one of its units. Fails with `NO_ROW` where the table has no such row. Takes no memory.
     pub fn notice(
         &self,
@@ -221,8 +222,8 @@ impl Acquirer {
         }
     }
 
-    /// Whether no transfer that goes to the account is awaited: refused with `TRANSFER_ACCEPTED` where one was
-    /// accepted and hasn't ended. Takes no memory.
+    /// Whether the account awaits no transfer. Refused with `TRANSFER_ACCEPTED` where a transfer that goes to the
+    /// account was accepted and hasn't ended. Takes no memory.
     pub fn may_close(&self, account: u64) -> Result<(), Refusal>
         ensures ok { OnOk result ((t : TransactionId) → is_awaited_by account (map.get self.now.transfers t) ≡ false) }
         ensures err { IfErr result (λ r. (r.code ≡ transfer_accepted)
@@ -236,7 +237,7 @@ impl Acquirer {
         }
     }
 
-    /// A transfer that has come, with that status and content. After `NoMemory` nothing has changed.
+    /// Adds a transfer that has arrived, with that status and content. After `NoMemory` nothing has changed.
     pub fn arrive(
         &mut self,
         id: TransactionId,
@@ -258,7 +259,7 @@ impl Acquirer {
         put(&mut self.transfers, &mut self.awaited, id, transfer)
     }
 
-    /// A transfer that was cancelled before its proposal came. After `NoMemory` nothing has changed.
+    /// Adds a transfer that was cancelled before its proposal came. After `NoMemory` nothing has changed.
     pub fn forestall(&mut self, id: TransactionId) -> Result<(), NoMemory>
         requires { map.get self.old.transfers id ≡ None }
         ensures ok { OnOk result ((self.new.code ≡ self.old.code)
@@ -275,7 +276,8 @@ impl Acquirer {
         put(&mut self.transfers, &mut self.awaited, id, transfer)
     }
 
-    /// The transfer is Completed: its units are in the account that it goes to. After `NoMemory` nothing has changed.
+    /// Completes the transfer, and puts its units into the account that it goes to. After `NoMemory` nothing has
+    /// changed.
     pub fn complete(&mut self, holdings: &mut Holdings, id: TransactionId) -> Result<(), NoMemory>
         requires { (k : Terms) → kept_content (map.get self.old.transfers id) ≡ Some k → MayCredit holdings.old k }
         ensures transfers { OnOk result ((self.new.code ≡ self.old.code)
@@ -303,7 +305,7 @@ impl Acquirer {
         Ok(())
     }
 
-    /// The transfer is Cancelled, and its account awaits it no longer. Takes no memory.
+    /// Cancels the transfer. Its account awaits it no longer. Takes no memory.
     pub fn cancel(&mut self, id: TransactionId)
         ensures code { self.new.code ≡ self.old.code }
         ensures transfers { (t : TransactionId)

@@ -20,7 +20,7 @@ pub(crate) struct Awaited {
     pub id: TransactionId,
 }
 
-/// The entry of a transfer among those that are awaited, or `None` where it isn't.
+/// The entry of a transfer among those that are awaited, or `None` where it isn't awaited.
 pub(crate) fn awaited_of(id: TransactionId, transfer: &IncomingTransfer) -> Option<Awaited>
     ensures { (q : Awaited) → is_awaited_entry q result ≡ (same_id id q.id && is_awaited_by q.account
         (Some transfer.now)) }
@@ -35,7 +35,7 @@ pub(crate) fn awaited_of(id: TransactionId, transfer: &IncomingTransfer) -> Opti
     })
 }
 
-/// The entry is there, where there is one. After `NoMemory` nothing has changed.
+/// Adds the entry, if there is one. After `NoMemory` nothing has changed.
 pub(crate) fn remember(
     awaited: &mut BTreeSet<Awaited>,
     entry: Option<Awaited>,
@@ -51,7 +51,7 @@ pub(crate) fn remember(
     Ok(())
 }
 
-/// The entry isn't there any more.
+/// Removes the entry.
 pub(crate) fn forget(awaited: &mut BTreeSet<Awaited>, entry: Option<Awaited>)
     ensures { (q : Awaited) → contains awaited_cmp awaited.new q ≡ (contains awaited_cmp awaited.old q && not
         (is_awaited_entry q entry)) }
@@ -61,7 +61,7 @@ pub(crate) fn forget(awaited: &mut BTreeSet<Awaited>, entry: Option<Awaited>)
     }
 }
 
-/// The entry of the account before all its transfers.
+/// An entry of the account that comes before all its transfers.
 fn start_of(account: u64) -> Awaited
     ensures account { result.account ≡ account }
     ensures least { (t : TransactionId) → is_gt (id_cmp result.id t) ≡ false }
@@ -72,7 +72,7 @@ fn start_of(account: u64) -> Awaited
     }
 }
 
-/// A transfer that the account awaits, where there is one.
+/// A transfer that the account awaits, if there is one.
 pub(crate) fn first_awaited(awaited: &BTreeSet<Awaited>, account: u64) -> Option<Awaited>
     ensures some { IfSome result (λ q. (q.account ≡ account) × (contains awaited_cmp awaited.now q ≡ true)) }
     ensures none { IfNone result ((q : Awaited) → q.account ≡ account → contains awaited_cmp awaited.now q ≡ false) }

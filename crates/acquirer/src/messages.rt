@@ -1,4 +1,4 @@
-//! What an acquirer sends.
+//! The messages that an acquirer sends.
 ghost use Rattle.std.specs.Prelude.{◌≡◌, IfOk};
 ghost use Rattle.protocol.specs.Deciding.{column_of_proposal};
 ghost use Rattle.protocol.specs.Effects.{acquirer_sends};
@@ -11,7 +11,7 @@ use status::TransactionId;
 use std::alloc::Global;
 use units::{Code, Items, NoMemory, Node};
 
-/// What follows a proposal, by what was found in it: Accepted to the log, or Rejected with the codes.
+/// The message after a proposal, by its findings: Accepted to the log, or Rejected with the codes.
 pub(crate) fn on_proposal(
     alloc: Global,
     code: Code,

@@ -16,7 +16,7 @@ use status::{Status, TransactionId};
 use std::collections::{BTreeMap, BTreeSet};
 use units::NoMemory;
 
-/// A transfer more. After `NoMemory` nothing has changed.
+/// Adds a transfer. After `NoMemory` nothing has changed.
 pub(crate) fn put(
     transfers: &mut BTreeMap<TransactionId, IncomingTransfer>,
     awaited: &mut BTreeSet<Awaited>,
@@ -39,7 +39,7 @@ pub(crate) fn put(
     Ok(())
 }
 
-/// The entry of the transfer with that identifier among those that are awaited, or `None` where it isn't.
+/// The entry of the transfer with that identifier among those that are awaited, or `None` where it isn't awaited.
 fn awaited_in(
     transfers: &BTreeMap<TransactionId, IncomingTransfer>,
     id: TransactionId,
@@ -53,7 +53,7 @@ fn awaited_in(
     }
 }
 
-/// The transfer has that status.
+/// Sets the transfer's status.
 fn set_status(
     transfers: &mut BTreeMap<TransactionId, IncomingTransfer>,
     id: TransactionId,
@@ -69,7 +69,7 @@ fn set_status(
     }
 }
 
-/// The transfer has come to that status, which isn't Accepted.
+/// Moves the transfer to that status, which isn't Accepted.
 pub(crate) fn finish(
     transfers: &mut BTreeMap<TransactionId, IncomingTransfer>,
     awaited: &mut BTreeSet<Awaited>,

@@ -1,11 +1,11 @@
-//! What an acquirer knows of a transfer.
+//! A transfer in an acquirer's table.
 ghost use Rattle.std.specs.Prelude.{◌≡◌, option_copied};
 ghost use Rattle.acquirer.specs.Transfers as transfers;
 
 use status::{Content, RecordedStatus, RowInput, Status};
 
-/// What an acquirer knows of a transfer to it: where it stands, and its content, which is `None` where it was
-/// cancelled before its proposal came.
+/// A transfer in the table of its acquirer: where it stands, and its content, or `None` where it was cancelled before
+/// its proposal came.
 #[derive(Debug)]
 pub struct IncomingTransfer {
     pub status: Status,
@@ -22,7 +22,7 @@ impl Drop for IncomingTransfer {
 }
 
 impl IncomingTransfer {
-    /// What the table asks of it.
+    /// Its recorded status, as the status table takes it.
     pub(crate) fn known(&self) -> RecordedStatus
         ensures { result ≡ transfers.known_of self.now }
     {

@@ -1,4 +1,4 @@
--- The text of a cut, and what is left first.
+-- The text of a cut, and the first record beyond it.
 use Rattle.std.proofs.Common.{◌≡◌, ◌∙◌, ◌++◌, ℕ, All, List, [], ◌∷◌, filter, map, ap, subst, refl}
 use Rattle.std.specs.Prelude.{slice_get, None}
 use Rattle.std.specs.List.{flat_map}
@@ -29,7 +29,7 @@ cut_text form scheme js cut empty first text is none table whole = record {
   is = whole ∙ ap (λ (bytes : List ℕ). bytes ++ flat_map (rest_lines form) cut.rests.items) (table.2 ∙ ap (λ (bytes : List ℕ). bytes ++ table.0) none);
 }
 
--- without a first one there is none
+-- where there is no first rest, there is no rest at all
 pub none_first : (rests : List Rest) → slice_get rests 0 ≡ None → rests ≡ []
 none_first [] e = refl
 none_first (r ∷ rs) e = absurd (cc (e))

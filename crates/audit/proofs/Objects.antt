@@ -1,5 +1,5 @@
--- The JSON object of a message that a record waits for, whose parts are written one after another. The parts are any
--- texts here, since those of an identifier would be opened by the rewriting.
+-- The JSON object of a message that a record waits for, written part by part. The parts are arbitrary texts here, since
+-- the rewriting would unfold those of an identifier.
 use Rattle.std.proofs.Common.{◌≡◌, ℕ, List, ◌++◌, append_assoc}
 use Rattle.std.specs.Prelude.{codes}
 

@@ -30,7 +30,7 @@ image_there f (y ∷ ys) (suc k) x is = image_there f ys k x is
 
 -- ---- lists that are gone through together
 
--- one more of the first list is done, which gave that
+-- one more element of the first list is done, with that result
 pub both_moved : {X Y Z : Type 0} (f : X → Y) (h : Z → Y) (xs : List X) (x : X) (zs : List X) (z : Z) (old new : List Z) (ys : List Y) → zs ≡ xs ++ x ∷ [] → old ≡ z ∷ new → f x ≡ h z
     → map f xs ++ map h old ≡ ys → map f zs ++ map h new ≡ ys
 both_moved {X} {Y} {Z} f h xs x zs z old new ys more step fx same =
@@ -46,7 +46,7 @@ one_moved {X} {Y} f xs x zs y old new ys more step fx same =
     ∙ ap (λ (v : Y). map f xs ++ v ∷ new) fx
     ∙ ap (λ (l : List Y). map f xs ++ l) (sym step) ∙ same
 
--- what was written to a slice of the whole list is the list
+-- a list that was written to a slice of the whole list is that list
 pub written_back : {X : Type 0} (len : ℕ) (new items : List X) → length new ≡ length items → length items ≡ len → take len (new ++ drop (length new) items) ≡ new
 written_back {X} len new items same whole =
     ap (λ (l : List X). take len (new ++ l)) (drop_all (length new) items (omega (arith, same))) ∙ (ap (take len) (append-nil new) ∙ take_all len new (omega (arith, same, whole)))
@@ -99,7 +99,7 @@ module _ {S : Type 0} (g : Ghosts S) (scheme : Scheme) (olds news : List S) (bef
       subst (λ (s : Scheme). IsKept g (record { state = opened_with s n (journal_of core); store = store })) (sym goes_by)
       (kept_loaded g scheme n (journal_of core) old.0 store read.1 still.whose still.own belongs owned)
 
--- ---- what the pairs are, by what the cores are
+-- ---- the pairs, by their cores
 
 module _ {S : Type 0} (scheme : Scheme) (cores : List Core) (pairs : List (StoredView S)) (are : map (λ p. p.state) pairs ≡ map opened_core cores) where
   images : {Y : Type 0} (f : StateView → Y) (h : Core → Y) → ((c : Core) → f (opened_core c) ≡ h c) → (ps : List (StoredView S)) (cs : List Core) → map (λ p. p.state) ps ≡ map opened_core cs → map (λ p. f p.state) ps ≡ map h cs

@@ -1,4 +1,4 @@
--- What is written of the nodes that a run leaves, and what is told where nothing is.
+-- The table that is written of the nodes after a run, and the fault where nothing is written.
 use Rattle.std.proofs.Common.{◌≡◌, ◌<◌, ℕ, List, Option, Some, None, Result, Ok, Err, IfOk, IfErr, OnOk, length, take, refl, sym, subst}
 use Rattle.std.specs.Io.KnownBytes.{Appends, Keeps}
 use Rattle.protocol.specs.Scheme.{Scheme}
@@ -7,7 +7,7 @@ use Rattle.command_faults.specs.declared.fault.OpFault.{OpFault}
 use Rattle.command_faults.specs.declared.fault.OpFault.TheVariants.{Input as Line, Read, Write, Store, Stuck, Unsettled, Setup, NoMemory}
 use Rattle.audit.specs.Reported.{FailsToReport, IsReported, IsTableFault}
 
--- ---- what is told of a table
+-- ---- the table, or why there is none
 
 pub keeps_same : (v : Option (List ℕ)) → Keeps v v
 keeps_same None = tt

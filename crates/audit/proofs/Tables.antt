@@ -1,4 +1,4 @@
--- The table of a woven world, and why there is none.
+-- The table of a woven world, and why there may be none.
 use Rattle.std.proofs.Common.{◌≡◌, ◌∙◌, ◌++◌, ℕ, List, [], ap, sym, subst}
 use Rattle.protocol.specs.Input.{Input}
 use Rattle.protocol.specs.Scheme.{Scheme}

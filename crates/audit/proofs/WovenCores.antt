@@ -26,7 +26,7 @@ use Rattle.weave.specs.Following.{IsWoven, journal_of}
 abbrev nodes_in : List Station → List Node
 nodes_in ss = map (λ (s : Station). s.node) ss
 
--- what stands at the index of that node
+-- the journal at the index of that node
 abbrev placed : List (List Input) → List Node → Node → List Input
 placed js ns n = option_map_or (λ i. slice_index_or js i []) (position_from (λ m. same_node m n) 0 ns) []
 

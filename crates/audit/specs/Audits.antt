@@ -1,4 +1,4 @@
--- What an audit finds.
+-- The results of an audit.
 use Rattle.std.specs.Prelude.{◌<◌, ℕ, List, Option, length, take}
 use Rattle.std.specs.Io.KnownBytes.{Appends, Keeps}
 use Rattle.units.specs.declared.code.Node.{Node}
@@ -17,7 +17,7 @@ use Rattle.command_faults.specs.declared.fault.OpFault.{OpFault}
 use Rattle.command_faults.specs.declared.fault.OpFault.TheVariants.{Write, Store, Stuck, NoMemory}
 use Rattle.audit.specs.Stores.{AreLoaded, FailsToLoad}
 
--- the text is the table, in that form, of the world that some events lead to, whose committed journals are these
+-- the text is the table, in that form, of a world that some events lead to and whose committed journals are these
 pub record IsAuditTable (form : Form) (scheme : Scheme) (journals : List (List Input)) (text : List ℕ) : Type 0 where
   pub events : List WorldEvent
   pub projects : Projects scheme events (journal_of scheme journals)
@@ -28,7 +28,7 @@ pub record HasRun (scheme : Scheme) (journals : List (List Input)) : Type 0 wher
   pub events : List WorldEvent
   pub projects : Projects scheme events (journal_of scheme journals)
 
--- what a fault of weaving is to the command
+-- the command's fault for a fault of weaving
 abbrev pub of_weaving : WeaveFault → OpFault
 of_weaving (weaving.Stuck n place) = Stuck n place
 of_weaving weaving.NoMemory = NoMemory
@@ -59,7 +59,7 @@ module _ {S : Type 0} (g : Ghosts S) where
   FailsToFindRun NoMemory scheme olds news = Unit {0}
   FailsToFindRun _ scheme olds news = ⊥
 
-  -- nothing was written, or the first bytes of the table, fewer than all
+  -- nothing was written, or some first bytes of the table, but not all of it
   abbrev pub FailsToAudit : Form → OpFault → Scheme → List S → List S → (before after : Option (List ℕ)) → Type 0
   FailsToAudit form (Stuck n place) scheme olds news v w = FindsNoRun scheme olds news n place × Keeps v w
   FailsToAudit form (Store told fault) scheme olds news v w = FailsToLoad g scheme (nodes scheme) olds news (Store told fault) × Keeps v w

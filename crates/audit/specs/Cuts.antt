@@ -24,7 +24,7 @@ use Rattle.command_faults.specs.declared.fault.OpFault.{OpFault}
 use Rattle.command_faults.specs.declared.fault.OpFault.TheVariants.{Write, Store, Stuck, NoMemory}
 use Rattle.audit.specs.Stores.{AreLoaded, FailsToLoad}
 
--- ---- the lines of what is left
+-- ---- the lines about records beyond the cut
 
 -- the message that the record at that place of the node waits for
 abbrev pub message_line : Form → Node → ℕ → Message → List ℕ
@@ -37,7 +37,7 @@ abbrev pub waits_line : Form → Node → ℕ → Input → List ℕ
 waits_line form n place (Received m moment) = message_line form n place m
 waits_line form n place _ = []
 
--- how many records are beyond the cut, of which the first is at that place of the node
+-- the number of the node's records beyond the cut, and the place of the first of them
 abbrev pub left_line : Form → Node → ℕ → ℕ → List ℕ
 left_line Lines n place count = codes "left " ++ node_text n ++ codes " " ++ decimal place ++ codes " " ++ decimal count ++ codes "\n"
 left_line Json n place count = codes "{\"count\":" ++ decimal count ++ codes ",\"line\":\"left\",\"node\":\"" ++ node_text n ++ codes "\",\"place\":" ++ decimal place ++ codes "}\n"
@@ -47,8 +47,8 @@ rest_lines form r = left_line form r.node r.place r.count ++ waits_line form r.n
 
 -- ---- the cut
 
--- the text is the table, in that form, of the furthest world that some events lead to whose journals are first records
--- of these, in which every node is idle, and then lines for the records beyond
+-- the text is the table, in that form, of the furthest world that some events lead to, where each journal has the first
+-- records of the one here and every node is idle; after it come lines about the records beyond
 pub record IsCutText (form : Form) (scheme : Scheme) (journals : List (List Input)) (rests : List Rest) (text : List ℕ) : Type 0 where
   pub events : List WorldEvent
   pub furthest : IsFurthestCut scheme (journal_of scheme journals) events
@@ -68,14 +68,14 @@ pub record IsFirstBeyond (rests : List Rest) (n : Node) (place : ℕ) : Type 0 w
   pub placed : place ≡ first.place
 
 module _ {S : Type 0} (g : Ghosts S) where
-  -- the stores were read, and the text is of the furthest cut of their records
+  -- the stores were read, and the text is that of the furthest cut of their records
   pub record CutsOff (form : Form) (scheme : Scheme) (olds news : List S) (rests : List Rest) (text : List ℕ) : Type 0 where
     pub journals : List (List Input)
     pub loaded : AreLoaded g scheme (nodes scheme) olds news journals
     pub is_text : IsCutText form scheme journals rests text
 
-  -- the text was written and has records beyond the cut; or the stores were not read; or the first bytes of the text were
-  -- written, fewer than all
+  -- the text was written, and there are records beyond the cut; or the stores could not be read; or some first bytes of
+  -- the text were written, but not all of it
   abbrev pub FailsToCutOff : Form → OpFault → Scheme → List S → List S → (before after : Option (List ℕ)) → Type 0
   FailsToCutOff form (Stuck n place) scheme olds news v w = (rests : List Rest) × (text : List ℕ) × CutsOff form scheme olds news rests text × IsFirstBeyond rests n place × Appends v w text
   FailsToCutOff form (Store told fault) scheme olds news v w = FailsToLoad g scheme (nodes scheme) olds news (Store told fault) × Keeps v w

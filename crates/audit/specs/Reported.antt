@@ -1,4 +1,4 @@
--- The table of the nodes that a run leaves.
+-- The table of the nodes after a run.
 use Rattle.std.specs.Prelude.{◌<◌, ℕ, List, Option, length, map, take}
 use Rattle.std.specs.Io.KnownBytes.{Appends, Keeps}
 use Rattle.units.specs.declared.code.Node.{Node}
@@ -34,7 +34,7 @@ IsTableFault scheme helds seats (Stuck n place) = HasNoRun scheme helds seats n 
 IsTableFault scheme helds seats NoMemory = Unit {0}
 IsTableFault scheme helds seats _ = ⊥
 
--- nothing was written, or the first bytes of the table, fewer than all
+-- nothing was written, or some first bytes of the table, but not all of it
 abbrev pub FailsToReport : OpFault → Scheme → List StateView → List (List SeatView) → (before after : Option (List ℕ)) → Type 0
 FailsToReport (Write count) scheme helds seats v w = (table : List ℕ) × IsReported scheme helds seats table × (count < length table) × Appends v w (take count table)
 FailsToReport fault scheme helds seats v w = IsTableFault scheme helds seats fault × Keeps v w

@@ -1,4 +1,4 @@
--- Whether what the threads of each node were told is what one thread alone would have been told.
+-- Whether the notes of the threads of each node are those of one thread alone.
 use Rattle.std.specs.Prelude.{◌≡◌, ◌≢◌, ◌<◌, ℕ, List, length, slice_get, Some}
 use Rattle.units.specs.declared.code.Node.{Node}
 use Rattle.protocol.specs.Scheme.{Scheme}
@@ -10,7 +10,7 @@ use Rattle.desk.specs.declared.life.Unsettled.{Unsettled as Cause}
 use Rattle.command_faults.specs.declared.fault.OpFault.{OpFault}
 use Rattle.command_faults.specs.declared.fault.OpFault.TheVariants.{Unsettled, NoMemory}
 
--- what the threads of the first nodes were told is what each node alone would have told under the scheme
+-- the notes of the threads of the first nodes are those that each node alone would have given under the scheme
 abbrev pub AreSettledTo : ℕ → Scheme → List StateView → List (List SeatView) → Type 0
 AreSettledTo at scheme helds seats =
     (k : ℕ) (n : Node) (held : StateView) (heard : List SeatView) → k < at → slice_get (nodes scheme) k ≡ Some n → slice_get helds k ≡ Some held → slice_get seats k ≡ Some heard

@@ -1,4 +1,4 @@
--- The stores of all nodes, read.
+-- The stores of all nodes, after they were read.
 use Rattle.std.specs.Prelude.{◌≡◌, ◌≢◌, ◌<◌, ℕ, false, List, Ok, Err, Some, length, slice_get}
 use Rattle.units.specs.declared.code.Node.{Node}
 use Rattle.protocol.specs.Input.{Input}
@@ -21,8 +21,8 @@ pub record IsUnwritten {S : Type 0} (g : Ghosts S) (old new : S) : Type 0 where
 abbrev pub AreUnwritten : {S : Type 0} → Ghosts S → List S → List S → Type 0
 AreUnwritten {S} g olds news = (k : ℕ) (old new : S) → slice_get olds k ≡ Some old → slice_get news k ≡ Some new → IsUnwritten g old new
 
--- the store is honest; what each place has while it runs; what a crash or a reopening may find; a fault stopped it, and
--- it must be reopened first
+-- a store's ghost fields: whether it is honest; the text at each place while it runs; the contents that a crash or a
+-- reopening may find; whether a fault stopped it and it must be reopened first
 module _ {S : Type 0} (g : Ghosts S) where
   -- the node's store was read, its records are that journal, and the node records each after those before it
   abbrev pub IsLoadedAs : Scheme → Node → S → S → List Input → Type 0

@@ -21,7 +21,7 @@ use stores::NodeStore;
 use weave::{Nobody, Watch, WeaveFault, Woven, weave_cores};
 use world::Core;
 
-/// What a fault of weaving is to the command.
+/// The command's fault for a fault of weaving.
 pub fn fault_of(fault: WeaveFault) -> OpFault
     ensures { result ≡ of_weaving fault }
 {
@@ -31,7 +31,7 @@ pub fn fault_of(fault: WeaveFault) -> OpFault
     }
 }
 
-/// The table of what was woven, or what its fault is to the command.
+/// The table of the woven world, or the command's fault for the fault of weaving.
 fn table_of_woven(
     alloc: Global,
     woven: Result<Woven, WeaveFault>,
@@ -54,7 +54,7 @@ fn table_of_woven(
 }
 
 /// The table of a run that leads to the records of these cores, one for each node: the log's, then those of the
-/// registries in the scheme's order. Tells of each record that is woven.
+/// registries in the scheme's order. Reports each record that is woven.
 ///
 /// # Errors
 ///
@@ -74,7 +74,7 @@ pub(crate) fn table_of_cores<P: Watch>(
     table_of_woven(alloc, weave_cores(alloc, scheme, cores, watch), form)
 }
 
-/// The cores of the world that was woven of these journals, each with its journal, or what the fault is to the command.
+/// The cores of the world that was woven from these journals, each with its journal, or the command's fault.
 fn cores_of_woven(woven: Result<Woven, WeaveFault>) -> Result<Vec<Core>, OpFault>
     ensures run { (scheme : Scheme) (journals : List (List Input)) → length journals ≡ length (nodes scheme)
         → IfOk woven (λ w. IsWoven scheme (journal_of scheme journals) w.events.items w.world)
@@ -101,7 +101,7 @@ fn cores_of_woven(woven: Result<Woven, WeaveFault>) -> Result<Vec<Core>, OpFault
 }
 
 /// Finds a run that leads to the records of these cores, one for each node: the log's, then those of the registries in
-/// the scheme's order, and returns cores with these records. Tells of each record that is woven. Fails with `Stuck`
+/// the scheme's order, and returns cores with these records. Reports each record that is woven. Fails with `Stuck`
 /// where there is no such run, and with `NoMemory` where memory ran out.
 fn find_run<P: Watch>(
     alloc: Global,
@@ -121,15 +121,15 @@ fn find_run<P: Watch>(
 }
 
 /// Reads the stores, one for each node: the log's, then those of the registries in the scheme's order. Where a run
-/// leads to all their records, returns each with the state that its records lead to, which runs. Tells of the records
-/// as they are read and woven.
+/// leads to all their records, returns each with the state that its records lead to. This state runs. Reports the
+/// records as they are read and woven.
 ///
 /// The stores are read by pages, and nothing is written to them. Each record is taken once.
 ///
 /// # Errors
 ///
-/// Fails with `Store` and `Stuck` as `audit` does, and with `NoMemory` where memory ran out. The stores are closed
-/// then.
+/// Fails with `Store` and `Stuck` as `audit` does, and with `NoMemory` where memory ran out. The stores are then
+/// closed.
 pub fn load_run<S: NodeStore + Drop, P: Watch>(
     alloc: Global,
     scheme: &Scheme,
@@ -168,8 +168,8 @@ pub fn load_run<S: NodeStore + Drop, P: Watch>(
     }
 }
 
-/// Reads the stores of the first nodes: the log's, then those of the registries in the scheme's order. So a fault of
-/// one of them is found before that of a later store, which can't be opened.
+/// Reads the stores of the first nodes: the log's, then those of the registries in the scheme's order. This finds a
+/// fault of one of them before the fault of a later store that can't be opened.
 ///
 /// # Errors
 ///
@@ -197,13 +197,13 @@ pub fn read_first<S: NodeStore>(
 ///
 /// # Errors
 ///
-/// Nothing is written, but where the output failed:
+/// Nothing is written, except where the output failed:
 ///
-/// - `Store`: the first store in that order that could not be read, or has a damaged record. A record is damaged too
-///   where its node doesn't record it after those before it.
+/// - `Store`: a store could not be read, or has a damaged record; it is the first such store in that order. A record is
+///   also damaged where its node doesn't record it after those before it.
 /// - `Stuck`: no run leads to these records. Followed as far as they go, the node is the first with a record left, and
 ///   the place is that record's.
-/// - `Write`: the output failed, after the number of bytes that the fault tells.
+/// - `Write`: the output failed, after the number of bytes in the fault.
 /// - `NoMemory`: out of memory.
 pub fn audit<S: NodeStore, W: Write>(
     alloc: Global,
@@ -223,7 +223,7 @@ pub fn audit<S: NodeStore, W: Write>(
     audit_watched(alloc, scheme, stores, writer, form, &mut Nobody)
 }
 
-/// As `audit`, and tells of the records as they are read and woven.
+/// As `audit`, and reports the records as they are read and woven.
 ///
 /// # Errors
 ///

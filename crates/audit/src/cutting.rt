@@ -1,4 +1,4 @@
-//! The table of the furthest world that the records of the stores explain, and what is left of them.
+//! The table of the furthest world that the records of the stores explain, and the records that are left.
 ghost use Rattle.std.specs.Prelude.{◌≡◌, ◌++◌, ℕ, [], List, IfErr, IfOk, OnOk, flat_map, length, string_bytes};
 ghost use Rattle.std.specs.Io.KnownBytes.{Appends};
 ghost use Rattle.audit.specs.Cuts.{CutsOff, FailsToCutOff, IsCutText, left_line, message_line, rest_lines, waits_line};
@@ -22,7 +22,7 @@ use stores::NodeStore;
 use units::{NoMemory, Node};
 use weave::{Cut, Rest, Watch, cut_cores};
 
-/// Adds the line of how many records of a node are beyond the cut, and where the first one is.
+/// Adds the line with the number of a node's records beyond the cut and the place of the first one.
 fn push_left(
     text: &mut String,
     node: Node,
@@ -90,7 +90,7 @@ fn push_awaited(
     }
 }
 
-/// Adds the line of the message that a record waits for, where it is of a message.
+/// Adds the line of the message that a record waits for, if it waits for one.
 fn push_waits(
     text: &mut String,
     node: Node,
@@ -135,22 +135,23 @@ fn text_of_cut(alloc: Global, cut: &Cut, form: Form) -> Result<String, NoMemory>
     Ok(text)
 }
 
-/// Reads the stores, one for each node: the log's, then those of the registries in the scheme's order. Of all runs whose
-/// journals are first records of these stores, one has the most at every node: writes the table of its world, in that form. For each
-/// node with records left it then writes how many these are, and the message that the first of them waits for, which by
-/// the records of that world no node sends. Tells of the records as they are read and woven.
+/// Reads the stores, one for each node: the log's, then those of the registries in the scheme's order. Of all runs
+/// whose journals are first records of these stores, one has the most records at every node: this writes the table of
+/// its world, in that form. For each node with records left it then writes how many these are, and the message that the
+/// first of them waits for. By the records of that world no node sends this message. Reports the records as they are
+/// read and woven.
 ///
 /// The stores need not have been copied at one moment. They are read by pages, and nothing is written to them.
 ///
 /// # Errors
 ///
-/// Nothing is written, but where the output failed and where records are left:
+/// Nothing is written, except where the output failed and where records are left:
 ///
 /// - `Stuck`: all was written, and records are left. The node is the first with a record left, and the place is that
 ///   record's.
-/// - `Store`: the first store in that order that could not be read, or has a damaged record. A record is damaged too
-///   where its node doesn't record it after those before it.
-/// - `Write`: the output failed, after the number of bytes that the fault tells.
+/// - `Store`: a store could not be read, or has a damaged record; it is the first such store in that order. A record is
+///   also damaged where its node doesn't record it after those before it.
+/// - `Write`: the output failed, after the number of bytes in the fault.
 /// - `NoMemory`: out of memory.
 pub fn audit_cut<S: NodeStore, W: Write, P: Watch>(
     alloc: Global,

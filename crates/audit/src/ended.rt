@@ -1,4 +1,4 @@
-//! The nodes that a run leaves: each is settled, and the table is that of a run that leads to their records.
+//! The nodes after a run: each is settled, and the table is that of a run that leads to their records.
 ghost use Rattle.std.specs.Prelude.{◌≡◌, ◌<◌, [], ℕ, All, List, length, map, IfErr, IfOk, OnOk, string_bytes};
 ghost use Rattle.std.specs.Io.KnownBytes.{Appends};
 ghost use Rattle.protocol.specs.Registries.{nodes};
@@ -22,19 +22,19 @@ use units::Node;
 use weave::{Nobody, Watch};
 use world::Core;
 
-/// A node after a run: its state with its store, and the seats of all that its desk told something.
+/// A node after a run: its state with its store, and the seats that have notes of its desk.
 #[derive(Drop)]
 pub struct EndedNode<S: NodeStore> {
     pub stored: Stored<Core, S>,
     pub seats: Vec<Seat>,
 }
 
-/// Settles a node under the scheme: whether what these seats were told is what one thread alone would have been told.
-/// Returns a core that has recorded the committed records.
+/// Settles a node under the scheme: checks that the notes of these seats are those that one thread alone would have
+/// got. Returns a core that has recorded the committed records.
 ///
 /// # Errors
 ///
-/// Fails with `Unsettled` where they were told something else, and with `NoMemory` where memory ran out.
+/// Fails with `Unsettled` where the notes differ, and with `NoMemory` where memory ran out.
 pub fn settle_node(
     alloc: Global,
     scheme: &Scheme,
@@ -56,7 +56,8 @@ pub fn settle_node(
     }
 }
 
-/// Settles each of these nodes, which are all, and adds its core where there are none. Tells how many records each has.
+/// Settles these nodes, which are all of the scheme's, and adds their cores to an empty list. Reports each node's
+/// number of records.
 fn add_settled<S: NodeStore, P: Watch>(
     cores: &mut Vec<Core>,
     alloc: Global,
@@ -96,8 +97,8 @@ fn add_settled<S: NodeStore, P: Watch>(
     Ok(())
 }
 
-/// Settles all nodes: the log, then the registries in the scheme's order. Returns their cores, with the committed
-/// records, of which it tells.
+/// Settles all nodes: the log, then the registries in the scheme's order. Returns their cores, which have the committed
+/// records, and reports these records.
 fn settle_all<S: NodeStore, P: Watch>(
     alloc: Global,
     scheme: &Scheme,
@@ -123,7 +124,7 @@ fn settle_all<S: NodeStore, P: Watch>(
 }
 
 /// Settles the nodes and finds a run that leads to their committed records, as `report_run` does, and returns the table
-/// of the world that it leads to. Tells of the records as they are settled and woven.
+/// of the world that the run leads to. Reports the records as they are settled and woven.
 ///
 /// # Errors
 ///
@@ -145,22 +146,22 @@ pub fn table_of_ended<S: NodeStore, P: Watch>(
     }
 }
 
-/// Settles each node with the seats of its threads: whether what they were told is what one thread alone would have
-/// been told. Finds a run that leads to the committed records of all nodes and to no others, and writes the table of
-/// the world that it leads to.
+/// Settles each node with the seats of its threads: checks that their notes are those that one thread alone would have
+/// got. Finds a run that leads to the committed records of all nodes and to no others, and writes the table of the
+/// world that it leads to.
 ///
 /// The nodes, each with its state, its store and its seats, are the log, and then the registries in the scheme's order.
-/// A node is settled by its core under the scheme, whatever scheme its state has.
+/// A node is settled by its core under the scheme, regardless of the scheme of its state.
 ///
 /// # Errors
 ///
-/// Nothing is written, but where the output failed:
+/// Nothing is written, except where the output failed:
 ///
-/// - `Unsettled`: the first node in that order whose threads were told something else, or whose journal isn't recorded
-///   under the scheme.
+/// - `Unsettled`: the notes of a node's threads differ, or its journal isn't recorded under the scheme; it is the first
+///   such node in that order.
 /// - `Stuck`: no run leads to the committed records. Followed as far as they go, the node is the first with a record
 ///   left, and the place is that record's.
-/// - `Write`: the output failed, after the number of bytes that the fault tells.
+/// - `Write`: the output failed, after the number of bytes in the fault.
 /// - `NoMemory`: out of memory.
 pub fn report_run<S: NodeStore, W: Write>(
     alloc: Global,

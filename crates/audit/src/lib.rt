@@ -1,5 +1,5 @@
-//! The command `audit`: one run that leads to the records of all nodes' stores, and the table of its world; or the
-//! furthest that one leads; and the same of nodes that ran in threads, which are settled first.
+//! The command `audit`: finds one run that leads to the records of all nodes' stores, or the run that leads furthest,
+//! and writes the table of its world. The same for nodes that ran in threads, which are settled first.
 #![tactic(auto)]
 
 mod auditing;

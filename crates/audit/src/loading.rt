@@ -44,7 +44,7 @@ fn push(cores: &mut Vec<Core>, core: Core) -> Result<(), NoMemory>
 }
 
 /// The cores that the records of the first nodes' stores lead to: the log's, then those of the registries in the
-/// scheme's order. Tells of each store's records once they are read.
+/// scheme's order. Reports each store's records once they are read.
 ///
 /// # Errors
 ///
@@ -78,7 +78,7 @@ pub fn load_cores<S: NodeStore, P: Watch>(
     Ok(cores)
 }
 
-/// The state of each core with its store, which has the records of it.
+/// The state of each core with its store, which has the core's records.
 pub(crate) fn pair_up<S: NodeStore + Drop>(
     alloc: Global,
     cores: Vec<Core>,

@@ -1,4 +1,4 @@
-//! What whole cores take.
+//! Measurements of whole cores.
 
 ghost use Rattle.std.specs.Prelude.{◌≡◌, [], IfOk};
 
@@ -18,14 +18,14 @@ use std::alloc::Global;
 use std::rt::Clock;
 use std::time::Instant;
 
-/// As many records as a scheme allows. All units are in account 2 of NZ.
+/// A scheme with room for the greatest number of records. All units are in account 2 of NZ.
 const SCHEME: &str =
     r#"{"records":1000000,"registries":[{"accounts":[7],"allotted":[],"code":"JP","eligible":true,"kinds":["AAU"]},{"accounts":[1,2],"allotted":[{"account":2,"units":["NZ:1:1-100000000:AAU"]}],"code":"NZ","eligible":true,"kinds":["AAU"]}]}"#;
 
-/// How many transactions stand Checked while clean-ups and orders on eligibility are given.
+/// How many transactions are in status Checked while clean-ups and orders on eligibility are given.
 const CHECKED: u32 = 100_000;
 
-/// Gives the core that many inputs, these in turn and again from the first.
+/// Gives the core that number of inputs: these in turn, and then again from the first.
 fn drive<C: NodeCore>(
     clock: &impl Clock,
     core: &mut C,
@@ -52,7 +52,7 @@ fn registry_of(alloc: Global, nodes: Nodes) -> Result<RegistryCore, Fault> {
     Ok(RegistryCore::new(alloc, &scheme, nodes.own)?)
 }
 
-/// What NZ of the scheme takes for the inputs.
+/// Measures NZ of the scheme, given the inputs.
 fn at_registry_of(
     clock: &impl Clock,
     alloc: Global,
@@ -66,7 +66,7 @@ fn at_registry_of(
     taken
 }
 
-/// What a registry takes.
+/// Measures a registry.
 pub fn at_registry(
     clock: &impl Clock,
     alloc: Global,
@@ -92,7 +92,7 @@ pub fn log_of(alloc: Global, codes: &[Code]) -> Result<LogCore, Fault>
     Ok(LogCore::new(alloc, &scheme)?)
 }
 
-/// Gives the log the proposals that stand Checked from then on.
+/// Gives the log the proposals, which then stay in status Checked.
 fn propose(
     clock: &impl Clock,
     alloc: Global,
@@ -104,7 +104,7 @@ fn propose(
     Ok(())
 }
 
-/// The inputs of that kind that the log is given.
+/// The inputs of that kind for the log.
 fn log_inputs(
     alloc: Global,
     codes: &[Code],
@@ -118,7 +118,7 @@ fn log_inputs(
     }
 }
 
-/// Gives the log the inputs, after the proposals where the kind wants these.
+/// Gives the log the inputs, after the proposals where the kind needs them.
 fn drive_log(
     clock: &impl Clock,
     alloc: Global,
@@ -134,7 +134,7 @@ fn drive_log(
     drive(clock, log, inputs, count)
 }
 
-/// What the log of these registries takes for the inputs.
+/// Measures the log of these registries, given the inputs.
 fn at_log_of(
     clock: &impl Clock,
     alloc: Global,
@@ -149,7 +149,7 @@ fn at_log_of(
     taken
 }
 
-/// What the log takes.
+/// Measures the log.
 pub fn at_log(clock: &impl Clock, alloc: Global, kind: Inputs, count: u32) -> Result<Taken, Fault> {
     let codes = codes(alloc)?;
     let inputs = log_inputs(alloc, &codes, kind, count)?;

@@ -45,10 +45,10 @@ fn serve_one<Rd: Read + Drop, Wr: Write + Drop, R: Wait + Clock>(
     answerer.into_seat()
 }
 
-/// How often an accept is made at most to which nobody comes.
+/// How many times at most an accept is repeated when no connection arrives.
 const MOST_WAITS: u32 = 100;
 
-/// The next connection. `None` where accepting it failed, or nobody came.
+/// The next connection, or `None` where accepting failed or none arrived.
 fn accept<L: Listen>(listen: &L) -> Option<(L::Reader, L::Writer)> {
     for _ in 0..MOST_WAITS {
         match listen.accept() {
@@ -60,7 +60,7 @@ fn accept<L: Listen>(listen: &L) -> Option<(L::Reader, L::Writer)> {
     None
 }
 
-/// Serves that many connections, one after another.
+/// Serves that number of connections, one after another.
 fn serve<L: Listen, R: Wait + Clock>(rt: &R, alloc: Global, desk: &NzDesk, listen: &L, count: u32) {
     let mut seat = Seat::new(alloc);
     for _ in 0..count {
@@ -70,7 +70,8 @@ fn serve<L: Listen, R: Wait + Clock>(rt: &R, alloc: Global, desk: &NzDesk, liste
     }
 }
 
-/// Sends the message as often as that, over a connection for each. Returns how many had a refusal as their reply.
+/// Sends the message that number of times, each time over a new connection. Returns how many times the reply was a
+/// refusal.
 fn send_all<D: Dial>(alloc: Global, dial: &D, node: Node, message: &Message, count: u32) -> u32 {
     let mut refused: u32 = 0;
     for _ in 0..count {
@@ -87,7 +88,7 @@ fn send_all<D: Dial>(alloc: Global, dial: &D, node: Node, message: &Message, cou
     refused
 }
 
-/// One thread that serves and one that sends. Returns how many messages had a refusal as their reply.
+/// One thread serves and one sends. Returns how many times the reply was a refusal.
 fn exchange_all<L: Listen + Sync, D: Dial + Sync, R: Threads + Wait + Clock + Sync>(
     rt: &R,
     alloc: Global,
@@ -112,7 +113,7 @@ where
     refused
 }
 
-/// The time that so many exchanges take. `None` where the system failed, or a message had another reply.
+/// The time that this number of exchanges takes, or `None` where the system failed or a message had another reply.
 fn time_between<L: Listen + Sync, D: Dial + Sync, R: Threads + Wait + Clock + Sync>(
     rt: &R,
     alloc: Global,
@@ -135,7 +136,7 @@ where
     if refused == count { Some(passed) } else { None }
 }
 
-/// The same, over a port that the system chooses. `None` also where memory failed.
+/// The same, over a port that the system chooses. Returns `None` also for lack of memory.
 fn time_of<R>(rt: &R, alloc: Global, node: Node, desk: &NzDesk, count: u32) -> Option<Duration>
 where
     R: Threads + Wait + Clock + Net<Listener = TcpListener, Stream = TcpStream> + Sync,
@@ -149,7 +150,7 @@ where
     time
 }
 
-/// How long that many exchanges take.
+/// The time that this number of exchanges takes.
 pub fn exchanges_time<R>(rt: &R, alloc: Global, count: u32) -> Result<Vec<Duration>, Fault>
 where
     R: Threads + Wait + Clock + Net<Listener = TcpListener, Stream = TcpStream> + Sync,

@@ -1,4 +1,4 @@
-//! Why nothing is measured, or no more.
+//! Why a measurement fails.
 
 use protocol::scheme::SchemeFault;
 use protocol::units::{BlockFault, NoMemory, Refusal};
@@ -8,13 +8,13 @@ use std::alloc::{AllocError, AllocFailed};
 use std::io;
 use thiserror::Error;
 
-/// Why nothing is measured, or no more.
+/// Why a measurement fails.
 #[derive(Debug, Drop, Error)]
 pub enum Fault {
-    /// The words are not a kind of work with what it needs, or a number is too small or too large.
+    /// The words don't name a kind of work with its arguments, or a number is too small or too large.
     #[error("wanted: transfers, accounts, log, clean-ups, eligibility, map, outbox or scheme with a number of at least 9; memory, alone, sends or exchanges with a number; file PATH RECORDS; or store PATH RECORDS SIZE LOADS")]
     Words,
-    /// A number, a code or an order of an input is none.
+    /// The text of a number, a code or an order of an input isn't valid.
     #[error("an input can't be made")]
     Input,
     /// The text on standard input is no scheme.
@@ -23,13 +23,13 @@ pub enum Fault {
     /// An input was refused.
     #[error("an input was refused with {0}")]
     Refused(u16),
-    /// Something else was recorded or found than was given.
+    /// The number of records or of finds isn't the expected one.
     #[error("not all that was given was recorded")]
     Recorded,
-    /// Other records were loaded than were appended.
+    /// The number of loaded records isn't the number of appended ones.
     #[error("the store doesn't load as many records as were appended")]
     Count,
-    /// The threads were told something else than one thread alone would have been.
+    /// The notes of the threads aren't those that one thread alone would have got.
     #[error("{0}")]
     Unsettled(Unsettled),
     /// The store has a fault.
@@ -38,10 +38,10 @@ pub enum Fault {
     /// An exchange failed.
     #[error("the system or memory failed, or a message had another reply")]
     Exchange,
-    /// Memory was refused.
+    /// Out of memory.
     #[error("out of memory")]
     NoMemory,
-    /// The clock, the words or the output failed.
+    /// The clock, the reading of the words or the output failed.
     #[error("{0}")]
     System(io::Error),
 }

@@ -14,7 +14,7 @@ use std::time::{Duration, Instant};
 /// The block of the order that each record is.
 const BLOCK: &str = "NZ:1:1-100:AAU";
 
-/// How many records are appended, how many at once, and how often they are loaded.
+/// How many records are appended, how many at once, and how many times they are loaded.
 #[derive(Clone, Copy)]
 pub struct Batches {
     pub records: u32,
@@ -23,7 +23,7 @@ pub struct Batches {
     pub ghost sized: { 0 < size },
 }
 
-/// That many copies of the record.
+/// That number of copies of the record.
 fn copies_of(alloc: Global, record: &Input, count: u32) -> Result<Vec<Input>, Fault> {
     let mut records = Vec::new(alloc);
     for _ in 0..count {
@@ -41,7 +41,7 @@ fn records(alloc: Global, count: u32) -> Result<Vec<Input>, Fault> {
     records
 }
 
-/// How long the store takes to append the records in batches.
+/// The time that the store takes to append the records in batches.
 fn append_time<S: NodeStore>(
     clock: &impl Clock,
     store: &mut S,
@@ -57,7 +57,7 @@ fn append_time<S: NodeStore>(
     Ok(start.elapsed(clock)?)
 }
 
-/// How long the store takes to load its records, with the drop of the records.
+/// The time that the store takes to load its records and to drop them.
 fn load_time<S: NodeStore>(
     clock: &impl Clock,
     store: &mut S,
@@ -86,7 +86,7 @@ fn store_times<S: NodeStore>(
     Ok(times)
 }
 
-/// How long a store takes that is made at the path.
+/// The times of a store that is made at the path.
 pub fn path_times(rt: &HostRuntime, path: &str, batches: &Batches) -> Result<Vec<Duration>, Fault> {
     let mut store = file_store(rt, path)?;
     let times = store_times(rt, rt.alloc(), &mut store, batches);

@@ -1,4 +1,4 @@
-//! The inputs that the log is given.
+//! The inputs for the log.
 
 use crate::fault::Fault;
 use crate::rounds::{MOMENT, ack_of, block_of, received};
@@ -7,13 +7,13 @@ use protocol::units::{Code, Items, Node};
 use protocol::wire::{Body, Input, Message, NotifiedStatus, Proposal, ProposalStatus};
 use std::alloc::Global;
 
-/// How many registries the scheme has.
+/// The number of registries in the scheme.
 pub const REGISTRIES: u32 = 31;
 
-/// Each registry's account, which all of its units are in.
+/// Each registry's account, which has all of its units.
 const ACCOUNT: u64 = 1;
 
-/// How many units each registry has.
+/// The number of units of each registry.
 const UNITS_OF_A_REGISTRY: u64 = 100_000_000;
 
 /// The codes of the registries: AA, AB, and so on.
@@ -29,7 +29,7 @@ pub fn codes(alloc: Global) -> Result<Vec<Code>, Fault> {
     Ok(codes)
 }
 
-/// The text of the scheme of these registries, with as many records as a scheme allows.
+/// The text of the scheme of these registries, with room for the greatest number of records.
 pub fn scheme_text(alloc: Global, codes: &[Code]) -> Result<String, Fault> {
     let mut text = format!(in alloc; "{{\"records\":1000000,\"registries\":[")?;
     for (number, code) in codes.iter().enumerate() {
@@ -72,7 +72,7 @@ const ROUND: [Step; 8] = [
     Step::Completed,
 ];
 
-/// One round, by how many are before it: a transfer from a registry to the next one.
+/// One round, by the number of rounds before it: a transfer from a registry to the next one.
 #[derive(Clone, Copy)]
 struct Round {
     initiator: Code,
@@ -93,7 +93,7 @@ impl Round {
         })
     }
 
-    /// How many rounds of the initiator are before it.
+    /// The number of earlier rounds with the same initiator.
     fn turn(&self) -> u32 {
         self.number / REGISTRIES
     }
@@ -119,7 +119,7 @@ impl Round {
         })
     }
 
-    /// What that registry tells the log.
+    /// That registry's notification to the log.
     fn notification(&self, from: Code, notified: NotifiedStatus) -> Result<Input, Fault> {
         received(Message {
             from: Node::Registry(from),
@@ -149,7 +149,7 @@ impl Round {
     }
 }
 
-/// That many inputs of rounds one after another.
+/// The first inputs of the rounds, in that number.
 pub fn log_rounds_of(alloc: Global, codes: &[Code], count: u32) -> Result<Vec<Input>, Fault> {
     let mut inputs = Vec::new(alloc);
     for at in 0..count {
@@ -161,7 +161,7 @@ pub fn log_rounds_of(alloc: Global, codes: &[Code], count: u32) -> Result<Vec<In
     Ok(inputs)
 }
 
-/// That many proposals, which all stand Checked then.
+/// That number of proposals, all of which are then in status Checked.
 pub fn proposals_of(alloc: Global, codes: &[Code], count: u32) -> Result<Vec<Input>, Fault> {
     let mut inputs = Vec::new(alloc);
     for number in 0..count {
@@ -177,7 +177,7 @@ pub fn clean_up(alloc: Global) -> Result<Vec<Input>, Fault> {
     Ok(inputs)
 }
 
-/// The orders that a registry may not take part in transfers, and that it may again.
+/// The orders that exclude a registry from transfers and admit it again.
 pub fn eligibility_orders(alloc: Global, codes: &[Code]) -> Result<Vec<Input>, Fault> {
     let registry = *codes.first().ok_or(Fault::Input)?;
     let mut inputs = Vec::new(alloc);

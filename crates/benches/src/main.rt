@@ -1,46 +1,46 @@
 //! How long parts of this repository take for many inputs.
 //!
 //! `benches transfers INPUTS` gives a registry INPUTS inputs of whole transfers: an order to transfer a block out of
-//! the one that it was allotted, and Accepted for it; a proposal of another registry, and Completed for it; an
-//! acknowledgement of each message that it sends, and then Accepted and the proposal again, which are repeats. So a
-//! round has nine inputs, of which seven are recorded. `benches accounts INPUTS` has it close and open an account
-//! without units, INPUTS times in all.
+//! its allotted one, and Accepted for it; a proposal of another registry, and Completed for it; an acknowledgement of
+//! each message that it sends; and then Accepted and the proposal again, which are repeats. A round has nine inputs,
+//! and seven of them are recorded. `benches accounts INPUTS` has it close and open an account without units, INPUTS
+//! times in all.
 //!
-//! `benches log INPUTS` gives the log of 31 registries INPUTS inputs of whole transfers from each registry to the
-//! next: a proposal, Accepted and Completed, an acknowledgement of each message that it sends, and then Accepted and
-//! Completed again, which are repeats. So a round has eight inputs, of which six are recorded. `benches clean-ups
-//! INPUTS` gives it 100,000 proposals, and then INPUTS clean-ups by which none of them has expired; `benches
-//! eligibility INPUTS` gives it orders on a registry's eligibility in place of the clean-ups.
+//! `benches log INPUTS` gives the log of 31 registries INPUTS inputs of whole transfers from each registry to the next:
+//! a proposal, Accepted and Completed, an acknowledgement of each message that it sends, and then Accepted and
+//! Completed again, which are repeats. A round has eight inputs, and six of them are recorded. `benches clean-ups
+//! INPUTS` gives it 100,000 proposals, and then INPUTS clean-ups at which none of them has expired; `benches
+//! eligibility INPUTS` gives it orders on a registry's eligibility instead of the clean-ups.
 //!
-//! `benches map INTERVALS` makes a map of INTERVALS intervals of ten units, and gives 16 blocks in it another kind
-//! and their own again, 10,000 times. `benches outbox MESSAGES` makes an outbox of MESSAGES messages, of which every
-//! other is acknowledged, and looks 10,000 times for the next one that waits.
+//! `benches map INTERVALS` makes a map of INTERVALS intervals of ten units, and 10,000 times gives 16 blocks in it
+//! another kind and then their own again. `benches outbox MESSAGES` makes an outbox of MESSAGES messages, every other
+//! one acknowledged, and looks 10,000 times for the next message that waits.
 //!
-//! Of these it prints a line of the time in microseconds and of how many inputs were recorded, or look-ups found a
-//! message: `TIME COUNT`. The inputs of transfers are made before the time is taken, and the proposals are given before
-//! it; other inputs are given again and again. Each number is 9 to 10,000,000, of which a journal takes 1,000,000
-//! records; of 9 it prints nothing.
+//! For each of these it prints a line with the time in microseconds and the number of inputs that were recorded, or of
+//! look-ups that found a message: `TIME COUNT`. The inputs of transfers are made before the time is taken, and the
+//! proposals are given before it; other inputs are given again and again. Each number is 9 to 10,000,000, but a journal
+//! takes at most 1,000,000 records; for 9 it prints nothing.
 //!
 //! `benches scheme ROUNDS` (9 to 10,000,000) reads a text from standard input to its end. Then, ROUNDS times, it reads
-//! the text as a JSON value and lets the value go, reads it as a scheme and lets the scheme go, and prints a line of
-//! the two times in microseconds: `JSON SCHEME`. The second has the first's work in it.
+//! the text as a JSON value and drops the value, reads it as a scheme and drops the scheme, and prints a line of the
+//! two times in microseconds: `JSON SCHEME`. The second time includes the work of the first.
 //!
-//! `benches store PATH RECORDS SIZE LOADS` makes a store at PATH, where nothing may be yet, appends RECORDS records
-//! (0 to 999,999) to it in batches of SIZE (1 to 1,000,000), and prints the time. Then, LOADS times (0 to 1,000), it
-//! loads them all and lets them go, and prints the time of that. `benches memory RECORDS` has four threads take
-//! RECORDS proposals in all while a fifth commits them to a store in memory, and prints the time. `benches file PATH
-//! RECORDS` does the same with a store that it makes at PATH. `benches alone RECORDS` has one thread take and commit
-//! the proposals. `benches sends KEYS` gives the log KEYS proposals (0 to 1,000,000), so that it has KEYS messages to
-//! send to 31 registries, and prints the time of 10,000 calls for the next one, and that of 10,000 look-ups in an
-//! ordered map of as many keys. `benches exchanges EXCHANGES` (0 to 1,000,000) has one thread serve the sessions of a
-//! registry's desk and another send it the same message as often as that, over a connection of the loopback interface
-//! each time, which the registry refuses each time without a record, and prints the time. Each of these lines is one
-//! time in microseconds. Where the number is 0 nothing is made or printed.
+//! `benches store PATH RECORDS SIZE LOADS` makes a store at PATH, where nothing may be yet, appends RECORDS records (0
+//! to 999,999) to it in batches of SIZE (1 to 1,000,000), and prints the time. Then, LOADS times (0 to 1,000), it loads
+//! and drops them all, and prints the time of that. `benches memory RECORDS` has four threads take RECORDS proposals in
+//! all while a fifth commits them to a store in memory, and prints the time. `benches file PATH RECORDS` does the same
+//! with a store that it makes at PATH. `benches alone RECORDS` has one thread take and commit the proposals. `benches
+//! sends KEYS` gives the log KEYS proposals (0 to 1,000,000), which give it KEYS messages to send to 31 registries, and
+//! prints the time of 10,000 calls for the next one, and that of 10,000 look-ups in an ordered map with the same number
+//! of keys. `benches exchanges EXCHANGES` (0 to 1,000,000) has one thread serve the sessions of a registry's desk while
+//! another sends it the same message that number of times, each time over a new connection on the loopback interface.
+//! The registry refuses the message each time without a record. The program prints the time of all exchanges. Each of
+//! these lines is one time in microseconds. Where the number is 0 nothing is made or printed.
 //!
-//! The exit status is 2 where the words are no such words; 3 where an input is refused, a store has a fault, the text
-//! is no scheme, or not all is recorded, loaded or told as it should be; 5 where memory was refused; and 1 where the
-//! system failed, or a message had another reply. No contract speaks of time: what is proved is that the program is
-//! safe, and that it ends unless a thread waits forever.
+//! The exit status is 2 where the words are wrong; 3 where an input is refused, a store has a fault, the text is no
+//! scheme, or not all is recorded, loaded or noted as it should be; 5 for lack of memory; and 1 where the system
+//! failed, or a message had another reply. No contract is about time: the proofs show that the program is safe, and
+//! that it ends unless a thread waits forever.
 #![tactic(auto)]
 
 mod cores;
@@ -105,7 +105,7 @@ fn print(rt: &impl Print, times: Result<Vec<Duration>, Fault>) -> Result<(), Fau
     Ok(())
 }
 
-/// Measures by a runtime that starts threads; words, files and the output are the host's.
+/// Measures with a runtime that starts threads; words, files and the output are the host's.
 fn measure<R>(rt: &R, host: &HostRuntime, work: Work<'_>) -> Result<(), Fault>
 where
     R: Threads + Wait + Clock + Net<Listener = TcpListener, Stream = TcpStream> + Sync,

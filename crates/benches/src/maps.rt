@@ -1,4 +1,4 @@
-//! What calls on a map of units take.
+//! Measurements of calls on a map of units.
 
 use crate::fault::Fault;
 use crate::work::Taken;
@@ -7,17 +7,17 @@ use std::alloc::Global;
 use std::rt::Clock;
 use std::time::Instant;
 
-/// How often the blocks of a call are given another kind.
+/// The number of times that the blocks of a call are given another kind.
 const CALLS: u32 = 10_000;
 
 const UNITS_OF_AN_INTERVAL: u64 = 10;
 
 const BLOCKS_OF_A_CALL: u64 = 16;
 
-/// What the next interval is found by: a step that shares no factor with the usual numbers of intervals.
+/// The step to the next interval. It shares no factor with the usual numbers of intervals.
 const STEP: u64 = 7_919;
 
-/// The kind of the interval of that number.
+/// The kind of the interval with that number.
 fn kind_at(number: u64) -> Kind {
     if number % 2 == 0 {
         Kind::Aau
@@ -26,7 +26,7 @@ fn kind_at(number: u64) -> Kind {
     }
 }
 
-/// The block of the interval of that number.
+/// The block of the interval with that number.
 fn block_at(origin: Code, number: u64) -> Result<Block, Fault> {
     let first = number
         .saturating_mul(UNITS_OF_AN_INTERVAL)
@@ -35,7 +35,7 @@ fn block_at(origin: Code, number: u64) -> Result<Block, Fault> {
     Ok(Block::new(origin, Period::First, kind_at(number), first, last)?)
 }
 
-/// A map of that many intervals, the kinds of neighbours different.
+/// A map of that number of intervals, where neighbours have different kinds.
 fn map_of(alloc: Global, origin: Code, intervals: u64) -> Result<UnitMap<Kind>, Fault> {
     let mut kinds = UnitMap::new(alloc);
     for number in 0..intervals {
@@ -70,7 +70,7 @@ fn set_blocks(kinds: &mut UnitMap<Kind>, blocks: &[Block]) -> Result<(), Fault> 
     Ok(())
 }
 
-/// Gives 16 blocks of a map of that many intervals another kind and their own again, 10,000 times.
+/// Gives 16 blocks of a map of that number of intervals another kind and their own again, 10,000 times.
 fn set_in_turn(
     clock: &impl Clock,
     alloc: Global,
@@ -88,7 +88,7 @@ fn set_in_turn(
     Ok(Taken { time, count: CALLS })
 }
 
-/// What it takes to give 16 blocks of a map of that many intervals another kind and their own again, 10,000 times.
+/// Measures giving 16 blocks of a map of that number of intervals another kind and their own again, 10,000 times.
 pub fn in_map(clock: &impl Clock, alloc: Global, intervals: u32) -> Result<Taken, Fault> {
     let origin = Code::read("NZ").ok_or(Fault::Input)?;
     let intervals = u64::from(intervals);

@@ -1,4 +1,4 @@
-//! Registry NZ, which has all the units of the orders that it is given, its orders, and its stores.
+//! Registry NZ, which has all the units of its orders; its orders and its stores.
 
 ghost use Rattle.std.specs.Prelude.{◌≡◌, [], true, false, IfOk};
 
@@ -19,13 +19,13 @@ use store_files::durable::SqlStore;
 const SCHEME: &str =
     r#"{"records":1000000,"registries":[{"accounts":[7],"allotted":[],"code":"JP","eligible":true,"kinds":["AAU"]},{"accounts":[1],"allotted":[{"account":1,"units":["NZ:1:1-10000000:AAU"]}],"code":"NZ","eligible":true,"kinds":["AAU"]}]}"#;
 
-/// NZ's account, which all units are in.
+/// NZ's account, which has all units.
 const ACCOUNT: u64 = 1;
 
 /// JP's account.
 const TO_ACCOUNT: u64 = 7;
 
-/// The registry's code that the text is.
+/// The registry's code that the text names.
 pub fn code(text: &str) -> Result<Code, Fault> {
     Code::read(text).ok_or(Fault::Input)
 }
@@ -37,7 +37,7 @@ pub fn order_of(alloc: Global, jp: Code, block: RawBlock) -> Result<Input, Fault
     Ok(Input::Propose(order.ok_or(Fault::Input)?))
 }
 
-/// NZ's core, which has recorded nothing.
+/// NZ's core without a record.
 fn nz_core(alloc: Global) -> Result<RegistryCore, Fault>
     ensures { IfOk result (λ core. core.journal ≡ []) }
 {

@@ -1,4 +1,4 @@
-//! What look-ups in an outbox take.
+//! Measurements of look-ups in an outbox.
 
 use crate::fault::Fault;
 use crate::work::Taken;
@@ -10,16 +10,16 @@ use std::alloc::Global;
 use std::rt::Clock;
 use std::time::Instant;
 
-/// How often the next message that waits is looked for.
+/// The number of look-ups for the next message that waits.
 const CALLS: u32 = 10_000;
 
 /// One of this many messages isn't acknowledged.
 const WAITING: usize = 2;
 
-/// What the next key is found by: a step that shares no factor with the usual numbers of messages.
+/// The step to the next key. It shares no factor with the usual numbers of messages.
 const STEP: usize = 7_919;
 
-/// An outbox of that many messages of one record each, of which every other is acknowledged.
+/// An outbox of that number of messages of one record each, every other one acknowledged.
 fn outbox_of(alloc: Global, origin: Code, messages: u32) -> Result<Outbox, Fault> {
     let mut outbox = Outbox::new(alloc);
     let id = TransactionId::new(origin, 1).ok_or(Fault::Input)?;
@@ -39,7 +39,7 @@ fn outbox_of(alloc: Global, origin: Code, messages: u32) -> Result<Outbox, Fault
     Ok(outbox)
 }
 
-/// What it takes to look in the outbox of that many messages for the next one that waits, 10,000 times.
+/// Measures looking for the next message that waits in the outbox of that number of messages, 10,000 times.
 fn look_ups(clock: &impl Clock, outbox: &Outbox, messages: u32) -> Result<Taken, Fault> {
     let start = Instant::now(clock)?;
     let mut count: u32 = 0;
@@ -53,7 +53,7 @@ fn look_ups(clock: &impl Clock, outbox: &Outbox, messages: u32) -> Result<Taken,
     Ok(Taken { time, count })
 }
 
-/// What it takes to look for the next message that waits, 10,000 times, and how many of the look-ups found one.
+/// Measures looking for the next message that waits, 10,000 times, and counts the look-ups that found one.
 pub fn in_outbox(clock: &impl Clock, alloc: Global, messages: u32) -> Result<Taken, Fault> {
     let origin = Code::read("NZ").ok_or(Fault::Input)?;
     let outbox = outbox_of(alloc, origin, messages)?;

@@ -1,4 +1,4 @@
-//! The inputs that a registry is given.
+//! The inputs for a registry.
 
 use crate::fault::Fault;
 use protocol::status::{Content, Moment, Order, TransactionId};
@@ -9,7 +9,7 @@ use std::alloc::Global;
 /// The account that is closed and opened.
 const EMPTY_ACCOUNT: u64 = 1;
 
-/// The account that all units of the registry are in, and that others are credited to.
+/// The account that has all units of the registry, and gets the units of others.
 const FULL_ACCOUNT: u64 = 2;
 
 /// The other registry's account.
@@ -17,13 +17,13 @@ const OTHER_ACCOUNT: u64 = 7;
 
 const UNITS_OF_A_BLOCK: u64 = 10;
 
-/// How far one round's block is from the next one of its registry: half of the units between them stay.
+/// The distance of one round's block from the next one of its registry: half of the units between them stay.
 const UNITS_OF_A_ROUND: u64 = 2 * UNITS_OF_A_BLOCK;
 
-/// How many messages a round sends.
+/// The number of messages that a round sends.
 const MESSAGES_OF_A_ROUND: u64 = 3;
 
-/// When each message comes: 2012-05-01T00:00:00Z.
+/// The moment at which each message is received: 2012-05-01T00:00:00Z.
 pub const MOMENT: u64 = 1_335_830_400;
 
 /// The messages that a round sends, in their order.
@@ -57,7 +57,7 @@ const ROUND: [Step; 9] = [
     Step::Proposal,
 ];
 
-/// The registry that is given inputs, and the other one.
+/// The registry that gets the inputs, and the other one.
 #[derive(Clone, Copy)]
 pub struct Nodes {
     pub own: Code,
@@ -74,7 +74,7 @@ impl Nodes {
     }
 }
 
-/// One round, by how many are before it.
+/// One round, by the number of rounds before it.
 #[derive(Clone, Copy)]
 struct Round {
     nodes: Nodes,
@@ -117,7 +117,7 @@ impl Round {
         })
     }
 
-    /// What the log tells of the round's transaction of that registry.
+    /// The log's notification about the round's transaction of that registry.
     fn notification(&self, code: Code, notified: NotifiedStatus) -> Result<Input, Fault> {
         received(Message {
             from: Node::Itl,
@@ -148,7 +148,7 @@ impl Round {
     }
 }
 
-/// The block of a registry's units that is transferred in its round of that number.
+/// The block of a registry's units that is transferred in its round with that number.
 pub fn block_of(origin: Code, number: u32) -> Result<Block, Fault> {
     let first = u64::from(number)
         .saturating_mul(UNITS_OF_A_ROUND)
@@ -157,7 +157,7 @@ pub fn block_of(origin: Code, number: u32) -> Result<Block, Fault> {
     Ok(Block::new(origin, Period::First, Kind::Aau, first, last)?)
 }
 
-/// The acknowledgement of the message of that number among those that the round of that number sends.
+/// The acknowledgement of the message with that number among those that the round with that number sends.
 pub fn ack_of(round: u32, message: u64) -> Result<Input, Fault> {
     let key = u64::from(round)
         .saturating_mul(MESSAGES_OF_A_ROUND)
@@ -165,13 +165,13 @@ pub fn ack_of(round: u32, message: u64) -> Result<Input, Fault> {
     Ok(Input::Ack(Number::new(key).ok_or(Fault::Input)?))
 }
 
-/// The input by which a message comes.
+/// The input with which a message is received.
 pub fn received(message: Message) -> Result<Input, Fault> {
     let moment = Moment::new(MOMENT).ok_or(Fault::Input)?;
     Ok(Input::Received { message, moment })
 }
 
-/// That many inputs of rounds one after another.
+/// The first inputs of the rounds, in that number.
 pub fn rounds_of(alloc: Global, nodes: Nodes, count: u32) -> Result<Vec<Input>, Fault> {
     let mut inputs = Vec::new(alloc);
     for at in 0..count {

@@ -1,4 +1,4 @@
-//! What reading a scheme takes, beside reading its text as JSON alone.
+//! Measurements of reading a scheme, and of reading its text only as JSON.
 
 use crate::fault::Fault;
 use protocol::scheme::Scheme;
@@ -8,14 +8,14 @@ use std::io::Read;
 use std::rt::Clock;
 use std::time::{Duration, Instant};
 
-/// How long the text takes as a JSON value, with the drop of the value.
+/// The time to read the text as a JSON value and to drop the value.
 fn json_time(clock: &impl Clock, alloc: Global, text: &[u8]) -> Result<Duration, Fault> {
     let start = Instant::now(clock)?;
     drop(Value::from_slice(alloc, text)?);
     Ok(start.elapsed(clock)?)
 }
 
-/// How long the text takes as a scheme, with the drop of the scheme.
+/// The time to read the text as a scheme and to drop the scheme.
 fn scheme_time(clock: &impl Clock, alloc: Global, text: &[u8]) -> Result<Duration, Fault> {
     let start = Instant::now(clock)?;
     drop(Scheme::read(alloc, text)?);

@@ -1,4 +1,4 @@
-//! The next messages of a log that has many to send.
+//! The next messages of a log with many messages to send.
 
 ghost use Rattle.std.specs.Prelude.{◌<◌};
 
@@ -17,10 +17,10 @@ use std::collections::BTreeMap;
 use std::rt::Clock;
 use std::time::{Duration, Instant};
 
-/// How many calls are measured.
+/// The number of calls that are measured.
 const CALLS: u32 = 10_000;
 
-/// How far the key of one call is from the next one's.
+/// The distance of the key of one call from the next one's.
 const STRIDE: u32 = 97;
 
 /// The log's state over a store in memory.
@@ -51,7 +51,7 @@ fn record_all(stored: &mut LogStored, proposals: Vec<Input>) -> Result<(), Fault
     Ok(())
 }
 
-/// The log's state, with that many messages to send, all committed.
+/// The log's state, with that number of messages to send, all committed.
 fn log_stored(alloc: Global, codes: &[Code], keys: u32) -> Result<LogStored, Fault> {
     let proposals = proposals_of(alloc, codes, keys)?;
     let core = log_of(alloc, codes)?;
@@ -61,7 +61,7 @@ fn log_stored(alloc: Global, codes: &[Code], keys: u32) -> Result<LogStored, Fau
     Ok(stored)
 }
 
-/// How long the calls for the next message take.
+/// The time of the calls for the next message.
 fn sends_time(
     clock: &impl Clock,
     state: &State<LogCore>,
@@ -91,7 +91,7 @@ fn sends_time(
     }
 }
 
-/// How long look-ups in an ordered map of that many keys take.
+/// The time of look-ups in an ordered map of that number of keys.
 fn lookups_time(clock: &impl Clock, alloc: Global, keys: u32) -> Result<Duration, Fault>
     requires { 0 < keys }
 {
@@ -114,7 +114,8 @@ fn lookups_time(clock: &impl Clock, alloc: Global, keys: u32) -> Result<Duration
     }
 }
 
-/// How long calls for the next message take, and then as many look-ups in an ordered map of that many keys.
+/// The time of calls for the next message, and that of the same number of look-ups in an ordered map with that number
+/// of keys.
 fn times_of(
     clock: &impl Clock,
     alloc: Global,
@@ -130,7 +131,8 @@ fn times_of(
     Ok(times)
 }
 
-/// How long calls for the next of that many messages take, and then as many look-ups in an ordered map of as many keys.
+/// The time of calls for the next of that number of messages, and that of the same number of look-ups in an ordered map
+/// with that number of keys.
 pub fn sends_times(clock: &impl Clock, alloc: Global, keys: u32) -> Result<Vec<Duration>, Fault> {
     if keys == 0 {
         return Err(Fault::Words);

@@ -1,4 +1,4 @@
-//! Proposals that threads give a desk.
+//! Proposals that threads give to a desk.
 
 ghost use Rattle.std.specs.Prelude.{◌≡◌, true, IfOk};
 
@@ -25,13 +25,13 @@ type NzDesk<S> = Desk<Brand, RegistryCore, S, RoomBell>;
 
 const TAKERS: u32 = 4;
 
-/// Each so many proposals a taker waits for the commit, so that all takers together have a batch committed at a time.
+/// After each such number of proposals a taker waits for the commit: all takers together then wait for one batch.
 const AWAITED: u64 = BATCH as u64 / TAKERS as u64;
 
-/// How far one proposal's unit is from the next one's.
+/// The distance of one proposal's unit from the next one's.
 const STEP: u64 = 2;
 
-/// An order to transfer the unit of that number to JP.
+/// An order to transfer the unit with that number to JP.
 fn proposal(alloc: Global, jp: Code, number: u64) -> Result<Input, Fault> {
     let origin = code("NZ")?;
     let unit = number.saturating_mul(STEP).saturating_add(1);
@@ -45,7 +45,7 @@ fn proposal(alloc: Global, jp: Code, number: u64) -> Result<Input, Fault> {
     order_of(alloc, jp, block)
 }
 
-/// Waits until what was taken is committed, and returns whether it was.
+/// Waits until the recorded input is committed, and returns whether it was.
 fn confirm<S: NodeStore, R: Wait + Clock>(
     rt: &R,
     desk: &NzDesk<S>,
@@ -58,8 +58,8 @@ fn confirm<S: NodeStore, R: Wait + Clock>(
     is_committed
 }
 
-/// Has the desk take the input, and waits until it is committed where its taker waits for this one. Returns whether it
-/// was recorded, and committed where that was awaited.
+/// Has the desk take the input, and waits for its commit where the taker waits for this one. Returns whether it was
+/// recorded, and committed if its commit was awaited.
 fn take_one<S: NodeStore, R: Wait + Clock>(
     rt: &R,
     desk: &NzDesk<S>,
@@ -77,7 +77,7 @@ fn take_one<S: NodeStore, R: Wait + Clock>(
     }
 }
 
-/// Has the desk take the proposals of those numbers, and waits until each `AWAITED`th and the last one is committed.
+/// Has the desk take the proposals with those numbers, and waits until each `AWAITED`th and the last one is committed.
 fn take_each<S: NodeStore, R: Wait + Clock>(
     rt: &R,
     alloc: Global,
@@ -132,7 +132,7 @@ fn commit_all<S: NodeStore, R: Wait + Clock>(rt: &R, desk: &NzDesk<S>) -> Result
     unreachable!()
 }
 
-/// Has four threads take the proposals, and stops the desk then.
+/// Has four threads take the proposals, and then stops the desk.
 fn take_in_threads<S: NodeStore + Send, R: Threads + Wait + Clock + Sync>(
     rt: &R,
     alloc: Global,
@@ -181,7 +181,7 @@ fn take_and_commit<S: NodeStore + Send, R: Threads + Wait + Clock + Sync>(
     seats
 }
 
-/// Settles, and fails where another number of records is committed.
+/// Settles the seats, and fails where another number of records is committed.
 fn settle_records(state: &State<RegistryCore>, seats: &[Seat], records: u32) -> Result<(), Fault> {
     let life = settle(state, seats)?;
     if life.committed == records as usize {
@@ -191,7 +191,7 @@ fn settle_records(state: &State<RegistryCore>, seats: &[Seat], records: u32) -> 
     }
 }
 
-/// Ends the desk, and settles.
+/// Ends the desk, and settles the seats.
 fn end<S: NodeStore + Drop>(desk: NzDesk<S>, seats: Vec<Seat>, records: u32) -> Result<(), Fault> {
     let Ended { stored, fault: _ } = desk.end();
     let settled = settle_records(stored.state(), seats.as_slice(), records);
@@ -200,7 +200,7 @@ fn end<S: NodeStore + Drop>(desk: NzDesk<S>, seats: Vec<Seat>, records: u32) -> 
     settled
 }
 
-/// Has threads record and commit that many proposals, and settles.
+/// Has threads record and commit that number of proposals, and settles the seats.
 fn run_threads<S: NodeStore + Send + Drop, R: Threads + Wait + Clock + Sync>(
     rt: &R,
     alloc: Global,
@@ -231,7 +231,7 @@ fn commit_alone(stored: &mut NzStored) -> Result<(), StoreFault> {
     Ok(())
 }
 
-/// Has one thread record and commit that many proposals.
+/// Has one thread record and commit that number of proposals.
 fn run_alone(alloc: Global, stored: &mut NzStored, records: u32, jp: Code) -> Result<(), Fault> {
     for number in 0..u64::from(records) {
         take_alone(stored, proposal(alloc, jp, number)?);
@@ -247,7 +247,7 @@ fn run_alone(alloc: Global, stored: &mut NzStored, records: u32, jp: Code) -> Re
     }
 }
 
-/// How long threads take over a state and its store.
+/// The time that threads take with a state and its store.
 pub fn threads_time<R: Threads + Wait + Clock + Sync, S: NodeStore + Send + Drop>(
     rt: &R,
     alloc: Global,
@@ -277,7 +277,7 @@ pub fn threads_time<R: Threads + Wait + Clock + Sync, S: NodeStore + Send + Drop
     }
 }
 
-/// How long one thread takes over the state and its store.
+/// The time that one thread takes with the state and its store.
 fn time_alone(
     clock: &impl Clock,
     alloc: Global,
@@ -290,7 +290,7 @@ fn time_alone(
     Ok(start.elapsed(clock)?)
 }
 
-/// How long one thread takes over a store in memory.
+/// The time that one thread takes with a store in memory.
 pub fn alone_time(clock: &impl Clock, alloc: Global, records: u32) -> Result<Vec<Duration>, Fault> {
     let jp = code("JP")?;
     let mut stored = in_memory(alloc)?;

@@ -1,4 +1,4 @@
-//! What is measured.
+//! The work that is measured.
 
 ghost use Rattle.std.specs.Prelude.{◌≤◌, IfSome};
 
@@ -22,7 +22,7 @@ const MOST_KEYS: u32 = 1_000_000;
 
 const MOST_EXCHANGES: u32 = 1_000_000;
 
-/// What inputs or calls are of, at a core or one of its parts.
+/// The kind of the inputs or calls, to a core or one of its parts.
 #[derive(Clone, Copy)]
 pub enum Inputs {
     /// Whole transfers, at a registry in both roles.
@@ -31,7 +31,7 @@ pub enum Inputs {
     Accounts,
     /// Whole transfers, at the log.
     Log,
-    /// Clean-ups by which nothing has expired.
+    /// Clean-ups at which nothing has expired.
     CleanUps,
     /// Orders on the eligibility of a registry.
     Eligibility,
@@ -67,16 +67,16 @@ impl Inputs {
     }
 }
 
-/// What is asked for.
+/// The work that is asked for.
 #[derive(Drop)]
 pub enum Work<'a> {
-    /// That many inputs or calls.
+    /// That number of inputs or calls.
     Inputs(Inputs, u32),
     /// A store that is made at that path.
     Store(&'a str, Batches),
-    /// Threads at a desk, whose store is in memory.
+    /// Threads with a desk whose store is in memory.
     Memory(u32),
-    /// Threads at a desk, whose store is made at that path.
+    /// Threads with a desk whose store is made at that path.
     File(&'a str, u32),
     /// One thread.
     Alone(u32),
@@ -86,7 +86,7 @@ pub enum Work<'a> {
     Exchanges(u32),
 }
 
-/// The number that the word writes, where it is neither too small nor too large.
+/// The number that the word writes, if it is neither too small nor too large.
 fn number(word: &str, least: u32, most: u32) -> Option<u32>
     ensures { IfSome result (λ n. (least ≤ n) × (n ≤ most)) }
 {
@@ -98,7 +98,7 @@ fn number(word: &str, least: u32, most: u32) -> Option<u32>
     }
 }
 
-/// What is appended and loaded.
+/// The batches to append and to load.
 fn batches(records: &str, size: &str, loads: &str) -> Option<Batches> {
     let records = number(records, 0, MOST_RECORDS)?;
     let size = number(size, 1, MOST_OF_A_BATCH)?;
@@ -129,7 +129,7 @@ fn counted(work: &str, count: &str) -> Option<Work<'static>> {
 }
 
 impl Work<'_> {
-    /// What the words ask for, the first word being the program's own name.
+    /// The work that the words ask for. The first word is the program's own name.
     pub fn read(words: &[String]) -> Option<Work<'_>> {
         match words {
             [_, work, path, records, size, loads] if work.as_str() == "store" => {
@@ -143,7 +143,7 @@ impl Work<'_> {
         }
     }
 
-    /// Whether nothing is asked for.
+    /// Whether there is nothing to do.
     pub fn is_nothing(&self) -> bool {
         match self {
             Work::Inputs(_, _) => false,
@@ -157,7 +157,7 @@ impl Work<'_> {
     }
 }
 
-/// How long some inputs or calls took, and how many of them were recorded, or found something.
+/// The time that some inputs or calls took, and how many of them were recorded, or found something.
 #[derive(Clone, Copy)]
 pub struct Taken {
     pub time: Duration,

@@ -1,4 +1,4 @@
--- What is drawn of one event more, and the chart at the end.
+-- The lines that one more event adds, and the chart at the end.
 use Rattle.std.proofs.Common.{◌≡◌, ℕ, ◌+◌, suc, List, [], ◌∷◌, ◌++◌, length, take, map, get_or, ◌<◌, Bool, true, false, cond, Option, Some, None, option_map, refl, sym, ap, subst, ◌∙◌, arith, append_assoc, append-nil}
 use Rattle.std.specs.Prelude.{◌||◌, not, codes, filter, flat_map, slice_get}
 use Rattle.std.specs.List.{enumerate_from, list_any}
@@ -53,7 +53,7 @@ deliver_bag : (w : World) (moment : Moment) (p : Option Posted) → (deliver w m
 deliver_bag w moment None = refl
 deliver_bag w moment (Some p) = node_bag w _ _
 
--- a delivery's message is also there after it
+-- the message of a delivery is also in the bag after it
 pub same_message : (w : World) (e : WorldEvent) → message_of (step w e).world e ≡ message_of w e
 unfolding step
 same_message w (Take n input) = refl
@@ -152,6 +152,6 @@ module _ (scheme : Scheme) (events : List WorldEvent) (w : World) (named : List 
             ∙ ap (λ (ms : List Message). chart_text all ms table) gone;
       }
 
--- the log at the end of the nodes
+-- the log comes at the end of the nodes
 pub with_log : (hs : List Happening) (never : List Message) (nodes : List Node) → nodes ≡ first_ones ((flat_map happening_nodes hs ++ flat_map parties never) ++ Itl ∷ []) → nodes ≡ participants hs never
 with_log hs never nodes is = is ∙ ap first_ones (append_assoc (flat_map happening_nodes hs) (flat_map parties never) (Itl ∷ []))

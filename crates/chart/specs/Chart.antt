@@ -1,4 +1,4 @@
--- The chart of a list of events: Mermaid's sequence diagram of what the nodes did, and of the messages between them.
+-- The chart of a list of events: Mermaid's sequence diagram of the nodes' actions and of the messages between them.
 use Rattle.std.specs.Prelude.{◌≡◌, ℕ, ◌==◌, ◌&&◌, Bool, true, false, not, List, [], ◌∷◌, ◌++◌, codes, filter, flat_map, map, slice_get, Option, Some, None, option_map}
 use Rattle.std.specs.List.{enumerate_from, list_any}
 use Rattle.units.specs.Code.{same_node}
@@ -16,9 +16,9 @@ use Rattle.chart.specs.ChartLines.{event_line, lost_line, participant_line, wide
 use Rattle.report.specs.Table.{IsSafeTable}
 use Rattle.report.specs.declared.form.Form.TheVariants.{Lines}
 
--- ---- what happened
+-- ---- the happenings
 
--- an event, what it came to, and the message that it is about, where it delivers one
+-- an event, its outcome, and the message that it is about, where it delivers one
 pub record Happening : Type 0 where
   pub event : WorldEvent
   pub outcome : Outcome
@@ -32,7 +32,7 @@ message_of w _ = None
 abbrev pub happening : World → WorldEvent → Happening
 happening w e = record { event = e; outcome = (step w e).outcome; message = message_of w e }
 
--- what happens from a world on
+-- the happenings of the events from a world on
 abbrev pub happenings : World → List WorldEvent → List Happening
 happenings w [] = []
 happenings w (e ∷ es) = happening w e ∷ happenings (step w e).world es
@@ -42,7 +42,7 @@ happening_line h = event_line h.message h.event h.outcome
 
 -- ---- messages that never arrived
 
--- what is delivered to a node arrives where the node runs
+-- a message that is delivered to a node arrives exactly when the node runs
 abbrev pub arrives : Outcome → Bool
 arrives NotPossible = false
 arrives _ = true
@@ -64,7 +64,7 @@ lost hs bag = map (λ p. p.1.message) (filter (λ p. not (is_delivered hs p.0)) 
 abbrev pub parties : Message → List Node
 parties m = m.from ∷ m.to ∷ []
 
--- the nodes of an event; where it delivers nothing, the log has its note
+-- the nodes of an event; where it delivers nothing, its note is at the log
 abbrev pub delivery_nodes : Option Message → List Node
 delivery_nodes (Some m) = parties m
 delivery_nodes None = Itl ∷ []
@@ -80,7 +80,7 @@ event_nodes m (Restart n) = n ∷ []
 abbrev pub happening_nodes : Happening → List Node
 happening_nodes h = event_nodes h.message h.event
 
--- each node once, where it first stands
+-- each node once, where it first occurs
 abbrev pub first_ones : List Node → List Node
 first_ones [] = []
 first_ones (n ∷ ns) = n ∷ filter (λ m. not (same_node m n)) (first_ones ns)
@@ -91,7 +91,7 @@ participants hs never = first_ones (flat_map happening_nodes hs ++ (flat_map par
 
 -- ---- the chart
 
--- its nodes, then what happened, the messages that were lost, and the table as a note over all nodes
+-- the participants, then the happenings, the messages that were lost, and the table as a note over all nodes
 abbrev pub chart_text : List Happening → List Message → (table : List ℕ) → List ℕ
 chart_text hs never table =
     codes "sequenceDiagram\n"
@@ -108,13 +108,13 @@ pub record IsChart (scheme : Scheme) (events : List WorldEvent) (text : List ℕ
 
 -- ---- what the code follows; no public contract cites what stands below
 
--- what was told so far: the nodes of what happened, each once, which numbers in the bag were delivered, and the lines
+-- the drawing so far: the nodes of the happenings, each once, the numbers in the bag that were delivered, and the lines
 pub record IsDrawn (hs : List Happening) (nodes : List Node) (delivered : ℕ → Bool) (lines : List ℕ) : Type 0 where
   pub named : nodes ≡ first_ones (flat_map happening_nodes hs)
   pub marked : (number : ℕ) → delivered number ≡ is_delivered hs number
   pub spelled : lines ≡ flat_map happening_line hs
 
--- the same of the world that the events lead to
+-- the same for the world that the events lead to
 pub record HasDrawn (scheme : Scheme) (events : List WorldEvent) (w : World) (nodes : List Node) (delivered : ℕ → Bool) (lines : List ℕ) : Type 0 where
   pub world : w ≡ run (opening scheme) events
   pub drawn : IsDrawn (happenings (opening scheme) events) nodes delivered lines

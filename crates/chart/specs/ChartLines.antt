@@ -1,4 +1,4 @@
--- The lines of a chart: Mermaid's sequence diagram of what nodes did and of the messages between them.
+-- The lines of a chart: Mermaid's sequence diagram of the nodes' actions and of the messages between them.
 use Rattle.std.specs.Prelude.{ℕ, ◌-◌, Bool, List, [], ◌∷◌, ◌++◌, Option, Some, None, codes, decimal, flat_map, if◌then◌else◌, length, slice_get, unwrap_or}
 use Rattle.std.specs.List.{join_by}
 use Rattle.std.specs.Str.Lines.{lines}
@@ -25,7 +25,7 @@ blocks_text blocks = flat_map (λ b. codes " " ++ raw_text b) blocks
 abbrev pub yes_or_no : Bool → List ℕ
 yes_or_no may = if may then codes "yes" else codes "no"
 
--- an order in few words; a moment is told in seconds
+-- an order in few words; a moment is written in seconds
 abbrev pub order_text : Input → List ℕ
 order_text (Propose o) = codes "propose " ++ decimal o.account ++ codes " " ++ code_text o.acquirer ++ codes " " ++ decimal o.to_account ++ blocks_text o.units
 order_text (Request t) = codes "request " ++ id_text t
@@ -38,7 +38,7 @@ order_text (Received m moment) = codes "message"
 
 -- ---- lines
 
--- what a node did, and what that came to
+-- the action of a node, and its outcome
 abbrev pub note_line : Node → List ℕ → Outcome → List ℕ
 note_line n text outcome = codes "    Note over " ++ node_text n ++ codes ": " ++ text ++ codes ", " ++ outcome_text outcome ++ codes "\n"
 
@@ -51,7 +51,7 @@ abbrev pub shape_of : Outcome → List ℕ
 shape_of NotPossible = codes "-x"
 shape_of _ = codes "->>"
 
--- a message that comes to its addressee, and what that came to
+-- a message that reaches its addressee, and the outcome
 abbrev pub delivered_line : Message → Outcome → List ℕ
 delivered_line m outcome = arrow (shape_of outcome) m ++ codes ", " ++ outcome_text outcome ++ codes "\n"
 
@@ -59,7 +59,7 @@ delivered_line m outcome = arrow (shape_of outcome) m ++ codes ", " ++ outcome_t
 abbrev pub lost_line : Message → List ℕ
 lost_line m = arrow (codes "-x") m ++ codes ", never delivered\n"
 
--- a message of the bag comes to its addressee; where the bag has none with that number, the log has a note
+-- a message of the bag that reaches its addressee; where the bag has none with that number, there is a note at the log
 abbrev pub deliver_line : Option Message → ℕ → Outcome → List ℕ
 deliver_line (Some m) index outcome = delivered_line m outcome
 deliver_line None index outcome = note_line Itl (codes "deliver " ++ decimal index) outcome
@@ -69,7 +69,7 @@ abbrev pub post_line : Node → ℕ → Outcome → List ℕ
 post_line n key NotPossible = note_line n (codes "post " ++ decimal key) NotPossible
 post_line n key _ = []
 
--- the line of an event, of which the message with its number in the bag is known
+-- the line of an event. The message with the event's number in the bag is given
 abbrev pub event_line : Option Message → WorldEvent → Outcome → List ℕ
 event_line m (Take n input) outcome = note_line n (order_text input) outcome
 event_line m (Commit n count) outcome = note_line n (codes "commit " ++ decimal count) outcome

@@ -31,7 +31,7 @@ use units::{NoMemory, Node};
 use wire::Message;
 use world::World;
 
-/// What is drawn of the events so far.
+/// The drawing of the events so far.
 #[derive(Drop)]
 struct Drawing {
     /// The nodes that they name, each once.
@@ -41,7 +41,7 @@ struct Drawing {
     lines: String,
 }
 
-/// The world that the events so far lead to, and what is drawn of them.
+/// The world that the events so far lead to, and their drawing.
 #[derive(Drop)]
 struct Sketch {
     alloc: Global,
@@ -107,7 +107,7 @@ fn arrives(outcome: Outcome) -> bool
     }
 }
 
-/// Marks a number in the bag, if what is delivered arrives.
+/// Marks a number in the bag, if the delivered message arrives.
 fn mark_delivered(
     delivered: &mut BTreeSet<u64>,
     number: u64,
@@ -134,7 +134,7 @@ fn mark(delivered: &mut BTreeSet<u64>, event: &WorldEvent, outcome: Outcome) -> 
 }
 
 impl Drawing {
-    /// Draws an event, and what it came to. The message is that with a delivery's number in the bag.
+    /// Draws an event and its outcome. `message` is the one with a delivery's number in the bag.
     fn add(
         &mut self,
         message: Option<&Message>,
@@ -253,7 +253,7 @@ fn push_table_note(
 }
 
 impl Drawing {
-    /// The chart: what is drawn, the messages that never arrived, and the table of the world that the events lead to.
+    /// The chart: the drawing, the messages that never arrived, and the table of the world that the events lead to.
     fn text(self, alloc: Global, world: &World) -> Result<String, NoMemory>
         ensures { IfOk result (λ text. (scheme : Scheme) (events : List WorldEvent)
             → HasDrawn scheme events world.now self.nodes.items (contains nat_cmp self.delivered)
@@ -323,7 +323,7 @@ impl Reporter for Sketch {
     }
 }
 
-/// Reads all there is, and then writes the chart of it.
+/// Reads the whole input, and then writes its chart.
 pub fn chart<R: Read, W: Write>(
     alloc: Global,
     reader: &mut R,

@@ -10,7 +10,7 @@ use std::fmt::Write;
 use units::{NoMemory, Node};
 use wire::{Input, Message};
 
-/// Adds what comes before the words of a note.
+/// Adds the part of a note before its words.
 fn push_over(text: &mut String, node: Node) -> Result<(), NoMemory>
     ensures { OnOk result (string_bytes text.new ≡ string_bytes text.old ++
         (codes "    Note over " ++ node_text node ++ codes ": ")) }
@@ -88,8 +88,8 @@ fn push_deliver(
     }
 }
 
-/// Adds the line of an event and of what it came to. A message that is posted has no line of its own; one that is
-/// delivered is the one that the bag has with the event's number, or `None` where it has none with it.
+/// Adds the line of an event and its outcome. A message that is posted has no line of its own. For a delivery,
+/// `message` is the one that the bag has with the event's number, or `None` where it has none.
 ///
 /// # Errors
 ///

@@ -1,5 +1,5 @@
-//! The command `chart`: a written list of events as Mermaid's sequence diagram of what nodes did and of the messages
-//! between them.
+//! The command `chart`: a written list of events as Mermaid's sequence diagram of the nodes' actions and of the
+//! messages between them.
 #![tactic(auto)]
 
 mod charting;

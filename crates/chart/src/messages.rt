@@ -26,7 +26,7 @@ fn shape_of(outcome: Outcome) -> &'static str
     }
 }
 
-/// Adds what an event came to, and the end of its line.
+/// Adds the outcome of an event, and the end of its line.
 pub(crate) fn push_end(text: &mut String, outcome: Outcome) -> Result<(), NoMemory>
     ensures { OnOk result (string_bytes text.new ≡ string_bytes text.old ++
         (codes ", " ++ outcome_text outcome ++ codes "\n")) }
@@ -37,7 +37,7 @@ pub(crate) fn push_end(text: &mut String, outcome: Outcome) -> Result<(), NoMemo
     Ok(())
 }
 
-/// Adds the line of a message that comes to its addressee, and what that came to.
+/// Adds the line of a message that reaches its addressee, and the outcome.
 pub(crate) fn push_delivered(
     text: &mut String,
     message: &Message,

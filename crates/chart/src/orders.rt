@@ -32,7 +32,7 @@ fn yes_or_no(may: bool) -> &'static str
     if may { "yes" } else { "no" }
 }
 
-/// Adds an order in few words; a moment is told in seconds.
+/// Adds an order in few words; a moment is written in seconds.
 ///
 /// # Errors
 ///

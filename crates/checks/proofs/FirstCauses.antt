@@ -1,4 +1,4 @@
--- The first cause that holds: of causes in parts, and what it decides.
+-- The first cause that holds: of causes in parts, and the decision by it.
 use Rattle.std.proofs.Common.{◌≡◌, ℕ, [], ◌∷◌, ◌++◌, Bool, true, false, cond, Some, None, refl, sym, ap}
 use Rattle.std.proofs.lemmas.Option.{none-some}
 use Rattle.units.proofs.Lists.OneValue.{one_some}

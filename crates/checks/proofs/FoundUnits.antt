@@ -1,4 +1,4 @@
--- What an acquirer finds, by what the registry holds.
+-- The findings of an acquirer, by the registry's holdings.
 use Rattle.std.proofs.Common.{◌≡◌, ℕ, zero, suc, ◌-◌, List, [], ◌∷◌, Bool, true, false, true≢false, not, cond, Option, Some, None, IsSome, is_some, is_none, IsTrue, ◌&&◌, ◌||◌, refl, sym, ap, ◌∙◌, arith, map}
 use Rattle.std.specs.Bool.{OnTrue, OnFalse}
 use Rattle.std.specs.FinMap.{get}

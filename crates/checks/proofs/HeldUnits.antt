@@ -1,4 +1,4 @@
--- What the checks of an order say, by what the registry holds.
+-- The checks of an order, by the registry's holdings.
 use Rattle.std.proofs.Common.{◌≡◌, ℕ, List, Bool, true, false, true≢false, not, cond, Option, Some, None, IsSome, is_some, ◌&&◌, ◌||◌, ◌==◌, inl, inr, refl, sym, ap, subst, ◌∙◌, eq-eqb}
 use Rattle.std.specs.FinMap.{get}
 use Rattle.std.specs.List.{list_any}
@@ -129,7 +129,7 @@ module _ (scheme : Scheme) (c : Code) (held : HoldingsView) (known : Holding) (k
   pub may_refusals : MayReserve held account blocks → first_of (holding_refusals scheme c known account (raws blocks)) ≡ None
   may_refusals may = rw (open_cause may.open_account, held_cause may.held_so, free_cause may.held_so may.free) refl
 
-  -- the first of them is why not
+  -- the first of them is the reason why they may not
   pub reserve_refusals : (code : ℕ) → IsReserveRefusal held account blocks code → first_of (holding_refusals scheme c known account (raws blocks)) ≡ Some code
   reserve_refusals code (inl (e, shut)) = rw (shut_cause shut) (ap Some (sym e))
   reserve_refusals code (inr (inl (e, open', lack))) = rw (open_cause open', lacking_cause lack) (ap Some (sym e))

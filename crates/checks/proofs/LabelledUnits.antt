@@ -1,4 +1,4 @@
--- Tests of the units of blocks, by what maps of units say.
+-- Tests of the units of blocks, by maps of units.
 use Rattle.std.proofs.Common.{◌≡◌, ◌≢◌, List, [], ◌∷◌, Bool, true, false, true≢false, not, Option, Some, None, IsSome, is_some, is_none, IsTrue, ◌||◌, refl, sym, ap, ◌∙◌}
 use Rattle.std.specs.Bool.{OnTrue, OnFalse}
 use Rattle.std.specs.FinMap.{FinMap, get}

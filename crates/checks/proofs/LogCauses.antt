@@ -1,4 +1,4 @@
--- What the log finds, by what it keeps of units and registries.
+-- The findings of the log, by its register of units and registries.
 use Rattle.std.proofs.Common.{◌≡◌, List, [], ◌∷◌, ◌++◌, ℕ, Bool, true, not, Option, Some, None, is_some, is_none, unwrap_or, ◌&&◌, ◌||◌, refl, sym, ap, ◌∙◌, true≢false}
 use Rattle.std.specs.BTreeMap as tree
 use Rattle.std.specs.FinMap.{get}

@@ -1,4 +1,4 @@
--- What the code follows: the causes of an order's refusal, and of findings, in parts and in their order. No public
+-- The causes of an order's refusal, and of findings, in parts and in their order, as the code checks them. No public
 -- contract cites it.
 use Rattle.std.specs.Prelude.{ℕ, ◌==◌, ◌||◌, not, nat_lt, Bool, false, List, [], ◌∷◌, length, Option, is_some, is_none}
 use Rattle.std.specs.FinMap as map
@@ -26,7 +26,7 @@ block_refusals blocks =
     ∷ (repeats (pieces blocks), blocks_overlap)
     ∷ []
 
--- by what the registry holds
+-- by the registry's holdings
 abbrev pub holding_refusals : Scheme → Code → Holding → ℕ → List RawBlock → Causes
 holding_refusals scheme c known account blocks =
     (not (has_account scheme c account) || known.is_closed account, account_not_open)
@@ -47,7 +47,7 @@ receiver_refusals scheme c o =
 abbrev pub is_of_other : Code → Option BookEntry → Bool
 is_of_other c owner = option_map_or (λ o. not (same_code o.registry c)) owner false
 
--- what is found in the units
+-- the findings in the units
 abbrev pub unit_causes : Register → Code → List RawBlock → Causes
 unit_causes register initiator units =
     (repeats (pieces units), unit_repeated)

@@ -1,4 +1,4 @@
--- When a registry's holdings, and what the log keeps of units and registries, say what their checks ask.
+-- The conditions under which a registry's holdings, and the log's register, give the facts that their checks need.
 use Rattle.std.specs.Prelude.{◌≡◌, ℕ, ◌==◌, ◌&&◌, cond, Bool, false, Some, None, is_some, option_map, unwrap_or}
 use Rattle.std.specs.BTreeMap as tree
 use Rattle.std.specs.FinMap as map
@@ -28,8 +28,8 @@ pub record Knows (scheme : Scheme) (c : Code) (held : HoldingsView) (known : Hol
 abbrev pub starts_eligible : Scheme → Code → Bool
 starts_eligible scheme c = option_map_or (λ m. m.eligible) (member scheme c) false
 
--- the allotments are the scheme's, the book says who owns each allotted unit and no other, a unit is under way in a
--- transfer, and a registry is eligible as the last order for it says, else as at the start
+-- the allotments are the scheme's, the book has the owner of each allotted unit and of no other, a unit is under way in
+-- a transfer, and a registry is eligible by the last order for it, or else as at the start
 pub record Registers (scheme : Scheme) (register : Register) (known : Ledger) : Type 0 where
   pub allotments : (s : Serial) → map.get register.allotments s ≡ allotted scheme s
   pub owner : (s : Serial) → known.owner s ≡ option_map (λ o. o.registry) (map.get register.book s)

@@ -12,6 +12,7 @@ abbrev pub first_of : Causes → Option ℕ
 first_of [] = None
 first_of (c ∷ cs) = cond c.0 (Some c.1) (first_of cs)
 
--- the causes of an order, with that many transaction numbers given before: at last, that none is left
+-- the causes of an order's refusal, after the given number of transaction numbers; the last one is that no number is
+-- left
 abbrev pub order_refusals : Scheme → Code → Holding → ℕ → Order → Causes
 order_refusals scheme c known last o = propose_refusals scheme c known o ++ (is_none (id_at c (last + 1)), transactions_used_up) ∷ []

@@ -1,4 +1,4 @@
-//! What the acquirer finds in a transfer.
+//! The findings of the acquirer in a transfer.
 ghost use Rattle.std.specs.Prelude.{◌≡◌, ◌&&◌, not, IfOk};
 ghost use Rattle.std.specs.List.{list_any};
 ghost use Rattle.units.specs.RefusalCodes.{receiver_unknown, kind_not_taken};
@@ -75,7 +75,7 @@ fn has_untaken(scheme: &Scheme, code: Code, blocks: &[Block]) -> bool
         .any(|block| !takes_kind(scheme, code, block.raw.kind))
 }
 
-/// The codes, where there is one.
+/// The codes, or `None` where there are none.
 fn some_codes(codes: Vec<u16>) -> Option<AcquirerCodes>
     requires { Ascends receiver_unknown kind_not_taken codes.items }
     ensures { codes_in result ≡ codes.items }
@@ -83,10 +83,10 @@ fn some_codes(codes: Vec<u16>) -> Option<AcquirerCodes>
     AcquirerCodes::new(Items::from_vec(codes))
 }
 
-/// What the registry of that code finds in a transfer as its acquirer: every cause that holds, each with its code, or
-/// `None` where none does. `RECEIVER_UNKNOWN`: the registry has no such receiving account; `RECEIVER_CLOSED`: it is
+/// The findings of the registry of that code as the acquirer of a transfer: every cause that holds, each with its code,
+/// or `None` where none does. `RECEIVER_UNKNOWN`: the registry has no such receiving account; `RECEIVER_CLOSED`: it is
 /// closed; `UNIT_ALREADY_HELD`: the registry holds a unit; `KIND_NOT_TAKEN`: a block is of a kind that the registry
-/// doesn't take. Or `NoMemory`.
+/// doesn't take. Fails with `NoMemory` where memory runs out.
 pub fn acquirer_findings(
     alloc: Global,
     scheme: &Scheme,

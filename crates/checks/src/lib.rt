@@ -1,4 +1,5 @@
-//! Numbered checks of orders and transfers: why a registry refuses an order, and what the acquirer and the log find.
+//! Numbered checks of orders and transfers: the refusals of an order by a registry, and the findings of the acquirer
+//! and of the log.
 #![tactic(auto)]
 
 mod acquirer;

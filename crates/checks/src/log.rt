@@ -1,4 +1,4 @@
-//! What the log finds in a proposal.
+//! The findings of the log in a proposal.
 ghost use Rattle.std.specs.Prelude.{◌≡◌, ◌&&◌, ◌++◌, not, false, is_some, is_none, unwrap_or, IfOk, OnOk};
 ghost use Rattle.std.specs.BTreeMap as tree;
 ghost use Rattle.std.specs.FinMap as map;
@@ -104,7 +104,7 @@ fn starts_eligible(scheme: &Scheme, code: Code) -> bool
     }
 }
 
-/// Whether the registry may take part in transfers: as the last order for it says, else as at the start.
+/// Whether the registry may take part in transfers: by the last order for it, or else as at the start.
 pub fn is_eligible(scheme: &Scheme, orders: &BTreeMap<Code, bool>, code: Code) -> bool
     ensures { result ≡ unwrap_or (tree.get code_cmp orders.now code) (starts_eligible scheme.now code) }
 {
@@ -122,7 +122,7 @@ fn is_barred(scheme: &Scheme, orders: &BTreeMap<Code, bool>, code: Code) -> bool
     scheme.member(code).is_some() && !is_eligible(scheme, orders, code)
 }
 
-/// Adds the codes of what is found in the blocks.
+/// Adds the codes of the findings in the blocks.
 fn note_units(
     found: &mut Vec<u16>,
     register: &Register,
@@ -144,7 +144,7 @@ fn note_units(
     note(found, has_other_kind(allotments, blocks), OTHER_KIND)
 }
 
-/// The codes, where there is one.
+/// The codes, or `None` where there are none.
 fn some_codes(codes: Vec<u16>) -> Option<LogCodes>
     requires { Ascends wrong_acquirer acquirer_not_eligible codes.items }
     ensures { codes_in result ≡ codes.items }
@@ -152,12 +152,13 @@ fn some_codes(codes: Vec<u16>) -> Option<LogCodes>
     LogCodes::new(Items::from_vec(codes))
 }
 
-/// What the log finds in a proposal of that initiator: every cause that holds, each with its code, or `None` where none
-/// does. `WRONG_ACQUIRER`: the acquirer is unknown, or is the initiator; `UNIT_REPEATED`: a unit is in two blocks;
+/// The findings of the log in a proposal of that initiator: every cause that holds, each with its code, or `None` where
+/// none does. `WRONG_ACQUIRER`: the acquirer is unknown, or is the initiator; `UNIT_REPEATED`: a unit is in two blocks;
 /// `UNIT_NOT_ALLOTTED`: a unit isn't allotted; `OTHER_OWNER`: an allotted unit is owned by another registry;
 /// `OTHER_TRANSFER`: a unit is in a transfer that stands Checked or Accepted; `OTHER_KIND`: a unit is allotted with
 /// another kind than its block's; `INITIATOR_NOT_ELIGIBLE`: the initiator may not take part in transfers;
-/// `ACQUIRER_NOT_ELIGIBLE`: the acquirer is a registry of the scheme that may not. Or `NoMemory`.
+/// `ACQUIRER_NOT_ELIGIBLE`: the acquirer is a registry of the scheme that may not. Fails with `NoMemory` where memory
+/// runs out.
 pub fn log_findings(
     alloc: Global,
     scheme: &Scheme,

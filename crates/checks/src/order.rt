@@ -34,7 +34,7 @@ use units::refusal_code::{
 };
 use units::{Block, Code, Items, NoMemory, RawBlock, Refusal};
 
-/// What an order that passes all checks offers.
+/// The offer of an order that passes all checks.
 #[derive(Debug, Drop)]
 pub struct NewTransfer {
     pub id: TransactionId,
@@ -84,7 +84,7 @@ fn blocks_of(alloc: Global, raw_blocks: &[RawBlock]) -> Result<Vec<Block>, Refus
     Ok(blocks)
 }
 
-/// The blocks of an order, of which there are 1 to `MOST_BLOCKS`, whose numbers are in range, and which share no unit.
+/// The blocks of an order that has 1 to `MOST_BLOCKS` blocks, whose numbers are in range and which share no unit.
 fn checked_blocks(alloc: Global, raw_blocks: &[RawBlock]) -> Result<Vec<Block>, Refusal>
     ensures blocks { IfOk result (λ v. raws v.items ≡ raw_blocks.now) }
     ensures ok { OnOk result (first_of (block_refusals raw_blocks.now) ≡ None) }
@@ -132,7 +132,7 @@ fn check_holdings(holdings: &Holdings, order: &Order, blocks: &[Block]) -> Resul
     holdings.check(order.account(), blocks)
 }
 
-/// Checks to which registry and which of its accounts the units are to go.
+/// Checks the registry and the account that the units are to go to.
 fn check_receiver(scheme: &Scheme, code: Code, order: &Order) -> Result<(), Refusal>
     ensures ok { OnOk result (first_of (receiver_refusals scheme.now code order.now) ≡ None) }
     ensures number { OnOk result (IsAccountNumber order.now.to_account) }
@@ -151,7 +151,7 @@ fn check_receiver(scheme: &Scheme, code: Code, order: &Order) -> Result<(), Refu
     Ok(())
 }
 
-/// The identifier under the number after the last one given.
+/// The identifier with the number after the last one given.
 fn next_id(code: Code, last: u32) -> Option<TransactionId>
     ensures { result ≡ id_at code (last + 1) }
 {
@@ -168,7 +168,7 @@ fn order_blocks(alloc: Global, order: &Order) -> Result<Vec<Block>, Refusal>
     checked_blocks(alloc, order.units())
 }
 
-/// What an order that passes its checks offers, with the units in canonical form.
+/// The content of an order that passes its checks, with the units in canonical form.
 fn new_content(order: &Order, units: Vec<Block>) -> Content
     requires units { raws units.items ≡ canonical order.now.units }
     requires blocks { first_of (block_refusals order.now.units) ≡ None }

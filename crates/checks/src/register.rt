@@ -1,4 +1,4 @@
-//! What the log knows of units and registries.
+//! The log's knowledge of units and registries.
 ghost use Rattle.std.specs.Prelude.{◌≡◌};
 
 use scheme::Holder;
@@ -18,7 +18,7 @@ pub struct UnderWay {
     pub id: TransactionId,
 }
 
-/// What the log knows of units and registries.
+/// The log's knowledge of units and registries.
 #[derive(Debug)]
 pub struct Register {
     /// Who holds each allotted unit at the start.
@@ -27,7 +27,7 @@ pub struct Register {
     pub book: UnitMap<BookEntry>,
     /// The transfer that each unit under way is in.
     pub under_way: UnitMap<UnderWay>,
-    /// Whether a registry may take part in transfers, as the last order for it says.
+    /// Whether a registry may take part in transfers, by the last order for it.
     pub orders: BTreeMap<Code, bool>,
 }
 

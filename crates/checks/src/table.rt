@@ -1,4 +1,4 @@
-//! What a node's role keeps of transactions, by their identifiers.
+//! The tables in which a node's role keeps transactions, by their identifiers.
 ghost use Rattle.std.specs.BTreeMap as tree;
 ghost use Rattle.std.specs.Prelude.{◌≡◌, None, Some, OnErr, OnOk, if◌then◌else◌};
 ghost use Rattle.status.specs.Id.{id_cmp, same_id};
@@ -8,7 +8,8 @@ use status::TransactionId;
 use std::collections::BTreeMap;
 use units::NoMemory;
 
-/// Puts what is kept of the transaction into the table, in place of what it had. After `NoMemory` nothing has changed.
+/// Puts an entry for the transaction into the table, in place of the one that it had. After `NoMemory` nothing has
+/// changed.
 pub fn put<T: Drop>(
     table: &mut BTreeMap<TransactionId, T>,
     id: TransactionId,
@@ -22,7 +23,7 @@ pub fn put<T: Drop>(
     Ok(())
 }
 
-/// Takes the transaction out of the table.
+/// Removes the transaction from the table.
 pub fn take_out<T: Drop>(table: &mut BTreeMap<TransactionId, T>, id: TransactionId)
     ensures { (t : TransactionId)
         → tree.get id_cmp table.new t ≡ (if same_id id t then None else tree.get id_cmp table.old t) }

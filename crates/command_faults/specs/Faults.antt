@@ -1,4 +1,4 @@
--- The words for what is wrong with a line, a store's faults, and the program's exit status.
+-- The words for the faults of a line and of a store, and the program's exit status.
 use Rattle.std.specs.Prelude.{ℕ, List, ◌++◌, codes, decimal}
 use Rattle.units.specs.Code.{node_text}
 use Rattle.units.specs.declared.code.Node.{Node}
@@ -26,7 +26,7 @@ cause_text Order = codes "order"
 cause_text Truncated = codes "truncated"
 cause_text TooLong = codes "too-long"
 
--- what is printed of a fault
+-- the text that is printed for a fault
 abbrev pub op_fault_text : OpFault → List ℕ
 op_fault_text (Input line cause) = codes "line " ++ decimal line ++ codes ": " ++ cause_text cause
 op_fault_text Read = codes "read failed"
@@ -37,17 +37,18 @@ op_fault_text (Unsettled node) = codes "unsettled " ++ node_text node
 op_fault_text (Setup fault) = setup_fault_text fault
 op_fault_text NoMemory = codes "out of memory"
 
--- what a fault of a reader is to a command
+-- the command's fault for a fault of a reader
 abbrev pub of_reading : ReadFault → OpFault
 of_reading (reading.Read calls) = Read
 of_reading (reading.NoMemory calls) = NoMemory
 
--- out of memory is the command's own fault, and every other one the store's
+-- lack of memory is the command's own fault, and every other fault is the store's
 abbrev pub of_store : Node → StoreFault → OpFault
 of_store node store_faults.NoMemory = NoMemory
 of_store node fault = Store node fault
 
--- 1: the journals are of no run, or what a node's threads were told isn't what one thread would have been told; 2, 3 or 4: a node's setup; 3: the input, or what it came by; 4: a store; 5: memory
+-- the exit status. 1: no run leads to the journals, or the notes of a node's threads aren't those of one thread alone;
+-- 2, 3 or 4: the setup of a node; 3: the input, its reading or the output; 4: a store; 5: memory
 abbrev pub exit_status : OpFault → ℕ
 exit_status (Input line cause) = 3
 exit_status Read = 3

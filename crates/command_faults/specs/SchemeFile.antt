@@ -24,7 +24,7 @@ fault_of UnknownAccount = Some scheme_fault.UnknownAccount
 fault_of AllotmentOverlap = Some scheme_fault.AllotmentOverlap
 fault_of _ = None
 
--- the text is no scheme, for that cause
+-- the text is no scheme, with that cause
 abbrev pub IsSchemeFault : List ℕ → Cause → Type 0
 IsSchemeFault text cause = IsSomeAnd (fault_of cause) (IsFault text)
 
@@ -36,7 +36,7 @@ IsSchemeLineFault first _ = ⊥
 
 -- ---- a file
 
--- the bytes are the text, but for one newline where they end in one
+-- the bytes are the text, and then a newline if they end in one
 abbrev pub IsTextIn : List ℕ → List ℕ → Type 0
 IsTextIn bytes text = (bytes ≡ text ++ 10 ∷ []) ⊎ ((bytes ≡ text) × ((front : List ℕ) → bytes ≡ front ++ 10 ∷ [] → ⊥))
 

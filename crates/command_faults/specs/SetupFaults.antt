@@ -1,4 +1,4 @@
--- The words for why a node that is to stand alone can't be set up, and the program's exit status then.
+-- The words for the faults of the setup of a node that is to stand alone, and the program's exit status then.
 use Rattle.std.specs.Prelude.{ℕ, List, ◌++◌, codes, decimal}
 use Rattle.units.specs.Code.{node_text}
 use Rattle.command_faults.specs.declared.setup_fault.SetupFault.{SetupFault}
@@ -22,7 +22,8 @@ setup_fault_text Port = codes "--listen: the address can't be had"
 setup_fault_text OtherScheme = codes "the store is of another scheme"
 setup_fault_text SchemeSum = codes "the scheme's sum beside the store can't be read or written"
 
--- 2: the words are wrong by themselves; 3: what they name is missing or has a fault; 4: they aren't those of the store
+-- 2: the words are wrong by themselves; 3: a thing that they name is missing or has a fault; 4: they don't fit the
+-- store
 abbrev pub setup_fault_status : SetupFault → ℕ
 setup_fault_status Listen = 2
 setup_fault_status Peer = 2

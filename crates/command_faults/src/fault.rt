@@ -10,7 +10,7 @@ use stores::StoreFault;
 use streams::{ReadFault, WriteFault};
 use units::{NoMemory, Node};
 
-/// What is wrong with a line of an input.
+/// The fault of a line of an input.
 #[derive(Clone, Copy, Debug, PartialEq, Eq)]
 pub enum Cause {
     /// The scheme's line is no JSON.
@@ -22,9 +22,9 @@ pub enum Cause {
     TooMany,
     /// The scheme has fewer than `LEAST_REGISTRIES` registries.
     TooFew,
-    /// Two registries of the scheme have one code.
+    /// Two registries of the scheme have the same code.
     CodeTwice,
-    /// An account number stands twice in one registry.
+    /// An account number occurs twice in one registry.
     AccountTwice,
     /// An allotment is to an account that its registry doesn't have.
     UnknownAccount,
@@ -34,7 +34,7 @@ pub enum Cause {
     Order,
     /// There is no line, or the line has no newline.
     Truncated,
-    /// The line is over its limit, or has the first byte over the input's.
+    /// The line is over its limit, or contains the first byte over the limit of the input.
     TooLong,
 }
 
@@ -68,17 +68,17 @@ pub enum OpFault {
     Input { line: u64, cause: Cause },
     /// The input could not be read.
     Read,
-    /// The output could not be written, but for that many of its first bytes.
+    /// The output could not be written, except for that number of its first bytes.
     Write(u64),
-    /// The node's store has that fault. Out of memory is `NoMemory`: see `store_fault`.
+    /// The node's store has that fault. Lack of memory is `NoMemory`: see `store_fault`.
     Store { node: Node, fault: StoreFault },
-    /// No run leads to the journals of the stores: followed as far as they go, that node is the first with a record
-    /// left, at that place.
+    /// No run leads to the journals of the stores. When they are followed as far as they go, that node is the first
+    /// with a record left, and the record is at that place.
     Stuck { node: Node, place: usize },
-    /// What the threads of that node were told isn't what one thread alone would have been told, or its journal isn't
+    /// The notes of that node's threads aren't those that one thread alone would have got, or its journal isn't
     /// recorded under the scheme.
     Unsettled { node: Node },
-    /// A node that is to stand alone can't be set up, for that fault.
+    /// A node that is to stand alone can't be set up, with that fault.
     Setup(SetupFault),
     /// Out of memory.
     NoMemory,
@@ -164,7 +164,7 @@ impl OpFault {
     }
 }
 
-/// What a fault of the node's store is to a command: `NoMemory` for out of memory, else `Store`.
+/// The command's fault for a fault of the node's store: `NoMemory` for lack of memory, else `Store`.
 pub fn store_fault(node: Node, fault: StoreFault) -> OpFault
     ensures { result ≡ of_store node fault }
 {

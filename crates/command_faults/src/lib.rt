@@ -1,5 +1,5 @@
-//! The faults with which a command fails, with their exit statuses; a file with a scheme; all of a text written, or the
-//! command's fault.
+//! The faults with which a command fails, with their exit statuses; files with a scheme; and the writing of a whole
+//! text.
 #![tactic(auto)]
 
 mod fault;

@@ -1,4 +1,4 @@
-//! A file with a scheme, and the nodes of a scheme by their texts.
+//! A file with a scheme, and the nodes of a scheme by their names.
 ghost use Rattle.std.specs.Prelude.{◌≡◌, true, IfOk, IfErr};
 ghost use Rattle.units.specs.Code.{node_text};
 ghost use Rattle.units.specs.declared.code.Node.{Node};
@@ -13,7 +13,7 @@ use std::io::Read;
 use streams::{LONGEST_INPUT_LINE, read_input};
 use units::Node;
 
-/// The scheme that a text writes. The text is line 1.
+/// The scheme that a text writes. A fault counts the text as line 1.
 pub fn scheme_of(alloc: Global, line: &[u8]) -> Result<Scheme, OpFault>
     ensures ok { IfOk result (λ s. IsSchemeText line.now s) }
     ensures err { IfErr result (IsSchemeLineFault line.now) }
@@ -44,8 +44,9 @@ fn text_in(bytes: &[u8]) -> &[u8]
 
 /// The scheme of a file, which is one JSON text, with or without one newline at its end.
 ///
-/// `Read`: the file can't be read. `Input`, of line 1: `TooLong`, where the text without that newline has more than
-/// 1,048,576 bytes, or why it is no scheme. `NoMemory`: memory was refused.
+/// Fails with `Read` where the file can't be read. Fails with `Input`, at line 1: with `TooLong`, where the text
+/// without that newline has more than 1,048,576 bytes, or with the cause for which it is no scheme. Fails with
+/// `NoMemory` for lack of memory.
 pub fn read_scheme<R: Read>(alloc: Global, reader: &mut R) -> Result<Scheme, OpFault>
     ensures ok { IfOk result (λ s. ReadsScheme (R.remaining reader.old) (R.remaining reader.new) s) }
     ensures err { IfErr result (λ e. FailsToRead e (R.remaining reader.old) (R.remaining reader.new)) }
@@ -59,7 +60,8 @@ pub fn read_scheme<R: Read>(alloc: Global, reader: &mut R) -> Result<Scheme, OpF
     scheme_of(alloc, text)
 }
 
-/// The node with that text that is the log or a registry of the scheme; else `Input`, of line 1, with `Order`.
+/// The log or the registry of the scheme that the word names. Fails with `Input`, at line 1, with `Order` where there
+/// is none.
 pub fn node_of(scheme: &Scheme, word: &str) -> Result<Node, OpFault>
     ensures ok { IfOk result (λ n. (word.now ≡ node_text n) × (is_node scheme.now n ≡ true)) }
     ensures fault { IfErr result (λ e. e ≡ OpFault.Input 1 Cause.Order) }

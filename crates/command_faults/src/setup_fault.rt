@@ -14,34 +14,35 @@ pub enum SetupFault {
     Listen,
     /// A value of `--peer` isn't a node with its address.
     Peer,
-    /// A `--peer` is of that node, to which this one sends nothing: a registry sends to the log alone, and the log to
+    /// A `--peer` names that node, and this one sends nothing to it: a registry sends only to the log, and the log to
     /// the registries.
     Stranger(Node),
-    /// Two `--peer` are of that node.
+    /// Two `--peer` name that node.
     Twice(Node),
-    /// No `--peer` is of that node, to which this one sends.
+    /// No `--peer` names that node, to which this one sends.
     Missing(Node),
-    /// An address isn't one of the loopback interface, and there are no keys.
+    /// An address isn't on the loopback interface, and there are no keys.
     Exposed,
-    /// The value of `--clean-up` is no number of seconds, which is at least 1.
+    /// The value of `--clean-up` isn't a number of seconds of at least 1.
     CleanUp,
-    /// There is a `--clean-up`, and the node is a registry.
+    /// `--clean-up` is given, and the node is a registry.
     NotTheLog,
-    /// The word is no node of the scheme.
+    /// The word names no node of the scheme.
     Unknown,
     /// The file of keys can't be read.
     KeysUnread,
-    /// The file of keys may be read or written by others than its owner.
+    /// Others than its owner may read or write the file of keys.
     KeysShared,
-    /// That line of the file of keys, counted from 1, isn't a node with its key, or is one of a node that stands above.
+    /// That line of the file of keys, counted from 1, isn't a node with its key, or names a node that an earlier line
+    /// names.
     KeysLine(u64),
-    /// The file of keys has none for that node.
+    /// The file of keys has no key for that node.
     NoKey(Node),
-    /// The address of `--listen` can't be listened at.
+    /// The node can't listen at the address of `--listen`.
     Port,
-    /// The store is one of another scheme.
+    /// The store belongs to another scheme.
     OtherScheme,
-    /// The scheme's sum beside the store can't be read or written.
+    /// The scheme's sum, a file beside the store, can't be read or written.
     SchemeSum,
 }
 
@@ -85,8 +86,8 @@ impl fmt::Display for SetupFault {
 impl Error for SetupFault {}
 
 impl SetupFault {
-    /// The program's exit status: 2 where the words are wrong by themselves, 4 where they aren't those of the store, and
-    /// 3 else.
+    /// The program's exit status: 2 where the words are wrong by themselves, 4 where they don't fit the store, and else
+    /// 3.
     pub fn status(&self) -> u8
         ensures { result ≡ setup_fault_status self.now }
     {

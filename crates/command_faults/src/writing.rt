@@ -1,4 +1,4 @@
-//! All of a text to a writer.
+//! Writing a whole text to a writer.
 ghost use Rattle.std.specs.Prelude.{◌≡◌, ◌<◌, ℕ, length, take, IfErr, OnOk};
 ghost use Rattle.std.specs.Io.KnownBytes.{Appends};
 
@@ -8,7 +8,7 @@ use streams::write_text;
 
 /// Writes the text.
 ///
-/// `Write`: the writer failed, after the number of bytes that the fault tells.
+/// Fails with `Write` where the writer failed, after the number of bytes in the fault.
 pub fn write_out<W: Write>(writer: &mut W, text: &str) -> Result<(), OpFault>
     ensures ok { OnOk result (Appends (W.contents writer.old) (W.contents writer.new) text.now) }
     ensures err { IfErr result (λ e. (count : ℕ) × (e ≡ OpFault.Write count) × (count < length text.now)

@@ -1,4 +1,4 @@
--- What each command does with what its words name, and why it doesn't.
+-- What each command does with the files and nodes that its words name, and how it fails.
 use Rattle.std.specs.Prelude.{◌≡◌, ◌⊎◌, ℕ, true, All, List, [], Option, Some, map, slice_get, string_bytes, take}
 use Rattle.std.specs.Io.KnownBytes.{Appends, Keeps}
 use Rattle.units.specs.Code.{node_text}
@@ -41,7 +41,7 @@ use Rattle.commands.specs.declared.archive.Archive.{Ghosts}
 
 -- ---- a run of loaded nodes
 
--- the states go by the scheme, one for each of its nodes, and each has its whole journal from its opening
+-- the states have the scheme, one for each of its nodes, and each has its whole journal from its opening
 pub record AreOpened {S : Type 0} (scheme : Scheme) (loaded : List (StoredView S)) : Type 0 where
   pub nodes_are : map (λ (k : StoredView S). k.state.node) loaded ≡ nodes scheme
   pub opened : All (λ (k : StoredView S). k.state ≡ opened_with scheme k.state.node k.state.journal) loaded
@@ -100,20 +100,20 @@ module _ {A F S : Type 0} (g : Ghosts A F S) (archive : A) (of : StoreGhosts S) 
       FailsToOpen g archive of folder scheme fault
       ⊎ ((stores left : List S) × AreStoresIn g archive of folder (nodes scheme) stores × FailsToFindRun of fault scheme stores left × AreUnwritten of stores left)
 
--- ---- what the words of a command name
+-- ---- the names in the words of a command
 
 -- the word is no transaction's
 pub record NamesNoTransaction (word : List ℕ) (fault : OpFault) : Type 0 where
   pub is : fault ≡ InputFault 1 Order
   pub none : (id : TransactionId) → word ≡ id_text id → ⊥
 
--- an archive, what a file has left to be read, and what is known of a store
+-- an archive, the bytes that a file has left to be read, and what is known of a store
 module _ {A F S : Type 0} (g : Ghosts A F S) (archive : A) (remaining : F → Option (List ℕ)) (of : StoreGhosts S) where
-  -- a command's fault, and what it has written
+  -- a command's fault, and its output before it failed
   abbrev Failing : Type 1
   Failing = OpFault → (before after : Option (List ℕ)) → Type 0
 
-  -- there is no scheme at the path; or there is one, and that comes of it
+  -- there is no scheme at the path; or there is one, and it leads to this failure
   abbrev pub FailsFromScheme : List ℕ → (Scheme → Failing) → Failing
   FailsFromScheme path Later fault v w = (LacksScheme g archive remaining path fault × Keeps v w) ⊎ ((scheme : Scheme) × HasScheme g archive remaining path scheme × Later scheme fault v w)
 
@@ -130,7 +130,7 @@ module _ {A F S : Type 0} (g : Ghosts A F S) (archive : A) (remaining : F → Op
     pub text : word ≡ node_text n
     pub member : is_node scheme n ≡ true
 
-  -- the word names none
+  -- the word names no node of the scheme
   pub record NamesNone (scheme : Scheme) (word : List ℕ) (fault : OpFault) : Type 0 where
     pub is : fault ≡ InputFault 1 Order
     pub none : (n : Node) → IsNamed scheme word n → ⊥
@@ -178,7 +178,7 @@ module _ {A F S : Type 0} (g : Ghosts A F S) (archive : A) (remaining : F → Op
   abbrev pub AuditsFolder : Form → (path folder : List ℕ) (before after : Option (List ℕ)) → Type 0
   AuditsFolder form path folder v w = ReportsFolder (Audits of form) path folder v w
 
-  -- the table of the furthest run whose journals are first parts of their records, of which none is left
+  -- the table of the furthest run whose journals are first parts of their records, none of which is left
   abbrev pub CutsFolder : Form → (path folder : List ℕ) (before after : Option (List ℕ)) → Type 0
   CutsFolder form path folder v w = ReportsFolder (λ scheme olds news text. CutsOff of form scheme olds news [] text) path folder v w
 
@@ -246,7 +246,7 @@ module _ {A F S : Type 0} (g : Ghosts A F S) (archive : A) (remaining : F → Op
 
   -- ---- all commands
 
-  -- what standard input has left, before and after, and the output
+  -- the bytes that standard input has left, before and after, and the output
   abbrev pub Performs : Action → (r s before after : Option (List ℕ)) → Type 0
   Performs Rehearse r s v w = (text : List ℕ) × Reports IsReport r s text × Appends v w text
   Performs Chart r s v w = (text : List ℕ) × Reports IsChart r s text × Appends v w text

@@ -16,7 +16,7 @@ use Rattle.commands.specs.declared.archive.Archive.{Ghosts}
 use Rattle.commands.specs.declared.obeying.Ended.{Ended}
 use Rattle.commands.specs.declared.obeying.Ended.TheVariants.{Done, Failed, NoAction, WrongWords}
 
--- 0: done; 2: the words are wrong; else that of the fault
+-- 0: done; 2: the words are wrong; otherwise the status of the fault
 abbrev pub status_of : Ended → ℕ
 status_of Done = 0
 status_of (Failed action fault) = exit_status fault
@@ -40,7 +40,7 @@ abbrev pub IsHelpedInPart : OpFault → (before after : Option (List ℕ)) → T
 IsHelpedInPart fault v w = (text : List ℕ) × (count : ℕ) × (fault ≡ Write count) × (count < length text) × Appends v w (take count text)
 
 module _ {A F S : Type 0} (g : Ghosts A F S) (archive : A) (remaining : F → Option (List ℕ)) (of : StoreGhosts S) where
-  -- what standard input has left, before and after, and the output
+  -- the bytes that standard input has left, before and after, and the output
   abbrev pub Obeys : List (List ℕ) → Ended → (r s before after : Option (List ℕ)) → Type 0
   Obeys words Done r s v w = ((action : Action) × IsNamedBy words action × Performs g archive remaining of action r s v w) ⊎ (AskForHelp words × IsHelped v w)
   Obeys words (Failed action fault) r s v w = IsNamedBy words action × FailsToPerform g archive remaining of action fault r s v w

@@ -1,4 +1,4 @@
--- What a command's words name, opened and read.
+-- The files, folders and stores that a command's words name, opened and read.
 use Rattle.std.specs.Prelude.{◌≡◌, ◌⊎◌, ℕ, false, List, [], ◌∷◌, Option, Some, slice_get, take}
 use Rattle.units.specs.declared.code.Node.{Node}
 use Rattle.protocol.specs.Input.{Input}
@@ -17,16 +17,16 @@ use Rattle.commands.specs.declared.archive.Archive.{Ghosts}
 
 -- ---- files and folders
 
--- an archive, and what a file has left to be read
+-- an archive, and the bytes that a file has left to be read
 module _ {A F S : Type 0} (g : Ghosts A F S) (archive : A) (remaining : F → Option (List ℕ)) where
-  -- the file at the path was opened and read, and that came of it
+  -- the file at the path was opened and read, with this result
   pub record IsRead (Comes : (before after : Option (List ℕ)) → Type 0) (path : List ℕ) : Type 0 where
     pub file : F
     pub left : F
     pub opened : g.opens archive path file
     pub comes : Comes (remaining file) (remaining left)
 
-  -- the file can't be opened, or it was opened and read, and that came of it
+  -- the file can't be opened, or it was opened and read, and failed with this fault
   abbrev pub IsNotRead : (OpFault → (before after : Option (List ℕ)) → Type 0) → List ℕ → OpFault → Type 0
   IsNotRead Fails path fault = ((fault ≡ Read) × g.lacks archive path) ⊎ IsRead (Fails fault) path
 
@@ -92,7 +92,7 @@ module _ {A F S : Type 0} (g : Ghosts A F S) (archive : A) (of : StoreGhosts S) 
     pub firsts : AreFirstIn folder scheme stores later
     pub fails : FailsToLoad of scheme (nodes scheme) stores left fault
 
-  -- why the stores of a scheme's nodes aren't all open: the first that can't be opened, or a fault in the records of those
-  -- before it
+  -- why the stores of a scheme's nodes aren't all open: the first that can't be opened, or a fault in the records of
+  -- those before it
   abbrev pub FailsToOpen : List ℕ → Scheme → OpFault → Type 0
   FailsToOpen folder scheme fault = (fault ≡ NoMemory) ⊎ (IsFirstShut folder scheme fault ⊎ IsFaultBefore folder scheme fault)

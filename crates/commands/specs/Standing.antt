@@ -25,8 +25,8 @@ use Rattle.commands.specs.declared.archive.Archive.{Ghosts}
 abbrev pub sum_line : List ℕ → List ℕ
 sum_line sum = codes "scheme " ++ sum ++ codes "\n"
 
--- lines were read and answered, and the journal went on from these records by the orders of the lines and of the clock, and
--- by inputs that are no orders. Where those come from is a clause of `run_alone`
+-- lines were read and their results written, and the journal went on from these records by the orders of the lines and
+-- of the clock, and by inputs that are no orders. A clause of `run_alone` says where those come from
 abbrev pub Lives : (Holds : List ℕ → List Input → Type 0) → Scheme → Node → List Input → StateView → (r s v w : Option (List ℕ)) → Type 0
 Lives Holds scheme n journal ended r s v w = IsLife scheme n (λ (m : Moment). Unit {0}) (λ (i : Input). Unit {0}) Holds journal (committed_records ended) r s v w
 
@@ -65,8 +65,8 @@ module _ {A F S : Type 0} (g : Ghosts A F S) (archive : A) where
       pub loaded : IsLoaded of scheme n store stored.store (Ok stored.state.journal)
       pub state : stored.state ≡ opened_with scheme n stored.state.journal
 
-    -- the node of these words was run from its store in the folder, after the sum of the scheme was written, and its store
-    -- was closed
+    -- the node of these words was run from its store in the folder, after the sum of the scheme was written, and its
+    -- store was closed
     pub record StandsIn (words : NodeWords) (scheme : Scheme) (n : Node) (r s before after : Option (List ℕ)) : Type 0 where
       pub keys : Option (List NodeKey)
       pub are_keys : AreKeysOf words.keys keys
@@ -80,9 +80,9 @@ module _ {A F S : Type 0} (g : Ghosts A F S) (archive : A) where
       pub keeps : IsKept of ended
       pub closed : g.closes archive ended.store
 
--- and what a file has left to be read
+-- and the bytes that a file has left to be read
 module _ {A F S : Type 0} (g : Ghosts A F S) (archive : A) (remaining : F → Option (List ℕ)) where
-  -- what standard input has left, before and after, and the output
+  -- the bytes that standard input has left, before and after, and the output
   pub record StandsAlone (of : StoreGhosts S) (words : NodeWords) (r s before after : Option (List ℕ)) : Type 0 where
     pub scheme : Scheme
     pub has_scheme : HasScheme g archive remaining (string_bytes words.scheme) scheme
@@ -90,7 +90,8 @@ module _ {A F S : Type 0} (g : Ghosts A F S) (archive : A) (remaining : F → Op
     pub named : IsNodeWord scheme words node
     pub stands : StandsIn g archive of words scheme node r s before after
 
-  -- the scheme can't be read; or it was, and its words don't set up a node. Why a node failed that was set up isn't said here
+  -- the scheme can't be read; or it was, and the words don't set up a node. Nothing is said here of why a node failed
+  -- that was set up
   abbrev pub FailsToStand : NodeWords → OpFault → (before after : Option (List ℕ)) → Type 0
   FailsToStand words fault v w =
       (LacksScheme g archive remaining (string_bytes words.scheme) fault × Keeps v w)

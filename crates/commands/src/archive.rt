@@ -27,13 +27,13 @@ pub trait Archive {
     /// It is the store of that node in the folder at that path.
     ghost keeps: { Self → List ℕ → ANode → Self.Store → Type 0 };
 
-    /// The node's store in the folder at that path can't be opened, for that fault.
+    /// Opening the node's store in the folder at that path fails with that fault.
     ghost fails: { Self → List ℕ → ANode → AFault → Type 0 };
 
-    /// The store was closed, and what it holds is in its database file by itself.
+    /// The store was closed, and its records are all in its database file.
     ghost closes: { Self → Self.Store → Type 0 };
 
-    /// Closing the store failed, for that fault.
+    /// Closing the store failed with that fault.
     ghost unclosed: { Self → Self.Store → AFault → Type 0 };
 
     /// The store is that of that node, and was made in a new file at that path.
@@ -42,11 +42,10 @@ pub trait Archive {
     /// The file at that path has these bytes, and its owner alone may read and write it.
     ghost is_private: { Self → List ℕ → List ℕ → Type 0 };
 
-    /// What is kept beside the store of that node in the folder at that path says that it is one of the scheme with that
-    /// sum.
+    /// The sum that is kept beside the store of that node in the folder at that path is this one.
     ghost is_marked: { Self → List ℕ → ANode → List ℕ → Type 0 };
 
-    /// Opens the file at the path, to be read. `None` where it can't be opened.
+    /// Opens the file at the path, to be read. `None` if it can't be opened.
     fn open(&self, path: &str) -> Option<Self::File>
         ensures some { IfSome result (opens self.now path.now) }
         ensures none { IfNone result (lacks self.now path.now) };
@@ -68,11 +67,11 @@ pub trait Archive {
             → Self.Store.is_own s) }
         ensures fails { IfErr result (fails self.now folder.now node) };
 
-    /// Closes the store. What it holds is in its database file by itself afterwards.
+    /// Closes the store. Its records are all in its database file afterwards.
     ///
     /// # Errors
     ///
-    /// Fails with the store's fault. Its records are there all the same, in its file and its log.
+    /// Fails with the store's fault. Its records are still there, in its file and its log.
     fn close(&self, store: Self::Store) -> Result<(), StoreFault>
         ensures closes { OnOk result (closes self.now store) }
         ensures unclosed { IfErr result (unclosed self.now store) };
@@ -81,7 +80,7 @@ pub trait Archive {
     ///
     /// # Errors
     ///
-    /// Fails with `Device` where there is a file at the path, and else with the store's fault.
+    /// Fails with `Device` if there is a file at the path, and otherwise with the store's fault.
     fn make_store(&self, path: &str, node: Node) -> Result<Self::Store, StoreFault>
         ensures makes { IfOk result (makes self.now path.now node) }
         ensures whose { IfOk result (λ s. Self.Store.whose s ≡ node) };
@@ -90,8 +89,8 @@ pub trait Archive {
     ///
     /// # Errors
     ///
-    /// Fails with `Setup` of `KeysUnread` where the file can't be read, and of `KeysShared` where others than its owner
-    /// may read or write it; and with `NoMemory` where memory ran out.
+    /// Fails with `Setup` of `KeysUnread` if the file can't be read, with `Setup` of `KeysShared` if others than its
+    /// owner may read or write it, and with `NoMemory` if memory ran out.
     fn read_keys(&self, path: &str) -> Result<Vec<u8>, OpFault>
         ensures { IfOk result (λ bytes. is_private self.now path.now bytes.items) };
 
@@ -99,15 +98,15 @@ pub trait Archive {
     ///
     /// # Errors
     ///
-    /// Fails with `Setup` of `SchemeSum` where it can't be read, and with `NoMemory` where memory ran out.
+    /// Fails with `Setup` of `SchemeSum` if it can't be read, and with `NoMemory` if memory ran out.
     fn kept_sum(&self, folder: &str, node: Node) -> Result<Option<String>, OpFault>
         ensures { IfOk result (λ kept. IfSome kept (λ sum. is_marked self.now folder.now node (string_bytes sum))) };
 
-    /// Keeps the sum of a scheme beside the store of the node in the folder, where none is kept.
+    /// Keeps the sum of a scheme beside the store of the node in the folder, if none is kept.
     ///
     /// # Errors
     ///
-    /// Fails with `Setup` of `SchemeSum` where it can't be kept, and with `NoMemory` where memory ran out.
+    /// Fails with `Setup` of `SchemeSum` if it can't be kept, and with `NoMemory` if memory ran out.
     fn keep_sum(&self, folder: &str, node: Node, sum: &str) -> Result<(), OpFault>
         ensures { OnOk result (is_marked self.now folder.now node sum.now) };
 }

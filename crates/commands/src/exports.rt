@@ -27,7 +27,7 @@ impl<'a, A> Exports<'a, A> {
 ///
 /// # Errors
 ///
-/// Fails with `NotExported` where the store has a record, and where it failed.
+/// Fails with `NotExported` if the store has a record, or if it failed.
 fn fill<S: NodeStore>(store: &mut S, records: &[Input]) -> Result<(), NotExported>
     ensures whose { S.whose store.new ≡ S.whose store.old }
     ensures filled { OnOk result (S.is_honest store.new → S.content store.new ≡ written records.now) }

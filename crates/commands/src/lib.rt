@@ -16,7 +16,7 @@ pub use obeying::{Ended, obey};
 pub use opening::scheme_at;
 pub use progress::Progress;
 
-// The actions that are obeyed, the faults that they end with, and who is told how far they have come.
+// The actions, the faults that they end with, and the watches of their progress.
 pub use command_faults;
 pub use operator;
 pub use run;

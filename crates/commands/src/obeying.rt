@@ -22,7 +22,7 @@ const WRONG_WORDS: u8 = 2;
 /// How a command line ended.
 #[derive(Drop)]
 pub enum Ended {
-    /// All was done that the words ask for.
+    /// Everything was done that the words ask for.
     Done,
     /// The action that the words name failed.
     Failed(Action, OpFault),

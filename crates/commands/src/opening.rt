@@ -1,4 +1,4 @@
-//! What a command's words name, opened and read.
+//! The files, folders and stores that a command's words name, opened and read.
 ghost use Rattle.std.specs.Prelude.{IfErr, IfOk, OnOk};
 ghost use Rattle.protocol.specs.Registries.{nodes};
 ghost use Rattle.commands.specs.Opened.{AreStoresIn, FailsToOpen, HasScheme, HasScript, IsShut, IsStoreIn, LacksFolder, LacksScheme, LacksScript};
@@ -16,7 +16,7 @@ use units::Node;
 ///
 /// # Errors
 ///
-/// Fails with `Read` where the file can't be opened, and as `read_scheme` does.
+/// Fails with `Read` if the file can't be opened, and as `read_scheme` does.
 pub fn scheme_at<A: Archive>(alloc: Global, archive: &A, path: &str) -> Result<Scheme, OpFault>
     ensures ok { IfOk result (HasScheme A.Archive archive.now A.File.remaining path.now) }
     ensures err { IfErr result (LacksScheme A.Archive archive.now A.File.remaining path.now) }
@@ -31,7 +31,7 @@ pub fn scheme_at<A: Archive>(alloc: Global, archive: &A, path: &str) -> Result<S
 ///
 /// # Errors
 ///
-/// Fails with `Read` where the file can't be opened, and as `read_script` does.
+/// Fails with `Read` if the file can't be opened, and as `read_script` does.
 pub(crate) fn script_at<A: Archive>(
     alloc: Global,
     archive: &A,
@@ -46,7 +46,7 @@ pub(crate) fn script_at<A: Archive>(
     }
 }
 
-/// Fails with `Read` where there is no folder at the path.
+/// Fails with `Read` if there is no folder at the path.
 pub(crate) fn find_folder<A: Archive>(archive: &A, path: &str) -> Result<(), OpFault>
     ensures ok { OnOk result (A.is_folder archive.now path.now) }
     ensures err { IfErr result (LacksFolder A.Archive archive.now path.now) }
@@ -62,7 +62,7 @@ pub(crate) fn find_folder<A: Archive>(archive: &A, path: &str) -> Result<(), OpF
 ///
 /// # Errors
 ///
-/// Fails with the store's fault, or with `NoMemory` where memory ran out.
+/// Fails with the store's fault, or with `NoMemory` if memory ran out.
 pub(crate) fn open_store<A: Archive>(
     archive: &A,
     folder: &str,
@@ -77,12 +77,12 @@ pub(crate) fn open_store<A: Archive>(
     }
 }
 
-/// The stores of all nodes in the folder: the log's, then those of the registries in the scheme's order. Where one
-/// can't be opened, a fault in the records of those before it comes first.
+/// The stores of all nodes in the folder: the log's, then those of the registries in the scheme's order. If one can't
+/// be opened, a fault in the records of those before it comes first.
 ///
 /// # Errors
 ///
-/// Fails with the first fault of a store, or with `NoMemory` where memory ran out.
+/// Fails with the first fault of a store, or with `NoMemory` if memory ran out.
 pub(crate) fn open_stores<A: Archive>(
     alloc: Global,
     archive: &A,

@@ -1,4 +1,4 @@
-//! What each command does.
+//! The work of each command.
 ghost use Rattle.std.specs.Prelude.{◌≡◌, IfErr, IfOk, OnOk};
 ghost use Rattle.status.specs.Id.{id_text};
 ghost use Rattle.commands.specs.Commands.{AuditsFolder, AuditsTo, CutsFolder, FailsToAuditFolder, FailsToAuditTo, FailsToCutFolder, FailsToListFolder, FailsToPerform, FailsToShowNode, FailsToTraceFolder, ListsFolder, NamesNoTransaction, Performs, ShowsNode, TracesFolder};
@@ -82,8 +82,8 @@ fn audit_folder<A: Archive, W: Write, P: Progress>(
     done
 }
 
-/// Writes the table of the run that leads furthest, where its journals are first records of the stores in the folder,
-/// and the records that are left.
+/// Writes the table of the furthest run whose journals are first records of the stores in the folder, and the records
+/// that are left.
 fn cut_folder<A: Archive, W: Write, P: Progress>(
     alloc: Global,
     archive: &A,
@@ -173,7 +173,7 @@ fn list_folder<A: Archive, W: Write, P: Progress>(
     done
 }
 
-/// The transaction that the word names; else `Input`, of line 1, with `Order`.
+/// The transaction that the word names. Otherwise fails with `Input`, of line 1, with `Order`.
 fn transaction_of(word: &str) -> Result<TransactionId, OpFault>
     ensures ok { IfOk result (λ id. word.now ≡ id_text id) }
     ensures err { IfErr result (NamesNoTransaction word.now) }
@@ -224,12 +224,13 @@ fn trace_folder<A: Archive, W: Write, P: Progress>(
     done
 }
 
-/// Does what the action says: reads standard input from `reader` where it reads it, and writes its results to `writer`.
+/// Does what the action says. Reads standard input from `reader` if it reads it, and writes its results to `writer`.
 ///
 /// # Errors
 ///
-/// Fails with the first fault, in the order in which the command looks at what its words name. Nothing is written then,
-/// except where the output failed, and except for what a run or a node that stands alone has written before it failed.
+/// Fails with the first fault, in the order in which the command looks at the files and nodes that its words name.
+/// Nothing is written then, unless the output failed; but a run or a node that stands alone may have written lines
+/// before it failed.
 pub(crate) fn perform<A, I, W, P, R>(
     rt: &R,
     alloc: Global,

@@ -1,4 +1,4 @@
-//! Of what types a node is that stands alone.
+//! The types of a node that stands alone.
 
 use desk::{OpenGate, WallClock};
 use links::Tagged;
@@ -40,7 +40,7 @@ where
     type Gate = OpenGate;
 }
 
-/// The same of a node whose links have keys.
+/// The same for a node whose links have keys.
 pub(crate) struct KeyedNode<'k, S, R> {
     stores: PhantomData<S>,
     runtime: PhantomData<R>,

@@ -1,10 +1,10 @@
-//! Who is told how far a command has come.
+//! Watching the progress of a command.
 
-/// Who is told how far a command has come. It changes nothing of what comes of the command.
+/// Watches the progress of a command. It changes no result of the command.
 pub trait Progress {
-    /// Who is told of the records that an audit reads and weaves.
+    /// The watch for the records that an audit reads and weaves.
     type OfAudit: weave::Watch + Drop;
-    /// Who is told of a script's lines, and of the records that a run settles and weaves.
+    /// The watch for a script's lines, and for the records that a run settles and weaves.
     type OfRun: run::Watch + weave::Watch + Drop;
 
     /// An audit begins.

@@ -31,7 +31,7 @@ use weave::Watch;
 ///
 /// # Errors
 ///
-/// Fails with the first fault of a store, and with `Stuck` where no run leads to these records: a run that went on from
+/// Fails with the first fault of a store, and with `Stuck` if no run leads to these records: a run that went on from
 /// them would add to them.
 fn load_nodes<A: Archive, P: Progress>(
     alloc: Global,
@@ -54,7 +54,7 @@ fn load_nodes<A: Archive, P: Progress>(
 ///
 /// # Errors
 ///
-/// Fails with `Read` where a port can't be had, and with `NoMemory` where memory ran out.
+/// Fails with `Read` if a port can't be had, and with `NoMemory` if memory ran out.
 fn open_listener<R: Net<Listener = TcpListener, Stream = TcpStream>>(
     net: &R,
 ) -> Result<Port, OpFault>
@@ -67,7 +67,7 @@ fn open_listener<R: Net<Listener = TcpListener, Stream = TcpStream>>(
     }
 }
 
-/// Adds a node, and where it accepts connections.
+/// Adds a node, and the address at which it accepts connections.
 fn push<S, R>(
     nodes: &mut Vec<LoadedNode<SocketNodes<S, R>>>,
     ports: &mut Ports<R>,
@@ -84,11 +84,11 @@ where
     Ok(())
 }
 
-/// The nodes, each with a listener of its own, and what connects to them there.
+/// The nodes, each with a listener of its own, and the dialer that connects to them.
 ///
 /// # Errors
 ///
-/// Fails as `open_listener` does, and with `NoMemory` where memory ran out.
+/// Fails as `open_listener` does, and with `NoMemory` if memory ran out.
 fn open_all<S, R>(
     net: R,
     alloc: Global,
@@ -208,8 +208,8 @@ where
 ///
 /// # Errors
 ///
-/// Fails with the first fault of these, and as `run_script` does. Where all was written, with the first fault of a
-/// store that is closed.
+/// Fails with the first fault of these, and as `run_script` does. If everything was written, fails with the first fault
+/// of a store that is closed.
 pub(crate) fn run_folder<A, W, P, R>(
     rt: &R,
     alloc: Global,

@@ -38,8 +38,8 @@ use units::{NoMemory, Node};
 /// How many bytes a line of a link with keys may have before its newline.
 const LONGEST_TAGGED: usize = TAG_DIGITS + 1 + LONGEST_LINE;
 
-/// What a node runs with: the scheme, all nodes of the scheme, its own name, where it listens, and how many seconds lie
-/// between two clean-ups.
+/// The setup of a node's run: the scheme, all nodes of the scheme, its own name, where it listens, and how many seconds
+/// lie between two clean-ups.
 #[derive(Clone, Copy)]
 struct Standing<'a> {
     scheme: &'a Scheme,
@@ -50,8 +50,8 @@ struct Standing<'a> {
 }
 
 impl<'a> Standing<'a> {
-    /// The nodes that it sends to: a registry sends to the log, and the log to all registries. The log is the first of the
-    /// names.
+    /// The nodes that it sends to: a registry sends to the log, and the log to all registries. The log is the first of
+    /// the names.
     fn peers(&self) -> &'a [Node] {
         let (log, registries) = self.names.split_at(self.names.len().min(1));
         match self.node {
@@ -61,7 +61,7 @@ impl<'a> Standing<'a> {
     }
 }
 
-/// Why the text of a file of keys isn't one.
+/// Why a text isn't that of a file of keys.
 fn keys_fault(fault: KeysFault) -> OpFault {
     match fault {
         KeysFault::Form(line) | KeysFault::Twice(line) => {
@@ -73,12 +73,12 @@ fn keys_fault(fault: KeysFault) -> OpFault {
     }
 }
 
-/// The keys of the file that the words name, one for each of these peers; or `None`, where they name none.
+/// The keys of the file that the words name, one for each of these peers; or `None` if they name none.
 ///
 /// # Errors
 ///
-/// Fails as `read_keys` of the archive does, and with `Setup` of `KeysLine` where a line is none of a further node with its
-/// key, and of `NoKey` where a peer has none.
+/// Fails as `read_keys` of the archive does, with `Setup` of `KeysLine` if a line isn't a further node with its key,
+/// and with `Setup` of `NoKey` if a peer has none.
 fn keys_of<A: Archive>(
     alloc: Global,
     archive: &A,
@@ -107,7 +107,7 @@ fn keys_of<A: Archive>(
 ///
 /// # Errors
 ///
-/// Fails with the store's fault, which is closed then, and with `NoMemory` where memory ran out.
+/// Fails with the store's fault and with `NoMemory` if memory ran out. The store is closed then.
 fn load_store<S: NodeStore + Drop>(
     alloc: Global,
     scheme: &Scheme,
@@ -129,12 +129,13 @@ fn load_store<S: NodeStore + Drop>(
     }
 }
 
-/// The node's store in the folder, with the state that its records lead to. The scheme's sum is kept beside it then.
+/// The node's store in the folder, with the state that its records lead to. Afterwards the scheme's sum is kept beside
+/// it.
 ///
 /// # Errors
 ///
-/// Fails with the store's fault, as `kept_sum` and `keep_sum` of the archive do, with `Setup` of `OtherScheme` where the sum
-/// of another scheme is kept, and with `NoMemory` where memory ran out. No sum is kept where the records can't be loaded.
+/// Fails with the store's fault, as `kept_sum` and `keep_sum` of the archive do, with `Setup` of `OtherScheme` if the
+/// sum of another scheme is kept, and with `NoMemory` if memory ran out. No sum is kept if the records can't be loaded.
 fn load_node<A: Archive>(
     alloc: Global,
     archive: &A,
@@ -161,7 +162,7 @@ fn load_node<A: Archive>(
 ///
 /// # Errors
 ///
-/// Fails with `Setup` of `Port` where the address can't be had, and with `NoMemory` where memory ran out.
+/// Fails with `Setup` of `Port` if the address can't be had, and with `NoMemory` if memory ran out.
 fn open_port<R>(
     net: R,
     alloc: Global,
@@ -337,7 +338,7 @@ fn write_sum<W: Write>(alloc: Global, writer: &mut W, sum: &str) -> Result<(), O
 ///
 /// # Errors
 ///
-/// Fails with the store's fault. Its records are there all the same.
+/// Fails with the store's fault. Its records are still there.
 fn close_store<A: Archive>(archive: &A, stored: Stored<Core, A::Store>) -> Result<(), OpFault>
     ensures { OnOk result (A.closes archive.now stored.store) }
 {
@@ -350,8 +351,8 @@ fn close_store<A: Archive>(archive: &A, stored: Stored<Core, A::Store>) -> Resul
     }
 }
 
-/// Runs a node as it was set up: looks at the keys, the folder and the store, tells the scheme's sum, and opens the port
-/// last. Closes the store in the end.
+/// Runs a node as it was set up: looks at the keys, the folder and the store, writes the scheme's sum, and opens the
+/// port last. Closes the store in the end.
 fn stand<A, I, W, R>(
     rt: &R,
     alloc: Global,
@@ -398,13 +399,14 @@ where
     close_store(archive, ended)
 }
 
-/// Runs one node of a scheme, with its store in the folder, while its operator's lines are answered. Before anything runs
-/// it looks at the scheme, then at the words, the file of keys, the folder and the store, and opens the port last.
+/// Runs one node of a scheme, with its store in the folder, and writes the results of its operator's lines. Before
+/// anything runs it looks at the scheme, then at the words, the file of keys, the folder and the store, and opens the
+/// port last.
 ///
 /// # Errors
 ///
-/// Fails with the first fault of these, and as `run_alone` does. Where all was written, with the fault of the store that
-/// is closed.
+/// Fails with the first fault of these, and as `run_alone` does. If everything was written, fails with the fault of the
+/// store that is closed.
 pub(crate) fn stand_alone<A, I, W, R>(
     rt: &R,
     alloc: Global,

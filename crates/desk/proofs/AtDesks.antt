@@ -1,4 +1,4 @@
--- What stays known of a state and its store at a desk.
+-- What stays known of a state and its store at a desk after each call.
 use Rattle.std.proofs.Common.{◌≡◌, ◌<◌, ◌≤◌, ◌++◌, ◌+◌, ℕ, Bool, true, false, List, [], ◌∷◌, length, take, if◌then◌else◌, Option, is_some, Result, Ok, Err, refl, sym, ap, subst, ◌∙◌, arith}
 use Rattle.std.proofs.lemmas.List.{take-append-le}
 use Rattle.units.specs.declared.code.Node.{Node}
@@ -17,7 +17,7 @@ use Rattle.desk.specs.Views.{StateView, tail}
 use Rattle.desk.specs.declared.notes.Told.{Told}
 use Rattle.desk.proofs.Keepings.{after_more}
 
--- what no call changes of a state; and none makes it run again
+-- what no call changes of a state, except that it may stop
 record IsSame (old new : StateView) : Type 0 where
   pub scheme : new.scheme ≡ old.scheme
   pub node : new.node ≡ old.node
@@ -91,7 +91,7 @@ module _ {S : Type 0} (g : Ghosts S) (opened : Scheme → Node → List Input �
   ok_zero : (count : ℕ) → let told : Result ℕ StoreFault = Ok count in told ≡ Ok 0 → count ≡ 0
   ok_zero count e = cc (e)
 
-  -- nothing was to be committed
+  -- there was nothing to commit
   at_nothing : (old : StateView) (old_store new_store : S) (result : Result ℕ StoreFault) (fault : Option StoreFault) → result ≡ Ok 0 → new_store ≡ old_store → At old old_store fault → At (committed_by old result) new_store (fault_after fault result)
   at_nothing old old_store new_store (Err told) fault none store at = absurd (never_ok told none)
   at_nothing old old_store new_store (Ok count) fault none store at = subst (λ (s : S). At (record old { committed = old.committed + count }) s fault) (sym store) (record {
@@ -102,7 +102,7 @@ module _ {S : Type 0} (g : Ghosts S) (opened : Scheme → Node → List Input �
     running = at.running;
   })
 
-  -- a batch was to be committed
+  -- there was a batch to commit
   at_batch : (old : StateView) (old_store new_store : S) (batch : List Input) (result : Result ℕ StoreFault) (fault : Option StoreFault) → old.runs ≡ true
       → Appends g.is_honest g.content g.may_hold g.must_reopen old_store new_store batch (done result) → g.faults new_store ≡ faults_after (g.faults old_store) result
       → At old old_store fault → At (committed_by old result) new_store (fault_after fault result)
@@ -135,7 +135,7 @@ module _ {S : Type 0} (g : Ghosts S) (opened : Scheme → Node → List Input �
   at_runs old old_store new_store most result fault true is none some counts at = at_cases old old_store new_store most (take most (tail old)) result fault is none some counts at
   at_runs old old_store new_store most result fault false is none some counts at = let nothing = none refl in at_nothing old old_store new_store result fault nothing.0 nothing.1 at
 
-  -- a commit of that many at most
+  -- a commit of at most `most` records
   pub at_committed : (old new : StoredView S) (most : ℕ) (result : Result ℕ StoreFault) (fault : Option StoreFault) → Commits g old new most result
       → g.faults new.store ≡ faults_after (g.faults old.store) result → IsAtDesk g opened old fault → IsAtDesk g opened new (fault_after fault result)
   at_committed old new most result fault commits counts at =

@@ -10,7 +10,7 @@ use Rattle.desk.specs.Counts.{CountsFrom}
 use Rattle.desk.specs.Covering.{IsPlace}
 use Rattle.desk.specs.Views.{StateView, SeatView}
 
--- the same counts, of times that are the same
+-- the same counts, of equal functions
 pub counts_same : (opening : ℕ) (f g : ℕ → ℕ) (counts : List ℕ) → ((p : ℕ) → f p ≡ g p) → CountsFrom opening f counts → CountsFrom opening g counts
 counts_same opening f g counts same h k below = h k below ∙ ap (λ n. min 2 n) (same (opening + k))
 
@@ -26,7 +26,7 @@ one_counted p xs i n d below = let more = more_as p xs i d (p (get_or xs i d)) b
 pub one_summed : {X : Type 0} (f : X → ℕ) (xs : List X) (i n : ℕ) (d : X) → i < length xs → (n + sum_by f (take i xs)) + f (get_or xs i d) ≡ n + sum_by f (take (i + 1) xs)
 one_summed f xs i n d below = let more = sum_by_more f xs i d below in omega (arith, more)
 
--- what is so of each place up to one is so up to the next
+-- a property of all places below `opening + k`, and of that place, is one of all below `opening + (k + 1)`
 pub up_to_next : (P : ℕ → Type 0) (opening k : ℕ) → ((place : ℕ) → opening ≤ place → place < opening + k → P place) → P (opening + k) → (place : ℕ) → opening ≤ place → place < opening + (k + 1) → P place
 up_to_next P opening k earlier here place low high =
     elim (cases_lt place (opening + k)) [ inl below ↦ earlier place low below | inr last ↦ let same : opening + k ≡ place = omega arith in subst P same here ]
@@ -43,7 +43,7 @@ once_there opening k times counts h below few = let here = h k below in omega (a
 pub twice_there : (opening k : ℕ) (times : ℕ → ℕ) (counts : List ℕ) → CountsFrom opening times counts → k < length counts → 1 < slice_index_or counts k 0 → 1 < times (opening + k)
 twice_there opening k times counts h below many = let here = h k below in omega (arith, here, many)
 
--- a slice of a list that was written, and the list then
+-- a slice that was written back into a list, and the list afterwards
 pub written_back : (new items : List ℕ) (len : ℕ) → length new ≡ length items → len ≡ length items → take len (new ++ drop (length new) items) ≡ new
 written_back new items len same whole =
     let rest : drop (length new) items ≡ [] = drop_all (length new) items (omega arith) in

@@ -25,7 +25,7 @@ front_brought old new xs start all front again starts short =
     let begun = front_again old new xs front again ∙ ap (λ n. take n xs) (sym starts) in
     ap (λ l. l ++ take (all - start) (drop start xs)) begun ∙ front_more start (all - start) all xs (omega (arith, starts, short))
 
--- a fault of the first records is one of the whole journal
+-- a fault of the first records is a fault of the whole journal
 pub fault_of_front : (scheme s : Scheme) (n m : Node) (journal front : List Input) (records : ℕ) (fault : ReplayFault) → s ≡ scheme → m ≡ n → front ≡ take records journal → HasFault s m front fault → HasFault scheme n journal fault
 fault_of_front scheme s n m journal front records fault schemes nodes first bad =
     subst (λ (x : Scheme). HasFault x n journal fault) schemes

@@ -1,4 +1,4 @@
--- A state beside its store: what each call leaves.
+-- A state and its store: what each call leaves known of the two.
 use Rattle.std.proofs.Common.{◌≡◌, ◌+◌, ◌<◌, ◌≤◌, ◌++◌, ℕ, zero, suc, Bool, true, false, List, [], ◌∷◌, length, take, drop, Result, Ok, Err, IfOk, Some, None, if◌then◌else◌, refl, sym, ap, subst, ◌∙◌, arith, inl, inr, append-nil}
 use Rattle.std.proofs.lemmas.List.{take_all, drop_all, drop_at, take-append-drop, take-append-le, drop-append-le, length-take-le, length-drop, length-append, length-map, map-append}
 use Rattle.units.specs.declared.code.Node.{Node}
@@ -55,7 +55,7 @@ texts_written : (inputs : List Input) → AreTexts (written inputs) inputs
 texts_written [] = tt
 texts_written (i ∷ inputs) = (inr refl, texts_written inputs)
 
--- texts of the first records, and then those that were written
+-- places with the texts of the first records, and then the records that were written
 texts_more : (count : ℕ) (places : Places) (inputs more : List Input) → AreTexts (take count places) inputs → drop count places ≡ written more → AreTexts places (inputs ++ more)
 texts_more zero places [] more are since = subst (λ (ps : Places). AreTexts ps more) (sym since) (texts_written more)
 texts_more zero places (i ∷ inputs) more are since = absurd are
@@ -129,7 +129,7 @@ further opening committed most journal batch places o c is h =
           ∙ sym (ap written behind ∙ written_more (drop opening (take committed journal)) batch));
     }
 
--- whatever batch keeps that has the texts of the tail's next records
+-- if the store has the first records with the batch appended, the batch's texts are those of the tail's next records
 pub just_tail : (opening committed : ℕ) (journal batch : List Input) (places : Places) → opening ≤ committed → committed + length batch ≤ length journal
     → HaveFirst opening journal committed places → HaveFirst opening journal (committed + length batch) (places ++ written batch) → written batch ≡ written (take (length batch) (drop committed journal))
 just_tail opening committed journal batch places o c before now =
@@ -200,7 +200,7 @@ module _ {S : Type 0} (g : Ghosts S) where
   takes_cases old new input result store false is takes kept = subst (λ (h : StateView). Kept h store) (sym (takes.0 is).1) kept
   takes_cases old new input result store true is takes kept = subst (λ (h : StateView). Kept h store) (sym (takes.1 is).1) (kept_after old input result store kept)
 
-  -- an input was taken, or it wasn't
+  -- an input was recorded, or it wasn't
   pub kept_taken : (old new : StateView) (input : Input) (told : Told) (store : S) → Tells old input told new → Kept old store → Kept new store
   kept_taken old new input told store tells kept = takes_cases old new input tells.0 store old.runs refl tells.2 kept
 
@@ -218,7 +218,7 @@ module _ {S : Type 0} (g : Ghosts S) where
         record { count = some.count; least = some.least; most = some.most; first = some.first };
   }
 
-  -- what a call leaves as it was: whose the store is, and whether it says so
+  -- a call leaves the store's node as it was, and an honest store that runs and named that node as its owner still does
   record Owns (old new : S) : Type 0 where
     pub whose : g.whose new ≡ g.whose old
     pub own : g.is_honest new → g.must_reopen new ≡ false → g.is_own old → g.is_own new
@@ -248,7 +248,7 @@ module _ {S : Type 0} (g : Ghosts S) where
         };
       }
 
-  -- it wasn't
+  -- the batch wasn't appended
   kept_failed : (held : StateView) (old new : S) (most : ℕ) (batch : List Input) (fault : StoreFault) → held.runs ≡ true → batch ≡ take most (tail held) → Owns old new
       → Appends g.is_honest g.content g.may_hold g.must_reopen old new batch (Err fault) → Kept held old → Kept (record held { runs = false }) new
   kept_failed held old new most batch fault running is owns appends kept =
@@ -281,7 +281,7 @@ module _ {S : Type 0} (g : Ghosts S) where
             ];
       }
 
-  -- what a commit says of what it returned
+  -- the contract of a commit, about its result
   abbrev Committing : StateView → S → S → Result ℕ StoreFault → List Input → Type 0
   Committing held old new result batch =
       IfOk result (λ count. count ≡ length batch)
@@ -317,7 +317,7 @@ module _ {S : Type 0} (g : Ghosts S) where
   commit_cases held old new most result true is owns commits kept = kept_some held old new most result (take most (tail held)) is refl owns commits kept
   commit_cases held old new most result false is owns commits kept = let none = commits.1 refl in kept_nothing held old new result none.0 none.1 kept
 
-  -- a commit of that many at most
+  -- a commit of at most `most` records
   pub kept_committed : (held : StateView) (old new : S) (most : ℕ) (result : Result ℕ StoreFault) → g.whose new ≡ g.whose old → (g.is_honest new → g.must_reopen new ≡ false → g.is_own old → g.is_own new)
       → Committing held old new result (batch_of held most) → Kept held old → Kept (committed_by held result) new
   kept_committed held old new most result whose own commits kept = commit_cases held old new most result held.runs refl (record { whose = whose; own = own }) commits kept
@@ -365,7 +365,7 @@ module _ {S : Type 0} (g : Ghosts S) where
         record { count = some.count; least = some.least; most = some.most; first = some.first };
   }
 
-  -- its journal is committed as a whole, and counts as that of its opening
+  -- its journal is committed as a whole, and counts as the journal of its opening
   kept_anew : (held : StateView) (store : S) → held.committed ≡ length held.journal → Kept held store → Kept (record held { opening = held.committed }) store
   kept_anew held store all kept = record {
     opening = omega arith;
@@ -388,7 +388,7 @@ module _ {S : Type 0} (g : Ghosts S) where
         };
   }
 
-  -- a stopped state was opened anew: it ran again, and committed what wasn't committed
+  -- a stopped state was opened anew: it ran again, and committed the records that weren't committed
   pub kept_reopened : (held again settled anew : StateView) (old new : S) (most count : ℕ) (result : Result ℕ StoreFault)
       → again ≡ record held { runs = true } → settled ≡ committed_by again result → result ≡ Ok count → anew ≡ record settled { opening = settled.committed }
       → g.must_reopen old ≡ false → g.whose new ≡ g.whose old → (g.is_honest new → g.must_reopen new ≡ false → g.is_own old → g.is_own new)

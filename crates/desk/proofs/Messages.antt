@@ -24,7 +24,7 @@ no_place [] k h e = absurd (omega arith)
 no_place (x ∷ xs) zero h e = absurd (cc (e))
 no_place (x ∷ xs) (suc k) h e = no_place xs k (omega arith) e
 
--- whether a node is still to acknowledge a message, by the message
+-- whether a node has yet to acknowledge a message, by the message
 abbrev is_awaited : Node → Bool → Option Message → Bool
 is_awaited peer acknowledged message = option_map_or (λ m. same_node m.to peer) message false && not acknowledged
 
@@ -44,12 +44,12 @@ none_before front more acknowledged peer k none =
       | inr past ↦ ap (is_awaited peer (acknowledged k)) (slice_get_past front k past)
     ]
 
--- none of the first messages, where the least of all is after them
+-- none of the first messages, if the least key of all comes after them
 none_in_front : (front more : List Message) (acknowledged : ℕ → Bool) (peer : Node) (from key : ℕ) → IsLeastFrom (awaits (front ++ more) acknowledged peer) from (Some key) → length front ≤ key
     → IsLeastFrom (awaits front acknowledged peer) from None
 none_in_front front more acknowledged peer from key least past k after = none_before front more acknowledged peer k (λ below. least.2 k after (omega arith))
 
--- none of the first messages, where there is none at all
+-- none of the first messages, if there is none among all
 none_at_all : (front more : List Message) (acknowledged : ℕ → Bool) (peer : Node) (from : ℕ) → IsLeastFrom (awaits (front ++ more) acknowledged peer) from None
     → IsLeastFrom (awaits front acknowledged peer) from None
 none_at_all front more acknowledged peer from none k after = none_before front more acknowledged peer k (λ below. none k after)

@@ -1,4 +1,4 @@
--- What is so of all notes, or of one of them, in any order, is so of those of all seats, or of those of one seat.
+-- A property of all notes, or of one of them, in any order, is a property of the notes of all seats, or of one seat.
 use Rattle.std.proofs.Common.{◌≡◌, ℕ, zero, suc, ◌+◌, ◌<◌, List, [], ◌∷◌, ◌++◌, length, get_or, take, map, sym, ap, subst, refl, ◌∙◌, arith, Option, Some, None, Result, Ok, Err, IfOk, MatchOption}
 use Rattle.std.specs.Prelude.{Contains, IsPermutation}
 use Rattle.std.specs.List.{All, AllByRecursion, Any, flat_map, slice_index_or}
@@ -78,7 +78,7 @@ all_after g P xs all = All-from_recursion P (map g xs) (all_seen g P xs (recursi
 some_after : {X Y : Type 0} (g : X → Y) (P : Y → Type 0) (xs : List X) → Any (λ x. P (g x)) xs → Any P (map g xs)
 some_after g P xs some = any_at P (map g xs) (g some.1) (map_In g some.1 xs (In_contains xs some.1 (some.0, some.2, some.3))) some.4
 
--- what was found among the notes in their order is so of the notes of the seats
+-- a property found of the notes in their sorted order holds of the notes of the seats
 module _ {X : Type 0} (seen : X → Note) (scheme : Scheme) (n : Node) (seats : List SeatView) (notes : List X) where
   abbrev Found : List Input → Option ℕ → Type 0
   Found journal found = MatchOption found (All (λ x. Bears scheme n journal (seen x)) notes) (λ len. Any (λ x. ((seen x).length ≡ len) × (Bears scheme n journal (seen x) → ⊥)) notes)

@@ -1,4 +1,4 @@
--- A store read page by page into a core, as far as its records go.
+-- A store that is read page by page into a core.
 use Rattle.std.proofs.Common.{◌≡◌, ◌++◌, ◌+◌, ◌-◌, ◌*◌, ◌<◌, ◌≤◌, ℕ, zero, suc, Bool, true, false, List, [], ◌∷◌, length, take, drop, Some, None, Result, Ok, Err, Vec, IsTrue, refl, sym, ap, subst, ◌∙◌, arith, inl, inr, length-append}
 use Rattle.std.proofs.Common.{Global}
 use Rattle.std.proofs.lemmas.Option.{slice_get_within}
@@ -44,7 +44,7 @@ damaged_after (record_here ∷ records) p q m (None ∷ places) is read h = absu
 damaged_after (record_here ∷ records) zero q m (Some text ∷ places) is read h = absurd (omega arith)
 damaged_after (record_here ∷ records) (suc p) q m (Some text ∷ places) is read h = ((record_here, read.0), damaged_after records p q m places (omega arith) read.1 h)
 
--- fewer places than were asked for are all that there are
+-- a page with fewer places than were asked for has all places that there are
 page_whole : (m : ℕ) (places : Places) (page : List Input) → length page < m → AreRecords (take m places) page → AreRecords places page
 page_whole zero places page few h = absurd (omega arith)
 page_whole (suc m) [] page few h = h
@@ -94,7 +94,7 @@ count_within (suc m) (Some text ∷ places) (input ∷ page) h = let rest = coun
 in_page : (pages start place : ℕ) → start ≡ pages * page_size → start ≤ place → place < start + page_size → IsInPage pages place
 in_page pages start place is from to = (omega (arith, is, from), omega (arith, is, to))
 
--- ---- what a page leaves
+-- ---- the state after a page
 
 reopen_only : {X : Type 0} (fault : StoreFault) → let told : Result X StoreFault = Err fault in told ≡ Err Reopen → fault ≡ Reopen
 reopen_only fault e = cc (e)
@@ -113,7 +113,7 @@ module _ {S : Type 0} (g : Ghosts S) where
   abbrev LoadsPage : S → S → List Input → Result (Vec Input Global) StoreFault → Type 0
   LoadsPage old new journal result = Loads g.is_honest g.content g.may_hold g.must_reopen old new (length journal) (take page_size (drop (length journal) (g.content old))) result
 
-  -- the same, where the place is a number that is told
+  -- the same, if the place is given as a number
   pub page_after : (old new : S) (from : ℕ) (journal : List Input) (result : Result (Vec Input Global) StoreFault) → from ≡ length journal
       → Loads g.is_honest g.content g.may_hold g.must_reopen old new from (take page_size (drop from (g.content old))) result → LoadsPage old new journal result
   page_after old new from journal result is loads = subst (λ (k : ℕ). Loads g.is_honest g.content g.may_hold g.must_reopen old new k (take page_size (drop k (g.content old))) result) is loads
@@ -165,7 +165,7 @@ module _ {S : Type 0} (g : Ghosts S) where
     crash = λ h runs next held. loads.crash h (runs_on old mid journal read runs) next held ∙ read.kept (loads.honest h);
   }
 
-  -- a store that waits returns no page
+  -- a store that must be reopened returns no page
   ran : (mid new : S) (journal : List Input) (page : Vec Input Global) (waits : Bool) → g.must_reopen mid ≡ waits → LoadsPage mid new journal (Ok page) → g.must_reopen mid ≡ false
   ran mid new journal page true was loads = absurd (never_reopen page (loads.reopen was).0)
   ran mid new journal page false was loads = was
@@ -251,7 +251,7 @@ module _ {S : Type 0} (g : Ghosts S) where
   page_too_large scheme n old mid new journal page read loads =
       page_left scheme n old mid new journal page NoMemory read loads tt refl (λ k is. absurd (cc (is)))
 
-  -- the records of the page are no journal after those before them, of which the core has recorded some
+  -- the records of the page don't continue the journal before them; the core has recorded some of them
   pub page_not_resumed : (scheme : Scheme) (n : Node) (old mid new : S) (journal : List Input) (page : Vec Input Global) (reached : ℕ) (fault : ReplayFault) → ReadTo old mid journal → LoadsPage mid new journal (Ok page)
       → length journal ≤ reached → IsAt reached fault → HasFault scheme n (journal ++ page.items) fault → Loaded scheme n old new (Err (damage_of fault))
   page_not_resumed scheme n old mid new journal page reached (replay.NotRecorded place) read loads from at bad = page_refused scheme n old mid new journal page place read loads (omega (arith, from, at)) bad

@@ -9,27 +9,27 @@ use Rattle.desk.specs.declared.notes.Told.{Told}
 use Rattle.desk.specs.Expected.{stopped, told_of}
 use Rattle.desk.specs.Views.{StateView, tail}
 
--- the state takes an input: it is refused where the state has stopped, else the journal is what the core's result
--- makes it
+-- the state takes an input: it is refused if the state has stopped; otherwise the journal becomes the one that the
+-- core's result gives
 abbrev pub Takes : StateView → Input → Result Stepped Refusal → StateView → Type 0
 Takes old input result new =
     (old.runs ≡ false → (result ≡ Err stopped) × (new ≡ old))
     × (old.runs ≡ true → IsExpectedOrNoMemory result (answer old.scheme old.node old.journal input) × (new ≡ record old { journal = after old.journal input result }))
 
--- the same, where what the core returns is told in that way
+-- the same, with the core's result as it is noted
 abbrev pub Tells : StateView → Input → Told → StateView → Type 0
 Tells old input told new = (result : Result Stepped Refusal) × (told ≡ told_of result) × Takes old input result new
 
--- the records that a commit of that many at most appends: none where the state has stopped
+-- the records that a commit of at most that many appends: none if the state has stopped
 abbrev pub batch_of : StateView → ℕ → List Input
 batch_of held max = if held.runs then take max (tail held) else []
 
--- what a store returns, where the count is left away
+-- the result of a store's call, without the count
 abbrev pub done : Result ℕ StoreFault → Result Unit StoreFault
 done (Ok count) = Ok tt
 done (Err fault) = Err fault
 
--- the state after a commit: that many records more are committed, or it has stopped
+-- the state after a commit: that many more records are committed, or it has stopped
 abbrev pub committed_by : StateView → Result ℕ StoreFault → StateView
 committed_by held (Ok count) = record held { committed = held.committed + count }
 committed_by held (Err fault) = record held { runs = false }

@@ -1,4 +1,5 @@
--- Counts of places since an opening, where two stands for more too. No public contract cites it.
+-- Counts of how often each place since an opening is named; a count of two also stands for more. No public contract
+-- cites it.
 use Rattle.std.specs.Prelude.{◌≡◌, ◌+◌, ◌<◌, ℕ, List, length, min, slice_index_or}
 
 -- the counts are those of the places from the opening on

@@ -1,4 +1,4 @@
--- When the tickets of all seats are the records since the opening.
+-- When the tickets of all seats are exactly the records since the opening.
 use Rattle.std.specs.Prelude.{◌≡◌, ℕ, ◌<◌, ◌≤◌, ◌==◌, List, length, slice_get, All, Any, sum_by, count_by, Some}
 use Rattle.desk.specs.declared.notes.Ticket.{Ticket}
 use Rattle.desk.specs.Views.{StateView, SeatView}
@@ -30,12 +30,12 @@ Fits held ticket = (held.opening ≤ ticket.place) × (slice_get held.journal ti
 abbrev pub AllFit : StateView → List SeatView → Type 0
 AllFit held seats = All (λ (s : SeatView). All (Fits held) s.tickets) seats
 
--- a ticket that names that place doesn't fit
+-- a ticket names that place and doesn't fit
 abbrev pub SomeDiffers : StateView → List SeatView → ℕ → Type 0
 SomeDiffers held seats place = Any (λ (s : SeatView). Any (λ (t : Ticket). (t.place ≡ place) × (Fits held t → ⊥)) s.tickets) seats
 
--- each place since the opening is named by just one ticket, no ticket names another place, and each has the input at
--- its place
+-- each place since the opening is named by exactly one ticket, no ticket names any other place, and each ticket has the
+-- input at its place
 pub record Covers (held : StateView) (seats : List SeatView) : Type 0 where
   pub once : (place : ℕ) → IsPlace held place → times_named seats place ≡ 1
   pub fits : AllFit held seats

@@ -1,5 +1,5 @@
--- What the calls of a desk return. No clause can name the state under a desk's lock, so each says of some state that
--- this is what it returned.
+-- The results of the calls of a desk. No clause can name the state under a desk's lock, so each says that there is some
+-- state for which the result is right.
 use Rattle.std.specs.Prelude.{◌≡◌, ◌⊎◌, ℕ, ◌<◌, ◌≤◌, true, false, length, slice_get, option_map, Option, None, Some, IfSome}
 use Rattle.units.specs.RefusalCodes.{out_of_memory}
 use Rattle.units.specs.declared.code.Node.{Node}
@@ -21,16 +21,16 @@ use Rattle.desk.specs.Views.{StateView, committed_past, past}
 abbrev pub lacking : Told
 lacking = Refused (record { code = out_of_memory })
 
--- some state took the input and told this, and its journal then had this length; or memory ran out
+-- some state took the input and returned this, and its journal then had this length; or memory ran out
 abbrev pub IsTakeOf : Input → Note → Type 0
 IsTakeOf input taken = (taken.told ≡ lacking) ⊎ ((old : StateView) × (new : StateView) × Tells old input (taken.told) new × (taken.length ≡ length new.journal))
 
--- some state told this of the transaction, and its journal had this length; or memory ran out
+-- some state returned this for the transaction, and its journal had this length; or memory ran out
 abbrev pub IsQueryOf : TransactionId → Note → Type 0
 IsQueryOf id taken = (taken.told ≡ lacking) ⊎ ((held : StateView) × (taken.told ≡ status_told held id) × (taken.length ≡ length held.journal))
 
--- the state has this to send to the peer from that key on: the least key of a committed record's message that no record
--- acknowledges, with the message
+-- the state has this to send to the peer from that key on: the least key of a message that a committed record sends and
+-- no record acknowledges, with the message
 pub record HasToSend (held : StateView) (peer : Node) (from : ℕ) (found : Option (ℕ × Message)) : Type 0 where
   pub stopped : held.runs ≡ false → found ≡ None
   pub key : held.runs ≡ true → IsLeastFrom (awaits (sends (committed_past held)) (is_acknowledged (past held)) peer) from (option_map (λ sent. sent.0) found)
@@ -38,13 +38,13 @@ pub record HasToSend (held : StateView) (peer : Node) (from : ℕ) (found : Opti
 
 -- ---- what the code follows; no public contract cites what stands below
 
--- what is handed back is what was taken
+-- the note that is handed back is the one that was taken
 abbrev pub IsOf : Note → Confirmation → Type 0
 IsOf taken (Committed receipt) = receipt ≡ taken
 IsOf taken (Awaited back) = back ≡ taken
 IsOf taken Stopped = Unit {0}
 
--- how far the first records of the state are committed, as many as `count` says
+-- whether the first `count` records of the state are committed
 abbrev pub IsConfirmation : StateView → ℕ → Confirmation → Type 0
 IsConfirmation held count (Committed receipt) = count ≤ held.committed
 IsConfirmation held count (Awaited back) = (held.committed < count) × (held.runs ≡ true)

@@ -1,4 +1,4 @@
--- What is expected for what a state is asked, after a journal.
+-- The expected result of each question to a state, after a journal.
 use Rattle.std.specs.Prelude.{List, if◌then◌else◌, Result, Ok, Err}
 use Rattle.units.specs.RefusalCodes.{node_stopped}
 use Rattle.units.specs.declared.code.Node.{Node}
@@ -16,20 +16,20 @@ use Rattle.desk.specs.declared.notes.Told.{Told}
 use Rattle.desk.specs.declared.notes.Told.TheVariants.{Step, Status, Refused}
 use Rattle.desk.specs.Views.{StateView, past}
 
--- what a core returns, as it is told
+-- the result of a core, as it is noted
 abbrev pub told_of : Result Stepped Refusal → Told
 told_of (Ok stepped) = Step stepped
 told_of (Err refusal) = Refused refusal
 
--- what a node of one thread tells after a journal
+-- the result of a node with a single thread, after a journal
 abbrev pub expected : Scheme → Node → List Input → Asked → Told
 expected scheme n journal (Take input) = told_of (answer scheme n journal input)
 expected scheme n journal (Query id) = Status (stands (transitions_of (history scheme n journal)) id)
 
--- the refusal of a node that has stopped
+-- the refusal by a node that has stopped
 abbrev pub stopped : Refusal
 stopped = record { code = node_stopped }
 
--- what is told of a transaction
+-- the result of a query for a transaction
 abbrev pub status_told : StateView → TransactionId → Told
 status_told held id = if held.runs then Status (stands (transitions_of (past held)) id) else Refused stopped

@@ -1,4 +1,4 @@
--- A state beside the store that has its committed records, and what is known of the two at a desk.
+-- A state and the store that has its committed records, and what is known of the two at a desk.
 use Rattle.std.specs.Prelude.{◌≡◌, ◌⊎◌, ◌<◌, ◌≤◌, ℕ, true, false, List, [], ◌∷◌, length, take, drop, Option, Some, None, is_some, Result, Ok, Err, IfOk}
 use Rattle.units.specs.declared.code.Node.{Node}
 use Rattle.wire.specs.declared.input.Input.{Input}
@@ -16,17 +16,17 @@ use Rattle.desk.specs.Desks.{HasToSend, IsConfirmation}
 use Rattle.desk.specs.Views.{StateView}
 use Rattle.desk.specs.declared.confirmation.Confirmation.{Confirmation}
 
--- ---- what the places of a store have
+-- ---- the texts at the places of a store
 
--- each place has a text that is read as its record, as one that was loaded has, or the text that is written of it; and no
--- place is left over
+-- each place has a text: one that is read as the record at that place, as a loaded record has, or the text that is
+-- written for it; and there are no further places
 abbrev pub AreTexts : Places → List Input → Type 0
 AreTexts [] [] = Unit {0}
 AreTexts (Some text ∷ places) (input ∷ inputs) = (IsRecordText Two text input ⊎ (text ≡ record_text input)) × AreTexts places inputs
 AreTexts _ _ = ⊥
 
--- the first records of the journal, `count` of them: those of the opening as they were loaded or written before, then the
--- texts of those that came since
+-- the first `count` records of the journal: those of the opening as they were loaded or written before, then the texts
+-- of those that were recorded since
 pub record HaveFirst (opening : ℕ) (journal : List Input) (count : ℕ) (places : Places) : Type 0 where
   pub before : AreTexts (take opening places) (take opening journal)
   pub since : drop opening places ≡ written (drop opening (take count journal))
@@ -49,8 +49,8 @@ pub record StoredView (S : Type 0) : Type 0 where
   pub store : S
 
 module _ {S : Type 0} (g : Ghosts S) where
-  -- the store is the state's, and has just the committed records while it runs. After a crash it may hold these, and
-  -- maybe some of the tail with them. While the state runs, so does the store
+  -- the store belongs to the state's node, and has exactly the committed records while it runs. After a crash it may
+  -- have these and also some of the tail. While the state runs, the store runs too
   pub record IsKept (kept : StoredView S) : Type 0 where
     pub opening : kept.state.opening ≤ kept.state.committed
     pub committed : kept.state.committed ≤ length kept.state.journal
@@ -60,7 +60,7 @@ module _ {S : Type 0} (g : Ghosts S) where
     pub has : g.is_honest kept.store → g.must_reopen kept.store ≡ false → HaveCommitted kept.state (g.content kept.store)
     pub found : g.is_honest kept.store → (next : Places) → g.may_hold kept.store next → HaveSome kept.state next
 
-  -- what a commit of at most `max` records makes of a state and its store, and returns
+  -- how a commit of at most `max` records changes a state and its store, and its result
   pub record Commits (old new : StoredView S) (max : ℕ) (result : Result ℕ StoreFault) : Type 0 where
     pub state : new.state ≡ committed_by old.state result
     pub count : IfOk result (λ count. count ≡ length (batch_of old.state max))
@@ -74,8 +74,8 @@ abbrev pub count_with : ℕ → Option StoreFault → ℕ
 count_with n None = n
 count_with n (Some fault) = count_after n fault
 
--- the state goes by a scheme, is a node's, and had records at its opening, as is known of the desks of its run; and the
--- fault is that which stopped the store, if one did
+-- the state has a scheme, a node and the records of its opening, and these are as is known of the desks of its run; and
+-- the fault is the one that stopped the store, if one did
 module _ {S : Type 0} (g : Ghosts S) (opened : Scheme → Node → List Input → ℕ → Type 0) where
   pub record IsAtDesk (kept : StoredView S) (fault : Option StoreFault) : Type 0 where
     pub before : ℕ
@@ -89,8 +89,8 @@ module _ {S : Type 0} (g : Ghosts S) (opened : Scheme → Node → List Input �
     pub begins : opened kept.state.scheme kept.state.node (take kept.state.opening kept.state.journal) (g.faults kept.store)
     pub runs : kept.state.runs ≡ true
 
-  -- No clause can name what lies under a desk's lock, so each says of some state and its store that they are of this
-  -- run, and that this is what they committed or had to send.
+  -- No clause can name the state and store under a desk's lock, so each says that there are some state and store of
+  -- this run which committed these records or had this message to send.
   pub record IsOfRun (kept : StoredView S) : Type 0 where
     pub keeps : IsKept g kept
     pub fault : Option StoreFault
@@ -100,11 +100,11 @@ module _ {S : Type 0} (g : Ghosts S) (opened : Scheme → Node → List Input �
   abbrev pub IsCommit : ℕ → Result ℕ StoreFault → Type 0
   IsCommit max result = (old : StoredView S) × (new : StoredView S) × IsOfRun old × IsOfRun new × Commits g old new max result
 
-  -- a message to send, which a store has as a committed record's
+  -- a message to send, which a committed record in the store sends
   abbrev pub IsToSend : Node → ℕ → Option (ℕ × Message) → Type 0
   IsToSend peer from found = (kept : StoredView S) × IsOfRun kept × HasToSend kept.state peer from found
 
-  -- as many records as that are committed, and a store has them
+  -- that many records are committed, and a store has them
   abbrev pub AreStored : ℕ → Type 0
   AreStored count = (kept : StoredView S) × IsOfRun kept × (count ≤ kept.state.committed)
 
@@ -115,6 +115,6 @@ abbrev pub fault_after : Option StoreFault → Result ℕ StoreFault → Option 
 fault_after fault (Ok count) = fault
 fault_after fault (Err told) = Some told
 
--- as many records as `count` are committed, or they aren't, at some state of the run
+-- the first `count` records are committed, or they aren't, at some state of the run
 abbrev pub IsConfirmationOfRun : {S : Type 0} → Ghosts S → (Scheme → Node → List Input → ℕ → Type 0) → ℕ → Confirmation → Type 0
 IsConfirmationOfRun {S} g opened count confirmation = (kept : StoredView S) × IsOfRun g opened kept × IsConfirmation kept.state count confirmation

@@ -1,4 +1,4 @@
--- What loading a store into a core finds.
+-- The results of loading a store into a core.
 use Rattle.std.specs.Prelude.{◌≡◌, ◌⊎◌, ◌+◌, ◌*◌, ◌<◌, ◌≤◌, ℕ, false, List, length, take, Result, Ok, Err, IfOk, IfErr, OnOk, IsTrue}
 use Rattle.units.specs.declared.code.Node.{Node}
 use Rattle.wire.specs.declared.input.Input.{Input}
@@ -20,8 +20,8 @@ use Rattle.desk.specs.Views.{StateView}
 abbrev pub IsInPage : ℕ → ℕ → Type 0
 IsInPage pages place = (pages * page_size ≤ place) × (place < (pages + 1) * page_size)
 
--- the place is the first without a record; and all places of the pages before its own have records that are each
--- recorded there after those before it
+-- the place is the first without a record; and all places of the pages before it have records, and each is recorded
+-- after those before it
 pub record IsUnreadableAt (scheme : Scheme) (n : Node) (places : Places) (place : ℕ) : Type 0 where
   pub pages : ℕ
   pub here : IsInPage pages place
@@ -30,8 +30,8 @@ pub record IsUnreadableAt (scheme : Scheme) (n : Node) (places : Places) (place 
   pub recorded : Replays scheme n records
   pub damaged : IsDamagedAt place places
 
--- all places to the end of the place's page have records, of which the one at that place is the first that isn't
--- recorded there after those before it
+-- all places to the end of the place's page have records, and the one at that place is the first that isn't recorded
+-- after those before it
 pub record IsUnrecordedAt (scheme : Scheme) (n : Node) (places : Places) (place : ℕ) : Type 0 where
   pub pages : ℕ
   pub here : IsInPage pages place
@@ -49,10 +49,10 @@ abbrev pub journal_in : Result StateView StoreFault → Result (List Input) Stor
 journal_in (Ok held) = Ok held.journal
 journal_in (Err fault) = Err fault
 
--- the store is honest; what each place has while it runs; what a crash or a reopening may find; a fault waits for a
--- reopening
+-- the store is honest; the contents of each place while it runs; what a crash or a reopening may leave there; after a
+-- fault the store must be reopened
 module _ {S : Type 0} (g : Ghosts S) where
-  -- the store was read as far as this journal goes, page by page; no public contract cites it
+  -- the store was read page by page, up to the end of this journal; no public contract cites it
   pub record IsReadTo (old new : S) (journal : List Input) : Type 0 where
     pub same : (new ≡ old) ⊎ ((g.must_reopen old ≡ false) × (g.must_reopen new ≡ false))
     pub honest : g.is_honest new → g.is_honest old
@@ -61,7 +61,7 @@ module _ {S : Type 0} (g : Ghosts S) where
     pub whole : g.is_honest new → (pages : ℕ) × (length journal ≡ pages * page_size)
 
   -- all records were read and recorded, at that node under that scheme; or a place is damaged, in the first page that
-  -- has such a place: the first that can't be read or, where all of the page can, the first that isn't recorded; or
+  -- has such a place: the first that can't be read or, if the whole page can be read, the first that isn't recorded; or
   -- reading failed
   pub record IsLoaded (scheme : Scheme) (n : Node) (old new : S) (result : Result (List Input) StoreFault) : Type 0 where
     pub reopen : IsTrue (g.must_reopen old) → (result ≡ Err Reopen) × (new ≡ old)
@@ -74,7 +74,7 @@ module _ {S : Type 0} (g : Ghosts S) where
     pub kept : g.is_honest new → g.must_reopen new ≡ false → g.content new ≡ g.content old
     pub crash : g.is_honest new → g.must_reopen old ≡ false → (next : Places) → g.may_hold new next → next ≡ g.content old
 
-  -- after one page more; no public contract cites it
+  -- the result after one more page; no public contract cites it
   abbrev pub IsReadOn : Scheme → Node → S → S → List Input → Result Page StoreFault → Type 0
   IsReadOn scheme n old new journal (Ok Full) = IsReadTo old new journal
   IsReadOn scheme n old new journal (Ok Last) = IsLoaded scheme n old new (Ok journal)

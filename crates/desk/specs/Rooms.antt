@@ -1,4 +1,4 @@
--- What is true of each seat: it has room for what it is about to be told, and its notes tell of no record.
+-- What holds of each seat: it has room for the next note, and its notes are of inputs that weren't recorded.
 use Rattle.std.specs.Prelude.{◌<◌, ℕ, List, All, Option, Some, None}
 use Rattle.protocol.specs.declared.node_core.Stepped.TheVariants.{Recorded, Repeat, Late}
 use Rattle.desk.specs.declared.notes.Asked.{Asked}
@@ -19,7 +19,7 @@ TellNoRecord notes = All (λ (note : Note). IsNoRecord (note.told)) notes
 
 -- ---- what the code follows; no public contract cites what stands below
 
--- there is room for one ticket more and one note more, where something is to be asked
+-- there is room for one more ticket and one more note, if something is about to be asked
 abbrev pub HasRoom : Option Asked → ℕ → ℕ → ℕ → ℕ → Type 0
 HasRoom None tickets room_of_tickets notes room_of_notes = Unit {0}
 HasRoom (Some asked) tickets room_of_tickets notes room_of_notes = (tickets < room_of_tickets) × (notes < room_of_notes)

@@ -1,4 +1,4 @@
--- Whether what the seats were told is what one thread alone would have been told along the journal.
+-- Whether the notes of the seats are those that a single thread would have along the journal.
 use Rattle.std.specs.Prelude.{◌≡◌, ℕ, ◌<◌, ◌≤◌, List, length, take, All, Any, Result, Ok, Err}
 use Rattle.units.specs.declared.code.Node.{Node}
 use Rattle.wire.specs.declared.input.Input.{Input}
@@ -14,36 +14,37 @@ use Rattle.desk.specs.Covering.{Covers, IsMissing, IsTwice, NoneMissing, NoneTwi
 use Rattle.desk.specs.Expected.{expected}
 use Rattle.desk.specs.Views.{StateView, SeatView}
 
--- the journal bears a note: after the first of its records, as many as the note says, what is expected is what was told
+-- the journal bears a note out: after as many of its first records as the note's length says, the expected result is
+-- the note's
 abbrev pub Bears : Scheme → Node → List Input → Note → Type 0
 Bears scheme n journal note = (note.length ≤ length journal) × (expected scheme n (take note.length journal) note.asked ≡ note.told)
 
 abbrev pub AllBorne : Scheme → Node → List Input → SeatView → Type 0
 AllBorne scheme n journal seat = All (Bears scheme n journal) seat.notes
 
--- a note of that length that the journal doesn't bear
+-- a note of that length that the journal doesn't bear out
 abbrev pub SomeUnborne : Scheme → Node → List Input → ℕ → SeatView → Type 0
 SomeUnborne scheme n journal len seat = Any (λ (note : Note). (note.length ≡ len) × (Bears scheme n journal note → ⊥)) seat.notes
 
--- all that was confirmed is committed
+-- all that was confirmed to the seat is committed
 abbrev pub IsWithin : ℕ → SeatView → Type 0
 IsWithin committed seat = seat.confirmed ≤ committed
 
 abbrev pub IsBeyond : ℕ → ℕ → SeatView → Type 0
 IsBeyond committed len seat = (seat.confirmed ≡ len) × (committed < len)
 
--- the seat was never told of a shorter journal than before
+-- the lengths that the seat noted never fell
 abbrev pub Stood : SeatView → Type 0
 Stood seat = seat.lengths ≡ lengths.Grew
 
--- what the seats were told is what that node alone would have told under that scheme
+-- the notes of the seats are those that the node alone would have made under that scheme
 pub record IsSettled (scheme : Scheme) (n : Node) (held : StateView) (seats : List SeatView) : Type 0 where
   pub covers : Covers held seats
   pub within : All (IsWithin held.committed) seats
   pub stood : All Stood seats
   pub borne : All (AllBorne scheme n held.journal) seats
 
--- the tickets aren't the records since the opening: each fault with its cause, where no fault before it has a cause
+-- the tickets aren't the records since the opening: each fault with its cause, if no earlier fault has one
 abbrev pub IsUncovered : StateView → List SeatView → Unsettled → Type 0
 IsUncovered held seats (Missing place) = IsMissing held seats place
 IsUncovered held seats (Twice place) = NoneMissing held seats × IsTwice held seats place
@@ -62,7 +63,7 @@ abbrev pub Settles : Scheme → Node → StateView → List SeatView → Result 
 Settles scheme n held seats (Ok life) = IsSettled scheme n held seats × (life ≡ record { opening = held.opening; records = length held.journal; committed = held.committed })
 Settles scheme n held seats (Err fault) = IsFaultOf scheme n held seats fault
 
--- of settling, without the core that it returns
+-- the result of settling, without the core that is returned
 abbrev pub life_of : {C : Type 0} → Result (Settled C) Unsettled → Result Life Unsettled
 life_of (Ok settled) = Ok settled.life
 life_of (Err fault) = Err fault

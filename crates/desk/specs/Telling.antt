@@ -1,4 +1,4 @@
--- What a seat keeps of what it is told.
+-- What a seat keeps of each result.
 use Rattle.std.specs.Prelude.{ℕ, Bool, ◌||◌, ◌==◌, nat_lt, max, List, [], ◌∷◌, ◌++◌, if◌then◌else◌, None}
 use Rattle.units.specs.RefusalCodes.{node_stopped, out_of_memory}
 use Rattle.protocol.specs.declared.node_core.Stepped.TheVariants.{Recorded, Repeat, Late}
@@ -11,7 +11,7 @@ use Rattle.desk.specs.declared.notes.Told.{Told}
 use Rattle.desk.specs.declared.notes.Told.TheVariants.{Step, Status, Refused}
 use Rattle.desk.specs.Views.{SeatView}
 
--- an input that was recorded is one ticket more
+-- an input that was recorded adds one ticket
 abbrev pub tickets_after : List Ticket → Told → Asked → List Ticket
 tickets_after tickets (Step (Recorded place)) (Take input) = tickets ++ record { place = place; input = input } ∷ []
 tickets_after tickets (Step (Recorded place)) (Query id) = tickets
@@ -24,7 +24,7 @@ tickets_after tickets (Refused refusal) asked = tickets
 abbrev pub is_unjudged : ℕ → Bool
 is_unjudged code = (code == node_stopped) || (code == out_of_memory)
 
--- anything else is one note more, but for these refusals
+-- any other result adds one note, except these refusals
 abbrev pub notes_after : List Note → Told → Note → List Note
 notes_after notes (Step (Recorded place)) note = notes
 notes_after notes (Step Repeat) note = notes ++ note ∷ []
@@ -32,7 +32,7 @@ notes_after notes (Step Late) note = notes ++ note ∷ []
 notes_after notes (Status status) note = notes ++ note ∷ []
 notes_after notes (Refused refusal) note = if is_unjudged refusal.code then notes else notes ++ note ∷ []
 
--- what a seat has kept when it was told this
+-- the seat after it has kept this note
 abbrev pub kept : SeatView → Note → SeatView
 kept seat note = record seat {
   tickets = tickets_after seat.tickets note.told note.asked;

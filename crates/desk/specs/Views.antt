@@ -1,4 +1,4 @@
--- What contracts see of a state, and of a seat.
+-- How contracts see a state, and a seat.
 use Rattle.std.specs.Prelude.{ℕ, Bool, true, List, Option, length, take, drop}
 use Rattle.units.specs.declared.code.Node.{Node}
 use Rattle.wire.specs.declared.input.Input.{Input}
@@ -23,7 +23,7 @@ pub record StateView : Type 0 where
 abbrev pub opened_with : Scheme → Node → List Input → StateView
 opened_with scheme n journal = record { scheme = scheme; node = n; journal = journal; committed = length journal; opening = length journal; runs = true }
 
--- what the whole journal says
+-- the history of the whole journal
 abbrev pub past : StateView → List Entry
 past held = history held.scheme held.node held.journal
 
@@ -34,21 +34,21 @@ committed_records held = take held.committed held.journal
 abbrev pub tail : StateView → List Input
 tail held = drop held.committed held.journal
 
--- what the committed records say
+-- the history of the committed records
 abbrev pub committed_past : StateView → List Entry
 committed_past held = history held.scheme held.node (committed_records held)
 
--- what a seat was told
+-- the notes of a seat
 pub record SeatView : Type 0 where
   -- the inputs that were recorded, and their places
   pub tickets : List Ticket
-  -- what else it was told
+  -- all other results that it noted
   pub notes : List Note
-  -- the greatest length that it was told
+  -- the greatest length of the journal that it noted
   pub seen : ℕ
   -- whether each length was at least those before it
   pub lengths : Lengths
   -- the greatest length that was confirmed to it
   pub confirmed : ℕ
-  -- what it is about to ask, for which it has room
+  -- the question that it is about to ask, for which it has room
   pub prepared : Option Asked

@@ -1,5 +1,5 @@
-//! What lies under a desk's lock. The clauses of these functions say it of some state, so that those of the desk, which
-//! can't name the state, follow from them.
+//! What lies under a desk's lock. The clauses of these functions hold for some state, so that the clauses of the desk's
+//! functions, which can't name the state, follow from them.
 ghost use Rattle.std.specs.Prelude.{◌≡◌, IfOk};
 ghost use Rattle.desk.specs.Desks.{IsOf, IsTakeOf};
 ghost use Rattle.desk.specs.Keeping.{IsAtDesk, IsCommit, IsKept, IsConfirmationOfRun, IsToSend, MayOpen, fault_after};
@@ -31,11 +31,11 @@ fn fault_after(
     }
 }
 
-/// A state with its store, of a run of which that is known, and the fault that stopped the store, if one did.
+/// A state with its store, of a run of which `O` is known, and the fault that stopped the store, if one did.
 pub(crate) struct AtDesk<O: Opening, C: NodeCore, S: NodeStore> {
     stored: Stored<C, S>,
     fault: Option<StoreFault>,
-    /// How many inputs it was given that weren't recorded.
+    /// How many of the inputs that it was given weren't recorded.
     unrecorded: usize,
     run: PhantomData<O>,
 }
@@ -100,7 +100,7 @@ impl<O: Opening, C: NodeCore, S: NodeStore> AtDesk<O, C, S> {
         taken
     }
 
-    /// Counts what was taken, where it wasn't recorded.
+    /// Counts the input if it wasn't recorded.
     fn count(&mut self, taken: &Taken)
         ensures { self.new ≡ self.old }
     {
@@ -109,7 +109,7 @@ impl<O: Opening, C: NodeCore, S: NodeStore> AtDesk<O, C, S> {
         }
     }
 
-    /// How many inputs it was given that weren't recorded.
+    /// How many of the inputs that it was given weren't recorded.
     pub(crate) fn unrecorded(&self) -> usize {
         self.unrecorded
     }
@@ -123,7 +123,7 @@ impl<O: Opening, C: NodeCore, S: NodeStore> AtDesk<O, C, S> {
         committed
     }
 
-    /// A copy of what `next_send` of the state returns; or `NoMemory`.
+    /// A copy of the message that `next_send` of the state returns, with its key; or `NoMemory`.
     pub(crate) fn next_send(
         &self,
         peer: Node,

@@ -1,4 +1,4 @@
-//! What wakes the threads that wait for something to happen at a desk.
+//! Wakes the threads that wait for something to happen at a desk.
 ghost use Rattle.std.specs.Prelude.{◌≡◌, ◌+◌, ◌%◌, ◌^◌};
 
 use std::rt::Clock as SystemClock;
@@ -8,19 +8,19 @@ use std::time::Duration;
 /// How many seconds a thread waits at a bell at most, before it looks again by itself.
 pub const LONGEST_QUIET: u64 = 1;
 
-/// A number that threads can wait for to change.
+/// A number that threads wait for to change.
 pub trait Bell: Drop {
     /// A bell whose number is 0.
     fn new() -> Self;
 
-    /// The number now.
+    /// The current number.
     fn rings<R: Wait>(&self, rt: &R) -> u64;
 
-    /// Adds one to the number, where 0 follows the greatest, and wakes those that wait.
+    /// Adds one to the number, which wraps around to 0, and wakes those that wait.
     fn ring<R: Wait>(&self, rt: &R);
 
-    /// Returns once the number is another than `rings`, and after `LONGEST_QUIET` seconds at the latest. So whoever
-    /// waits looks again then, also where nothing rang.
+    /// Returns once the number differs from `rings`, and after `LONGEST_QUIET` seconds at the latest, so that a waiting
+    /// thread looks again even if nothing rang.
     fn wait<R: Wait + SystemClock>(&self, rt: &R, rings: u64);
 }
 
@@ -39,7 +39,7 @@ impl Drop for RoomBell {
     }
 }
 
-/// The number after one ring more.
+/// The number after one more ring.
 fn rung_once(rings: u64) -> u64
     ensures { result ≡ (rings + 1) % 2 ^ 64 }
 {
@@ -63,7 +63,7 @@ impl Bell for RoomBell {
             let mut rings = self.rings.lock(rt);
             *rings = rung_once(*rings);
         }
-        // Whoever wakes takes the lock, so that it is let go before.
+        // The threads that wake take the lock, so it is let go before.
         self.rung.notify_all();
     }
 

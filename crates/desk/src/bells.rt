@@ -1,4 +1,4 @@
-//! What wakes the threads of a node, each where there is something for it to do.
+//! The bells that wake the threads of a node, each when there is work for it.
 
 use crate::bell::Bell;
 use std::alloc::Global;
@@ -6,7 +6,7 @@ use std::sync::Wait;
 use std::sync::atomic::{AtomicBool, Ordering};
 use units::{NoMemory, Node};
 
-/// The bell of whoever sends to a peer, and whether it rings after the commit that is being made.
+/// The bell of the thread that sends to a peer, and whether it rings after the commit that is being made.
 #[derive(Drop)]
 struct PeerBell<B: Bell> {
     peer: Node,
@@ -14,8 +14,8 @@ struct PeerBell<B: Bell> {
     is_due: AtomicBool,
 }
 
-/// The bells of a desk: one for the thread that commits, one for those that wait for a commit, and one for each peer, at
-/// which the thread waits that sends to it. A node has at most 32 peers.
+/// The bells of a desk: one for the thread that commits, one for those that wait for a commit, and one for each peer,
+/// at which the thread that sends to it waits. A node has at most 32 peers.
 pub struct Bells<B: Bell> {
     work: B,
     commits: B,
@@ -59,19 +59,19 @@ impl<B: Bell> Bells<B> {
         Ok(bells)
     }
 
-    /// The bell that rings where a thread begins to wait for a commit, and where the desk stops: for the thread that
-    /// commits.
+    /// The bell for the thread that commits. It rings when a thread begins to wait for a commit, and when the desk
+    /// stops.
     pub fn work(&self) -> &B {
         &self.work
     }
 
-    /// The bell that rings after each commit, and where the desk stops: for those that wait for a commit.
+    /// The bell for the threads that wait for a commit. It rings after each commit, and when the desk stops.
     pub fn commits(&self) -> &B {
         &self.commits
     }
 
-    /// The bell that rings after each commit of a record that sends a message to the peer, and where the desk stops:
-    /// for the thread that sends to it. Where the desk has no bell of that peer, it is that of all commits.
+    /// The bell for the thread that sends to the peer. It rings after each commit of a record that sends a message to
+    /// the peer, and when the desk stops. If the desk has no bell of that peer, this is the bell of all commits.
     pub fn of_peer(&self, peer: Node) -> &B {
         match self.peers.iter().find(|it| it.peer == peer) {
             Some(found) => &found.bell,
@@ -96,7 +96,7 @@ impl<B: Bell> Bells<B> {
         }
     }
 
-    /// Rings for everyone, as where the desk has stopped.
+    /// Rings all bells, for instance when the desk has stopped.
     pub(crate) fn ring_all<R: Wait>(&self, rt: &R) {
         self.work.ring(rt);
         self.commits.ring(rt);

@@ -1,4 +1,4 @@
-//! The moment that it is.
+//! The current moment.
 ghost use Rattle.std.specs.Prelude.{◌≡◌, ◌≤◌, ◌/◌, min};
 ghost use Rattle.std.specs.Prelude.{ℕ};
 ghost use Rattle.std.specs.Duration.{as_nanos};
@@ -9,12 +9,12 @@ use status::Moment;
 use std::time::{Clock as SystemClock, Duration, SystemTime};
 use units::limits::LAST_MOMENT;
 
-/// What tells the moment.
+/// A clock that gives the current moment.
 pub trait Clock {
-    /// It told that moment.
+    /// It gave that moment.
     ghost tells: { Self → Moment → Type 0 };
 
-    /// The moment that it is.
+    /// The current moment.
     fn now(&self) -> Moment
         ensures { tells self.now result };
 }
@@ -42,12 +42,12 @@ fn moment_after(since: Duration) -> Moment
 }
 
 impl<R: SystemClock> Clock for WallClock<R> {
-    // No clause of the standard library says what a runtime's clock returned, so that it is a moment is all that can
-    // be said here. Which one it is rests on the body of `now`.
+    // No clause of the standard library says which time a runtime's clock returned. All that can be said here is that
+    // the result is a moment; that it is the right one rests on the body of `now`.
     ghost tells = { λ _ moment. moment.seconds ≤ last_moment };
 
-    /// The whole seconds since the epoch that have passed, at most `LAST_MOMENT`. The least moment where the
-    /// runtime's clock can't be read.
+    /// The whole seconds since the epoch that have passed, at most `LAST_MOMENT`. The least moment if the runtime's
+    /// clock can't be read.
     fn now(&self) -> Moment {
         let since = match SystemTime::now(&self.system) {
             Ok(time) => time

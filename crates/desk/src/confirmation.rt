@@ -1,13 +1,13 @@
-//! What has become of what a state was asked.
+//! Whether the result of a call is confirmed.
 
 use crate::state::{Receipt, Taken};
 
-/// How far the records are committed that the journal had when something was taken.
+/// Whether the records are committed that the journal had when a result was taken.
 #[derive(Drop)]
 pub(crate) enum Confirmation {
-    /// All are.
+    /// All of them are.
     Committed(Receipt),
-    /// Not all are, and the state runs. What was taken is given back.
+    /// Not all are, and the state runs. The taken result is handed back.
     Awaited(Taken),
     /// Not all are, and the state has stopped.
     Stopped,

@@ -44,8 +44,8 @@ fn count_seats(counts: &mut [usize], opening: usize, seats: &[Seat])
     }
 }
 
-/// How often the tickets of the seats name each of the places from `opening` up to `records`: never, once, or 2 where
-/// more often. Takes each ticket once. Or `NoMemory`.
+/// How often the tickets of the seats name each of the places from `opening` up to `records`: never, once, or 2 for
+/// more often. Goes through the tickets once. Fails with `NoMemory`.
 pub(crate) fn counts_of(
     alloc: Global,
     seats: &[Seat],

@@ -1,4 +1,4 @@
-//! A node's state with its store, which several threads share.
+//! A node's state with its store, shared by several threads.
 ghost use Rattle.std.specs.Prelude.{◌≡◌, max, Some, IfOk, MatchResult};
 ghost use Rattle.desk.specs.Desks.{IsOf, IsQueryOf, IsTakeOf, lacking};
 ghost use Rattle.desk.specs.Expected.{stopped};
@@ -24,15 +24,15 @@ use units::refusal_code::NODE_STOPPED;
 use units::{NoMemory, Node, Refusal};
 use wire::{Input, Message};
 
-/// What a desk leaves: the state with its store, and the fault that stopped the store, if one did.
+/// The remains of a desk: the state with its store, and the fault that stopped the store, if one did.
 #[derive(Drop)]
 pub struct Ended<C: NodeCore, S: NodeStore> {
     pub stored: Stored<C, S>,
     pub fault: Option<StoreFault>,
 }
 
-/// A node's state and its store under a lock, and bells that ring where a thread waits for a commit, where the state has
-/// committed records, and where it has stopped. A thread brings a seat of its own to each call that tells it something.
+/// A node's state and its store under a lock, and bells that ring when a thread waits for a commit, when the state has
+/// committed records, and when it has stopped. A thread brings a seat of its own to each call whose result it notes.
 pub struct Desk<O: Opening, C: NodeCore, S: NodeStore, B: Bell> {
     locked: Mutex<AtDesk<O, C, S>>,
     bells: Bells<B>,
@@ -58,11 +58,11 @@ impl<O: Opening, C: NodeCore, S: NodeStore, B: Bell> Desk<O, C, S, B> {
         }
     }
 
-    /// Has the state take an input, and returns what it tells. The seat has kept it. No bell rings: the thread that
-    /// commits is woken by whoever waits in `confirm`, and looks every `LONGEST_QUIET` seconds by itself.
+    /// Has the state take an input, and returns the result. The seat has kept it. No bell rings: the thread that
+    /// commits is woken by the threads that wait in `confirm`, and looks every `LONGEST_QUIET` seconds by itself.
     ///
-    /// Where memory ran out before the state was asked, it returns refusal `OUT_OF_MEMORY` with the length of the
-    /// journal, and of that the seat has kept the length.
+    /// If memory runs out before the state is asked, this returns refusal `OUT_OF_MEMORY` with the length of the
+    /// journal, and the seat keeps only the length.
     pub fn take<R: Wait>(&self, rt: &R, seat: &mut Seat, input: Input) -> Taken
         ensures asked { result.asked ≡ Asked.Take input }
         ensures told { IsTakeOf input result }
@@ -89,7 +89,7 @@ impl<O: Opening, C: NodeCore, S: NodeStore, B: Bell> Desk<O, C, S, B> {
         }
     }
 
-    /// As `take_at`, where the seat has made room.
+    /// As `take_at`, once the seat has made room.
     fn take_prepared<R: Wait, G: Gate>(
         &self,
         rt: &R,
@@ -116,7 +116,7 @@ impl<O: Opening, C: NodeCore, S: NodeStore, B: Bell> Desk<O, C, S, B> {
         locked.take(input)
     }
 
-    /// Tells refusal `OUT_OF_MEMORY` of what a seat had no room for.
+    /// Returns refusal `OUT_OF_MEMORY` for a question for which a seat had no room.
     fn refuse<R: Wait, G: Gate>(&self, rt: &R, seat: &mut Seat, asked: Asked, gate: &G) -> Taken
         ensures asked { result.asked ≡ asked }
         ensures told { result.told ≡ lacking }
@@ -136,10 +136,10 @@ impl<O: Opening, C: NodeCore, S: NodeStore, B: Bell> Desk<O, C, S, B> {
         locked.state().refuse_for_memory(asked)
     }
 
-    /// Asks the state where a transaction stands, and returns what it tells. The seat has kept it.
+    /// Asks the state where a transaction stands, and returns the result. The seat has kept it.
     ///
-    /// Where memory ran out before the state was asked, it returns refusal `OUT_OF_MEMORY` with the length of the
-    /// journal, and of that the seat has kept the length.
+    /// If memory runs out before the state is asked, this returns refusal `OUT_OF_MEMORY` with the length of the
+    /// journal, and the seat keeps only the length.
     pub fn query<R: Wait>(&self, rt: &R, seat: &mut Seat, id: TransactionId) -> Taken
         ensures asked { result.asked ≡ Asked.Query id }
         ensures told { IsQueryOf id result }
@@ -151,7 +151,7 @@ impl<O: Opening, C: NodeCore, S: NodeStore, B: Bell> Desk<O, C, S, B> {
         }
     }
 
-    /// As `query`, where the seat has made room.
+    /// As `query`, once the seat has made room.
     fn query_prepared<R: Wait>(&self, rt: &R, seat: &mut Seat, id: TransactionId) -> Taken
         requires { seat.old.prepared ≡ Some (Asked.Query id) }
         ensures asked { result.asked ≡ Asked.Query id }
@@ -170,11 +170,11 @@ impl<O: Opening, C: NodeCore, S: NodeStore, B: Bell> Desk<O, C, S, B> {
         self.locked.lock(rt).state().query_some(id)
     }
 
-    /// Waits until all records are committed that the journal had when this was taken, and returns a receipt of it.
-    /// The seat has kept that they are. Where they aren't yet, the thread that commits is woken. It looks after each
-    /// commit, and every `LONGEST_QUIET` seconds by itself.
+    /// Waits until all records are committed that the journal had when this was taken, and returns a receipt of it. The
+    /// seat has kept that they are. If they aren't committed yet, the thread that commits is woken. This looks after
+    /// each commit, and every `LONGEST_QUIET` seconds by itself.
     ///
-    /// Fails with `NODE_STOPPED` where the state stopped before that commit. The seat is then as it was.
+    /// Fails with `NODE_STOPPED` if the state stopped before that commit. The seat is then as it was.
     pub fn confirm<R: Wait + SystemClock>(
         &self,
         rt: &R,
@@ -196,8 +196,8 @@ impl<O: Opening, C: NodeCore, S: NodeStore, B: Bell> Desk<O, C, S, B> {
         }
     }
 
-    /// As `confirm`, for a thread that doesn't have the seat with which this was taken. Whoever has a seat keeps the
-    /// receipt with it by `Seat::confirm`.
+    /// As `confirm`, for a thread that doesn't have the seat with which this was taken. The thread that has the seat
+    /// passes the receipt to `Seat::confirm`.
     pub fn receipt<R: Wait + SystemClock>(&self, rt: &R, taken: Taken) -> Result<Receipt, Refusal>
         ensures { MatchResult result
             (λ receipt. (receipt ≡ taken) × AreStored S.NodeStore O.opened taken.length)
@@ -244,10 +244,10 @@ impl<O: Opening, C: NodeCore, S: NodeStore, B: Bell> Desk<O, C, S, B> {
         self.locked.lock(rt).confirmation_of(taken)
     }
 
-    /// Appends the first records that aren't committed, at most `BATCH`, to the store, and returns how many: these
-    /// are committed now. It holds the lock until the store has them. Where there are none, and where the state was
-    /// stopped, it returns 0, and the store is as it was. Else those are woken that wait for a commit, and the threads
-    /// that send to the receivers of what was committed.
+    /// Appends the first records that aren't committed, at most `BATCH`, to the store, and returns how many: these are
+    /// committed now. It holds the lock until the store has them. If there are none, or the state was stopped, it
+    /// returns 0, and the store is as it was. Otherwise it wakes the threads that wait for a commit, and those that
+    /// send to the receivers of the committed messages.
     ///
     /// Fails as `append` of the store does. Then the state has stopped, and `end` returns the fault.
     pub fn commit_next<R: Wait>(&self, rt: &R) -> Result<usize, StoreFault>
@@ -282,8 +282,8 @@ impl<O: Opening, C: NodeCore, S: NodeStore, B: Bell> Desk<O, C, S, B> {
     }
 
     /// The least key, from `from` on, of a message to `peer` that the committed records send and no record of the
-    /// journal acknowledges, with a copy of the message; or `None` where there is no such message, and where the
-    /// state was stopped. Fails with `NoMemory` where memory ran out.
+    /// journal acknowledges, with a copy of the message; or `None` if there is no such message, or if the state was
+    /// stopped. Fails with `NoMemory` if memory ran out.
     pub fn next_send<R: Wait>(
         &self,
         rt: &R,
@@ -305,14 +305,14 @@ impl<O: Opening, C: NodeCore, S: NodeStore, B: Bell> Desk<O, C, S, B> {
         self.locked.lock(rt).state().committed_count()
     }
 
-    /// How many inputs the state was given that weren't recorded: each of them left a note in a seat, where the seat had
-    /// room. There may be more once this returns.
+    /// How many of the inputs that the state was given weren't recorded: each of them left a note in a seat, if the
+    /// seat had room. There may be more once this returns.
     pub fn unrecorded_count<R: Wait>(&self, rt: &R) -> usize {
         self.locked.lock(rt).unrecorded()
     }
 
     /// The bells, for threads that wait until there is more to commit or to send: read a bell's number, look at the
-    /// desk, and wait for another number where there is nothing to do. Such a wait also ends after `LONGEST_QUIET`
+    /// desk, and wait for another number if there is nothing to do. Such a wait also ends after `LONGEST_QUIET`
     /// seconds, so look again after it.
     pub fn bells(&self) -> &Bells<B> {
         &self.bells

@@ -1,4 +1,4 @@
-//! Where a desk lets a caller hold its threads, as tests do.
+//! Spots at which a desk lets a caller hold its threads, as tests do.
 
 use units::Node;
 
@@ -9,7 +9,7 @@ pub enum Spot {
     Locked(Node),
 }
 
-/// What a desk passes at each spot of a call.
+/// A gate that a desk passes at each spot of a call.
 pub trait Gate {
     /// Returns once the thread may go on.
     fn pass(&self, spot: Spot);

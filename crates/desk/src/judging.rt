@@ -1,4 +1,4 @@
-//! Whether the journal bears what the seats noted.
+//! Whether the journal bears out the notes of the seats.
 ghost use Rattle.std.specs.Prelude.{◌≡◌, ◌↔◌, ◌++◌, ◌⊎◌, ◌≤◌, [], None, length, take, map, flat_map, All, Any, IfErr, IfOk, OnOk, MatchOption, IsTrue, IsPermutation};
 ghost use Rattle.protocol.specs.Cores.{HasFault};
 ghost use Rattle.units.specs.RefusalCodes.{out_of_memory};
@@ -25,7 +25,8 @@ fn lacks_memory(returned: &Result<Stepped, Refusal>) -> bool
     }
 }
 
-/// What is expected for what was asked, after the core's journal. Where no record is told, the journal is as it was.
+/// The expected result of a question after the core's journal. If it isn't that an input was recorded, the journal is
+/// as it was.
 fn ask<C: NodeCore>(core: &mut C, asked: &Asked) -> Result<Told, NoMemory>
     ensures scheme { C.scheme_of core.new ≡ C.scheme_of core.old }
     ensures node { C.node_of core.new ≡ C.node_of core.old }
@@ -45,7 +46,7 @@ fn ask<C: NodeCore>(core: &mut C, asked: &Asked) -> Result<Told, NoMemory>
     }
 }
 
-/// Whether what is expected after the core's journal is what was told.
+/// Whether the result in the note is the expected one after the core's journal.
 fn is_expected<C: NodeCore>(core: &mut C, note: &Note) -> Result<bool, NoMemory>
     requires { IsNoRecord note.now.told }
     ensures scheme { C.scheme_of core.new ≡ C.scheme_of core.old }
@@ -59,7 +60,7 @@ fn is_expected<C: NodeCore>(core: &mut C, note: &Note) -> Result<bool, NoMemory>
     Ok(told == note.told)
 }
 
-/// Begins anew where the core has more records than that.
+/// Begins anew if the core has more records than that.
 fn rewind<C: NodeCore>(core: &mut C, records: usize) -> Result<(), NoMemory>
     ensures scheme { C.scheme_of core.new ≡ C.scheme_of core.old }
     ensures node { C.node_of core.new ≡ C.node_of core.old }
@@ -89,8 +90,9 @@ fn bring<C: NodeCore>(core: &mut C, journal: &[Input], records: usize) -> Result
     }
 }
 
-/// Whether the journal bears a note. The core has the first records of the journal, and has them after it too, unless
-/// not.
+/// Whether the journal bears the note out: it is long enough, and the note's result is the expected one after as many
+/// records as the note's length says. The core has the first records of the journal before the call, and also after it
+/// if the result is true.
 fn is_borne<C: NodeCore>(core: &mut C, journal: &[Input], note: &Note) -> Result<bool, ReplayFault>
     requires no_record { IsNoRecord note.now.told }
     requires front { C.journal_of core.old ≡ take (length (C.journal_of core.old)) journal.now }
@@ -112,8 +114,8 @@ fn is_borne<C: NodeCore>(core: &mut C, journal: &[Input], note: &Note) -> Result
     }
 }
 
-/// The length of the first note that the journal doesn't bear, or `None` where it bears all. The core has no record
-/// before, and the first records of the journal where it bears all.
+/// The length of the first note that the journal doesn't bear out, or `None` if it bears all out. The core has no
+/// record before the call, and the first records of the journal after it if all are borne out.
 fn unborne_of<C: NodeCore>(
     core: &mut C,
     journal: &[Input],
@@ -160,7 +162,7 @@ fn notes_of(alloc: Global, seats: &[Seat]) -> Result<Vec<&Note>, NoMemory>
     Ok(all)
 }
 
-/// The same, from the lowest length to the greatest.
+/// The same, from the least length to the greatest.
 fn notes_by_length(alloc: Global, seats: &[Seat]) -> Result<Vec<&Note>, NoMemory>
     ensures notes { IfOk result
         (λ all. IsPermutation (flat_map (λ seat. seat.notes) seats.now) (map (λ note. note.now) all.items)) }
@@ -171,8 +173,8 @@ fn notes_by_length(alloc: Global, seats: &[Seat]) -> Result<Vec<&Note>, NoMemory
     Ok(all)
 }
 
-/// The length of a note that the journal of the state doesn't bear, at the core's node under its scheme, or `None`
-/// where it bears all notes of the seats; then the core has the first records of the journal. Goes through the journal
+/// The length of a note that the journal of the state doesn't bear out, at the core's node under its scheme, or `None`
+/// if it bears out all notes of the seats; then the core has the first records of the journal. Goes through the journal
 /// once. Fails with the first record of the journal that the core doesn't record at its place, and with `NoMemory`.
 fn judge<C: NodeCore>(
     core: &mut C,
@@ -193,8 +195,8 @@ fn judge<C: NodeCore>(
     unborne_of(core, state.journal(), notes.as_slice())
 }
 
-/// As `judge`, and where the journal bears all notes the core has the committed records afterwards. They are recorded
-/// once, but where a part of the journal isn't committed.
+/// As `judge`, and if the journal bears out all notes the core has the committed records afterwards. They are recorded
+/// once, unless a part of the journal isn't committed.
 pub(crate) fn find_unborne<C: NodeCore>(
     core: &mut C,
     state: &State<C>,

@@ -1,5 +1,5 @@
-//! A node's state for several threads, what each thread is told, and whether one thread alone would have been told
-//! the same.
+//! A node's state for several threads, the notes of each thread, and whether a single thread would have made the same
+//! notes.
 #![tactic(auto)]
 
 mod at_desk;

@@ -1,4 +1,4 @@
-//! What settling returns.
+//! The result of settling.
 ghost use Rattle.std.specs.Prelude.{◌≡◌};
 
 use thiserror::Error;
@@ -19,26 +19,26 @@ pub struct Settled<C> {
     pub core: C,
 }
 
-/// Why what the seats were told isn't what one thread alone would have been told.
+/// Why the notes of the seats aren't those of a single thread.
 #[derive(Clone, Copy, Debug, PartialEq, Eq, Error)]
 pub enum Unsettled {
-    /// No seat was told of the record at that place.
-    #[error("no thread was told of the record at place {0}")]
+    /// No seat has a ticket of the record at that place.
+    #[error("no thread has a note of the record at place {0}")]
     Missing(usize),
-    /// The record at that place was told more than once.
-    #[error("the record at place {0} was told more than once")]
+    /// The record at that place has more than one ticket.
+    #[error("threads have more than one note of the record at place {0}")]
     Twice(usize),
-    /// What was told to be recorded at that place isn't the record there, or the place isn't one since the opening.
-    #[error("what a thread was told of place {0} isn't the record there")]
+    /// A ticket for that place doesn't have the input recorded there, or the place isn't one since the opening.
+    #[error("a note of the record at place {0} has another record")]
     Differs(usize),
-    /// A seat was told that this number of records is committed, and fewer are.
-    #[error("a thread was told that {0} records are committed, and fewer are")]
+    /// This number of records was confirmed to a seat as committed, and fewer are.
+    #[error("a note has {0} records as committed, and fewer are")]
     NotCommitted(usize),
-    /// A seat was told of a shorter journal than before.
-    #[error("a thread was told of a shorter journal than before")]
+    /// A seat noted a shorter journal after a longer one.
+    #[error("a note has a shorter journal than the note before it")]
     Fell,
-    /// After this number of records, something else is expected than what a seat was told.
-    #[error("what a thread was told after {0} records isn't what is due then")]
+    /// The result that a seat noted after this number of records isn't the expected one.
+    #[error("a note made after {0} records isn't the one that is due then")]
     Untrue(usize),
     /// The record at that place isn't one that the node records there.
     #[error("the record at place {0} isn't one that the node records there")]

@@ -1,4 +1,4 @@
-//! A state from a store.
+//! Loading a state from a store.
 ghost use Rattle.std.specs.Prelude.{◌≡◌, ◌<◌, ◌^◌, [], false, true, length, take, drop, IfOk, Ok};
 ghost use Rattle.stores.specs.Calls.{Loads};
 ghost use Rattle.stores.specs.Faults.{faults_after};
@@ -13,12 +13,12 @@ use std::alloc::Global;
 use stores::{NodeStore, PAGE, StoreFault};
 use wire::Input;
 
-/// A page that was read.
+/// Whether a page that was read is the last.
 #[derive(Clone, Copy, PartialEq)]
 pub(crate) enum Page {
-    /// It has `PAGE` records, so that more may come after it.
+    /// It has `PAGE` records: more may come after it.
     Full,
-    /// It has fewer, so that none comes after it.
+    /// It has fewer: none comes after it.
     Last,
 }
 
@@ -45,7 +45,7 @@ fn damage_of(fault: ReplayFault) -> StoreFault
     }
 }
 
-/// Takes the next records of the store into the core, a page at most.
+/// Takes the next records of the store into the core, at most a page.
 fn read_on<C: NodeCore, S: NodeStore>(core: &mut C, store: &mut S) -> Result<Page, StoreFault>
     ensures scheme { C.scheme_of core.new ≡ C.scheme_of core.old }
     ensures node { C.node_of core.new ≡ C.node_of core.old }
@@ -82,10 +82,10 @@ impl<C: NodeCore> State<C> {
     /// A state that runs and whose journal is the records of the store: the core takes all of them, a page at a time,
     /// and all are committed.
     ///
-    /// Fails as `load_page` of the store does, with `Damaged(p)` also where the record at place p is the first that
-    /// the core doesn't record after those before it, and with `NoMemory`. Where places of several pages are damaged,
-    /// it names one of the first of these pages: the first that has no record, or where each has one the first whose
-    /// record isn't recorded. The store is then as `load_page` leaves it.
+    /// Fails as `load_page` of the store does, also with `Damaged(p)` if the record at place p is the first that the
+    /// core doesn't record after those before it, and with `NoMemory`. If places of several pages are damaged, the
+    /// fault names one in the first of these pages: the first place without a record or, if each place has one, the
+    /// first whose record isn't recorded. The store is then as `load_page` leaves it.
     pub fn load_from<S: NodeStore>(
         alloc: Global,
         mut core: C,

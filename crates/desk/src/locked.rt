@@ -1,5 +1,5 @@
-//! What a desk reads of its state while it holds the lock. The clauses of these functions say it of some state, so that
-//! those of the desk, which can't name the state, follow from them.
+//! What a desk reads of its state while it holds the lock. The clauses of these functions hold for some state, so that
+//! the clauses of the desk's functions, which can't name the state, follow from them.
 ghost use Rattle.std.specs.Prelude.{◌≡◌, false};
 ghost use Rattle.desk.specs.Desks.{IsOf, IsConfirmation, IsQueryOf};
 
@@ -18,7 +18,7 @@ impl<C: NodeCore> State<C> {
         self.query(id)
     }
 
-    /// What has become of what was taken.
+    /// Whether the records that the journal had when this was taken are committed.
     pub(crate) fn confirmation_of(&self, taken: Taken) -> Confirmation
         ensures same { IsOf taken result }
         ensures confirmation { IsConfirmation self.now taken.length result }

@@ -1,4 +1,4 @@
-//! What a state is asked, and what it returns.
+//! Questions to a state, and its results.
 ghost use Rattle.std.specs.Prelude.{◌≡◌};
 ghost use Rattle.desk.specs.Telling.{is_unjudged};
 
@@ -8,7 +8,7 @@ use units::Refusal;
 use units::refusal_code::{NODE_STOPPED, OUT_OF_MEMORY};
 use wire::Input;
 
-/// What a state is asked.
+/// A question to a state.
 #[derive(Debug, Drop)]
 pub enum Asked {
     /// To take that input.
@@ -17,25 +17,25 @@ pub enum Asked {
     Query(TransactionId),
 }
 
-/// What a state returns.
+/// The result of a question.
 #[derive(Clone, Copy, Debug, PartialEq, Eq)]
 pub enum Told {
-    /// What was done with the input.
+    /// How the input was recorded.
     Step(Stepped),
-    /// Where the transaction stands, or `None` where no record is about it.
+    /// Where the transaction stands, or `None` if no record is about it.
     Status(Option<Status>),
     /// The input was refused, or the state had stopped.
     Refused(Refusal),
 }
 
-/// Whether no journal judged what was refused so: the state had stopped, or memory ran out.
+/// Whether the refusal comes from no journal: the state had stopped, or memory ran out.
 pub fn is_unjudged(refusal: Refusal) -> bool
     ensures { result ≡ is_unjudged refusal.code }
 {
     refusal.code == NODE_STOPPED || refusal.code == OUT_OF_MEMORY
 }
 
-/// What was asked, what was returned, and how many records the journal then had.
+/// A question, its result, and how many records the journal then had.
 #[derive(Debug)]
 pub struct Note {
     pub asked: Asked,
@@ -70,11 +70,11 @@ impl Drop for Ticket {
     }
 }
 
-/// How the lengths of the journal that a seat was told follow one another.
+/// Whether the lengths of the journal that a seat noted ever fell.
 #[derive(Clone, Copy, Debug, PartialEq, Eq)]
 pub enum Lengths {
-    /// None was below one before it.
+    /// None was below an earlier one.
     Grew,
-    /// One was below one before it.
+    /// One was below an earlier one.
     Fell,
 }

@@ -6,12 +6,13 @@ ghost use Rattle.scheme.specs.declared.registries.Scheme.{Scheme};
 
 use std::marker::Brand;
 
-/// What is known of the nodes of a run when their desks open. It stays true of what lies under each desk's lock.
+/// What is known of the nodes of a run when their desks open. It stays true of the state and store under each desk's
+/// lock.
 ///
-/// A run picks it where it calls a function that is generic in it, with `Brand` for the type. Where nothing is to be
+/// A run picks it when it calls a function that is generic in it, with `Brand` for the type. If nothing has to be
 /// known, `Brand` itself says nothing.
 pub trait Opening {
-    /// A node goes by that scheme, is that one, has these records when its desk opens, and its store that count of
+    /// A node has that scheme and that name, has these records when its desk opens, and its store has that count of
     /// faults.
     ghost opened: { Scheme → Node → List Input → ℕ → Type 0 };
 }

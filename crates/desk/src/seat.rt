@@ -1,4 +1,4 @@
-//! What one thread was told.
+//! The notes of one thread.
 ghost use Rattle.std.specs.Prelude.{◌≡◌, [], if◌then◌else◌, max, nat_lt, None, Some, OnOk, OnErr};
 ghost use Rattle.units.specs.RefusalCodes.{out_of_memory};
 ghost use Rattle.desk.specs.Rooms.{TellNoRecord};
@@ -14,7 +14,7 @@ use std::mem;
 use units::NoMemory;
 use wire::Input;
 
-/// What one thread was told: the records that it made, and whatever else it learned about the journal.
+/// The notes of one thread: the records that it made, and every other result that it got about the journal.
 #[derive(Debug)]
 pub struct Seat {
     tickets: Vec<Ticket>,
@@ -63,7 +63,7 @@ impl Model for Seat {
 }
 
 impl Seat {
-    /// A seat that was told nothing. Takes no memory.
+    /// A seat without notes. Takes no memory.
     pub fn new(alloc: Global) -> Seat
         ensures { result ≡ record
             { tickets = []; notes = []; seen = 0; lengths = Lengths.Grew; confirmed = 0; prepared = None } }
@@ -78,8 +78,8 @@ impl Seat {
         }
     }
 
-    /// Makes room for what is told of this input, before a state is given it. Fails with `NoMemory`, and the seat is
-    /// as it was.
+    /// Makes room for the result of this input, before a state is given it. Fails with `NoMemory`, and the seat is as
+    /// it was.
     pub fn prepare_input(&mut self, input: &Input) -> Result<(), NoMemory>
         ensures ok { OnOk result (self.new ≡ record self.old { prepared = Some (Asked.Take input.now) }) }
         ensures err { OnErr result (self.new ≡ self.old) }
@@ -88,8 +88,8 @@ impl Seat {
         self.prepare(asked)
     }
 
-    /// Makes room for what is told of this transaction, before a state is asked. Fails with `NoMemory`, and the seat
-    /// is as it was.
+    /// Makes room for the result of this query, before a state is asked. Fails with `NoMemory`, and the seat is as it
+    /// was.
     pub fn prepare_query(&mut self, id: TransactionId) -> Result<(), NoMemory>
         ensures ok { OnOk result (self.new ≡ record self.old { prepared = Some (Asked.Query id) }) }
         ensures err { OnErr result (self.new ≡ self.old) }
@@ -109,8 +109,8 @@ impl Seat {
         Ok(())
     }
 
-    /// Keeps what was told of what the seat made room for: an input that was recorded as a ticket, refusals by
-    /// `NODE_STOPPED` and `OUT_OF_MEMORY` not at all, and all else as a note. Takes no memory.
+    /// Keeps the result of the question for which the seat made room: a recorded input as a ticket, refusals
+    /// `NODE_STOPPED` and `OUT_OF_MEMORY` not at all, and everything else as a note. Takes no memory.
     pub fn keep(&mut self, taken: &Taken)
         requires { self.old.prepared ≡ Some taken.now.asked }
         ensures { self.new ≡ kept self.old taken.now }
@@ -137,8 +137,8 @@ impl Seat {
         self.see(length);
     }
 
-    /// Keeps that the journal had the length of a call for which memory ran out, and nothing else of that call. It
-    /// needs no room. Takes no memory.
+    /// Keeps only the length that the journal had at a call for which memory ran out. It needs no room. Takes no
+    /// memory.
     pub(crate) fn keep_length(&mut self, taken: &Taken)
         requires { taken.now.told ≡ Told.Refused (record { code = out_of_memory }) }
         ensures { self.new ≡ kept self.old taken.now }
@@ -147,7 +147,7 @@ impl Seat {
         self.see(taken.length());
     }
 
-    /// The journal had this length.
+    /// Keeps that the journal had this length.
     fn see(&mut self, length: usize)
         ensures { self.new ≡ record self.old {
           seen = max self.old.seen length;
@@ -160,7 +160,7 @@ impl Seat {
         self.seen = self.seen.max(length);
     }
 
-    /// The seat was told that this is committed.
+    /// Keeps that the records of this receipt are committed.
     pub fn confirm(&mut self, receipt: &Receipt)
         ensures { self.new ≡ record self.old { confirmed = max self.old.confirmed receipt.now.length } }
     {
@@ -174,7 +174,7 @@ impl Seat {
         self.tickets.as_slice()
     }
 
-    /// What else the seat was told. No note is of an input that was recorded.
+    /// The other results that the seat noted. No note is of an input that was recorded.
     pub fn notes(&self) -> &[Note]
         ensures value { result.now ≡ self.now.notes }
         ensures no_record { TellNoRecord self.now.notes }
@@ -182,7 +182,7 @@ impl Seat {
         self.notes.as_slice()
     }
 
-    /// How the lengths that it was told follow one another.
+    /// Whether the lengths that it noted ever fell.
     pub fn lengths(&self) -> Lengths
         ensures { result ≡ self.now.lengths }
     {

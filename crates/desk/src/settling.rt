@@ -1,14 +1,14 @@
-//! Settling: whether what the seats were told is what one thread alone would have been told.
+//! Settling: whether the notes of the seats are those that a single thread would have made.
 //!
-//! Threads call a desk at the same time, and each notes in a seat of its own what it was told: a ticket for each
-//! record, and for anything else a note, with the length that the journal had then. In which order the calls came is
-//! known to nobody afterwards. The journal and all seats together tell whether one thread could have made the same
-//! calls, one after another, along the journal:
+//! Threads call a desk at the same time, and each keeps its results in a seat of its own: a ticket for each record, and
+//! a note for anything else, with the length that the journal had then. The order of the calls isn't known afterwards.
+//! The journal and all seats together show whether a single thread could have made the same calls, one after another,
+//! along the journal:
 //!
-//! - each record since the opening has just one ticket, with its place and its input, in one of the seats;
-//! - each note is what the node replies after the first records of the journal, as many as the note's length says;
-//! - the lengths that a seat was told never fell, so that the calls of each seat come in their own order;
-//! - what was confirmed to a seat is committed.
+//! - each record since the opening has exactly one ticket, with its place and its input, in one of the seats;
+//! - each note is the node's result after as many of the first records of the journal as the note's length says;
+//! - the lengths that a seat noted never fell, so that the calls of each seat come in their own order;
+//! - all that was confirmed to a seat is committed.
 //!
 //! The notes are sorted by their lengths first, so that one core goes along the journal once and meets each of them.
 ghost use Rattle.std.specs.Prelude.{◌≡◌, ◌↔◌, ◌<◌, ◌≤◌, ℕ, [], length, All, Any, IfErr, IfOk, IsTrue, MatchBool, MatchResult};
@@ -24,7 +24,7 @@ use crate::seat::Seat;
 use crate::state::State;
 use protocol::{NodeCore, ReplayFault};
 
-/// Each place since the opening is named by one ticket.
+/// Checks that each place since the opening is named by exactly one ticket.
 fn check_places<C: NodeCore>(state: &State<C>, seats: &[Seat]) -> Result<(), Unsettled>
     ensures { MatchResult result (λ _. NoneMissing state.now seats.now × NoneTwice state.now seats.now)
         (IsUncovered state.now seats.now) }
@@ -62,7 +62,7 @@ fn check_tickets<C: NodeCore>(state: &State<C>, tickets: &[Ticket]) -> Result<()
     Ok(())
 }
 
-/// The same, of the tickets of all seats.
+/// The same, for the tickets of all seats.
 fn check_fit<C: NodeCore>(state: &State<C>, seats: &[Seat]) -> Result<(), usize>
     ensures { MatchResult result (λ _. AllFit state.now seats.now) (λ place. SomeDiffers state.now seats.now place) }
 {
@@ -72,7 +72,7 @@ fn check_fit<C: NodeCore>(state: &State<C>, seats: &[Seat]) -> Result<(), usize>
     Ok(())
 }
 
-/// The tickets of the seats are the records since the opening.
+/// Checks that the tickets of the seats are the records since the opening.
 fn check_cover<C: NodeCore>(state: &State<C>, seats: &[Seat]) -> Result<(), Unsettled>
     ensures { MatchResult result (λ _. Covers state.now seats.now) (IsUncovered state.now seats.now) }
 {
@@ -107,13 +107,13 @@ fn has_fallen(seats: &[Seat]) -> bool
     false
 }
 
-/// As `settle`, by a core of the caller's in place of the state's: each note is compared with what that core has
-/// to tell, at its node under its scheme, so that a caller who can't name the state's scheme still names this one.
-/// The core has no record, and is returned with the committed ones.
+/// As `settle`, by a core of the caller's in place of the state's: each note is compared with the result of that core,
+/// at its node under its scheme, so that a caller who can't name the state's scheme still names this one. The core has
+/// no record, and is returned with the committed ones.
 ///
 /// Also fails with `NotRecorded` at the first record of the journal that the core doesn't record at its place after
-/// those before it, where that record is committed or a note was told after it. `Untrue` of a note that was told before
-/// it comes first.
+/// those before it, if that record is committed or a note was made after it. A note before it that isn't borne out is
+/// reported first, as `Untrue`.
 pub fn settle_with<C: NodeCore>(
     mut core: C,
     state: &State<C>,
@@ -147,19 +147,19 @@ pub fn settle_with<C: NodeCore>(
     }
 }
 
-/// How long the journal is, where what the seats were told is what one thread alone would have been told along the
-/// journal: each record since the opening was told once, as that record; what was confirmed is committed; no seat was
-/// told of a shorter journal than before; and the journal bears each note.
+/// How long the journal is, if the notes of the seats are those that a single thread would have made along the journal:
+/// each record since the opening has exactly one ticket, with its input; all that was confirmed is committed; no seat
+/// noted a shorter journal than before; and the journal bears out each note.
 ///
-/// Fails with the first fault in the order of `Unsettled`, where there is one, and with `NoMemory` where memory ran
-/// out; never with `NotRecorded`, since the node has recorded its own journal. Takes time in proportion to the records
-/// and the notes, but for the sorting of the notes by lengths.
+/// Fails with the first fault in the order of `Unsettled`, if there is one, and with `NoMemory` if memory ran out;
+/// never with `NotRecorded`, since the node has recorded its own journal. Takes time in proportion to the records and
+/// the notes, except for sorting the notes by length.
 pub fn settle<C: NodeCore>(state: &State<C>, seats: &[Seat]) -> Result<Life, Unsettled>
     ensures settles { Settles state.now.scheme state.now.node state.now seats.now result }
     ensures own { IfErr result (λ e. (place : ℕ) → e ≡ Unsettled.NotRecorded place → ⊥) }
 {
     let core = state.fresh()?;
-    // Its clause says that the state's core has recorded these, so that a fresh one records them too.
+    // Its clause says that the state's core has recorded these, so a fresh one records them too.
     let _journal = state.journal();
     match settle_with(core, state, seats) {
         Ok(settled) => Ok(settled.life),

@@ -20,8 +20,8 @@ use units::refusal_code::NODE_STOPPED;
 use units::{NoMemory, Node, Refusal};
 use wire::{Input, Message};
 
-/// What a state was asked, what it returned, and how many records its journal then had. It isn't known yet whether
-/// these are committed. Only a state makes one.
+/// A question to a state, its result, and how many records its journal then had. It isn't known yet whether these are
+/// committed. Only a state makes one.
 #[derive(Debug)]
 pub struct Taken {
     asked: Asked,
@@ -50,21 +50,21 @@ impl Model for Taken {
 }
 
 impl Taken {
-    /// What the state was asked.
+    /// The question.
     pub fn asked(&self) -> &Asked
         ensures { result.now ≡ self.now.asked }
     {
         &self.asked
     }
 
-    /// What it returned.
+    /// Its result.
     pub fn told(&self) -> Told
         ensures { result ≡ self.now.told }
     {
         self.told
     }
 
-    /// How many records its journal then had.
+    /// How many records the journal of the state then had.
     pub fn length(&self) -> usize
         ensures { result ≡ self.now.length }
     {
@@ -72,8 +72,8 @@ impl Taken {
     }
 }
 
-/// What was taken, and all records of the journal then were committed when a state made this. Only `State::receipt`
-/// does.
+/// A result of a state, and the knowledge that all records of its journal at that time are committed. Only
+/// `State::receipt` makes one.
 #[derive(Debug)]
 pub struct Receipt {
     taken: Taken,
@@ -96,7 +96,7 @@ impl Model for Receipt {
 }
 
 impl Receipt {
-    /// What was taken.
+    /// The result.
     pub fn taken(&self) -> &Taken
         ensures { result.now ≡ self.now }
     {
@@ -104,7 +104,7 @@ impl Receipt {
     }
 }
 
-/// A node's core with its journal, of which the first records are committed to its store. It runs until it is
+/// A node's core with its journal; the first records of the journal are committed to its store. It runs until it is
 /// stopped.
 pub struct State<C: NodeCore> {
     alloc: Global,
@@ -143,7 +143,7 @@ impl<C: NodeCore> Model for State<C> {
     ghost invariant = { λ s. (s.opening ≤ s.committed) × (s.committed ≤ length (C.journal_of s.core)) };
 }
 
-/// What a core returned, as it is told.
+/// The result of a core, as it is noted.
 pub(crate) fn tell(returned: Result<Stepped, Refusal>) -> Told
     ensures { result ≡ told_of returned }
 {
@@ -170,9 +170,9 @@ impl<C: NodeCore> State<C> {
         }
     }
 
-    /// Takes an input. It tells what is expected after the journal, or refusal `OUT_OF_MEMORY` in place of that;
-    /// where it was recorded the journal has it as its last record, and else nothing has changed. A state that was
-    /// stopped tells refusal `NODE_STOPPED`, and nothing changes. The length is that of the journal after the call.
+    /// Takes an input. Returns the expected result after the journal, or refusal `OUT_OF_MEMORY` in its place; if the
+    /// input was recorded it is the journal's last record, and otherwise nothing has changed. A state that was stopped
+    /// returns refusal `NODE_STOPPED`, and nothing changes. The length is that of the journal after the call.
     pub fn take(&mut self, input: Input) -> Taken
         ensures asked { result.asked ≡ Asked.Take input }
         ensures told { Tells self.old input result.told self.new }
@@ -195,8 +195,8 @@ impl<C: NodeCore> State<C> {
         self.core.step(input)
     }
 
-    /// Tells where a transaction stands after the whole journal, or refusal `NODE_STOPPED` where the state was
-    /// stopped. The length is that of the journal.
+    /// Returns where a transaction stands after the whole journal, or refusal `NODE_STOPPED` if the state was stopped.
+    /// The length is that of the journal.
     pub fn query(&self, id: TransactionId) -> Taken
         ensures { result ≡ record
             { asked = Asked.Query id; told = status_told self.now id; length = length self.now.journal } }
@@ -213,7 +213,7 @@ impl<C: NodeCore> State<C> {
         }
     }
 
-    /// Tells refusal `OUT_OF_MEMORY` of what the state couldn't be asked. The length is that of the journal.
+    /// Returns refusal `OUT_OF_MEMORY` for a question that couldn't be asked. The length is that of the journal.
     pub fn refuse_for_memory(&self, asked: Asked) -> Taken
         ensures { result ≡ record
             { asked = asked; told = Told.Refused (record { code = out_of_memory }); length = length self.now.journal } }
@@ -243,19 +243,19 @@ impl<C: NodeCore> State<C> {
         max.min(self.core.records() - self.committed)
     }
 
-    /// The next `count` records are committed, so that `batch` begins after them.
+    /// Marks the next `count` records as committed, so that `batch` begins after them.
     fn mark_committed(&mut self, count: usize)
         requires { self.old.committed + count ≤ length self.old.journal }
         ensures { self.new ≡ record self.old { committed = self.old.committed + count } }
     {
-        // The journal is at least as long, so that the sum can't be too large.
+        // The journal is at least as long, so the sum can't be too large.
         let _records = self.core.records();
         self.committed += count;
     }
 
     /// Appends the first records that aren't committed, at most `max`, to the store, and returns how many: these are
-    /// committed now. A state that was stopped, one that is committed as a whole, and a `max` of 0 give 0, and change
-    /// nothing.
+    /// committed now. Returns 0 and changes nothing if the state was stopped, if all records are committed, or if `max`
+    /// is 0.
     ///
     /// Fails as `append` of the store does. Then the state has stopped, and nothing else of it has changed.
     pub fn commit<S: NodeStore>(&mut self, store: &mut S, max: usize) -> Result<usize, StoreFault>
@@ -289,8 +289,7 @@ impl<C: NodeCore> State<C> {
     }
 
     /// The least key, from `from` on, of a message to `peer` that the committed records send and no record of the
-    /// journal acknowledges, with the message; or `None` where there is no such message, and where the state was
-    /// stopped.
+    /// journal acknowledges, with the message; or `None` if there is no such message, or if the state was stopped.
     pub fn next_send(&self, peer: Node, from: usize) -> Option<(usize, &Message)>
         ensures stopped { self.now.runs ≡ false → option_map (λ sent. sent.0) result ≡ None }
         ensures key { self.now.runs ≡ true
@@ -324,8 +323,8 @@ impl<C: NodeCore> State<C> {
         }
     }
 
-    /// A receipt of what was taken, where all records that the journal had then are committed; or what was taken
-    /// back.
+    /// A receipt of this result, if all records that the journal had then are committed. Otherwise fails with the
+    /// result itself.
     pub fn receipt(&self, taken: Taken) -> Result<Receipt, Taken>
         ensures { MatchResult result (λ receipt. (receipt ≡ taken) × (taken.length ≤ self.now.committed))
             (λ back. (back ≡ taken) × (self.now.committed < taken.length)) }
@@ -344,14 +343,14 @@ impl<C: NodeCore> State<C> {
         self.runs = false;
     }
 
-    /// Runs again, where it was stopped.
+    /// Runs again, if it was stopped.
     pub(crate) fn go_on(&mut self)
         ensures { self.new ≡ record self.old { runs = true } }
     {
         self.runs = true;
     }
 
-    /// All records of the journal are committed, and count as those of the opening from now on.
+    /// Marks all records of the journal as committed, and as those of the opening from now on.
     pub(crate) fn open_anew(&mut self)
         ensures { self.new ≡ record self.old { opening = self.old.committed } }
     {
@@ -421,7 +420,7 @@ impl<C: NodeCore> State<C> {
         self.committed
     }
 
-    /// What the state allocates from.
+    /// The allocator of the state.
     pub(crate) fn alloc(&self) -> Global {
         self.alloc
     }

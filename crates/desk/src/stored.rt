@@ -14,7 +14,7 @@ use std::marker::Model;
 use stores::{NodeStore, StoreFault};
 use wire::Input;
 
-/// A node's state, and the store that has the committed records of it. Nothing but a commit changes the two together.
+/// A node's state, and the store that has its committed records. Only a commit changes the two together.
 pub struct Stored<C: NodeCore, S: NodeStore> {
     state: State<C>,
     store: S,
@@ -92,8 +92,8 @@ impl<C: NodeCore, S: NodeStore> Stored<C, S> {
     }
 
     /// Appends the first records that aren't committed, at most `max`, to the store, and returns how many: these are
-    /// committed now. A state that was stopped, one that is committed as a whole, and a `max` of 0 give 0, and change
-    /// nothing.
+    /// committed now. Returns 0 and changes nothing if the state was stopped, if all records are committed, or if `max`
+    /// is 0.
     ///
     /// Fails as `append` of the store does. Then the state has stopped, and nothing else of it has changed.
     pub fn commit(&mut self, max: usize) -> Result<usize, StoreFault>
@@ -125,9 +125,9 @@ impl<C: NodeCore, S: NodeStore> Stored<C, S> {
 }
 
 impl<C: NodeCore, S: NodeStore + Drop> Stored<C, S> {
-    /// A state that runs, with this one's journal, all of which is committed and was there at the opening: what of it
-    /// wasn't committed is appended to the store first. So a node goes on whose threads have ended and whose seats were
-    /// settled, and the seats needn't be kept.
+    /// A state that runs, with this one's journal, all of which is committed and counts as that of the opening: the
+    /// records that weren't committed are appended to the store first. A node goes on in this way once its threads have
+    /// ended and its seats were settled; the seats needn't be kept.
     ///
     /// Fails as `append` of the store does. The store is closed then.
     pub fn reopen(self) -> Result<Stored<C, S>, StoreFault>

@@ -1,4 +1,4 @@
--- What an opening makes of a file, from what its last call leaves.
+-- The state of a file after an opening, from what its last call leaves.
 use Rattle.store_tables.specs.Within.{HasStore}
 use Rattle.std.proofs.Common.{◌≡◌, ◌⊎◌, inl, inr, ℕ, Ok, Err, IsTrue, length, refl, sym, ap, subst, ◌∙◌}
 use Rattle.sqlite.specs.Tree.{Trees}
@@ -15,7 +15,7 @@ use Rattle.store_tables.specs.Held.{slots_in, node_in, IsReadyIn}
 use Rattle.durable.specs.Opening.{IsOpeningFault, BecomesStore}
 use Rattle.store_migration.specs.Migrating.{IsMigrated}
 
--- as many places as before
+-- a migration keeps the number of places
 pub as_long : (old new : Trees) → IsMigrated old new → length (slots_in new) ≡ length (slots_in old)
 as_long old new migrated = records-length Two (slots_in new) migrated.places.0 migrated.places.2 ∙ sym (records-length One (slots_in old) migrated.places.0 migrated.places.1)
 
@@ -36,7 +36,7 @@ module _ (old mid new : State) (has : HasStore One old.committed) (same : mid.co
   leaves : (db : Trees) → new.may_leave db → (db ≡ was.trees) ⊎ IsMigrated was.trees db
   leaves db left = subst (λ (d : Database). (db ≡ d.trees) ⊎ IsMigrated d.trees db) same (crash db left)
 
-  -- it became one of format Two
+  -- the store was migrated to format Two
   pub migrated_settles : (count : ℕ) → count ≡ length (slots_in was.trees) → IsReadyIn Two new → IsMigrated mid.committed.trees new.committed.trees → new.committed.schema ≡ mid.committed.schema
       → BecomesStore (node_in was.trees) was new (Ok count)
   migrated_settles count counted ready made tables =
@@ -54,7 +54,7 @@ module _ (old mid new : State) (has : HasStore One old.committed) (same : mid.co
         unharmed = tt;
       }
 
-  -- it was refused
+  -- the opening refused the file
   pub refused_settles : (e : StoreFault) → IsReadFault e → ((p : ℕ) → e ≡ Damaged p → IsDamagedIn One p (slots_in mid.committed.trees))
       → (IsTrue (is_judgement e) → (db : Trees) → new.may_leave db → db ≡ mid.committed.trees) → BecomesStore (node_in was.trees) was new (Err e)
   refused_settles e read damaged unharmed = record {

@@ -1,4 +1,4 @@
--- What is in files into which a store over a connection was closed.
+-- The content of files into which a store over a connection was closed.
 use Rattle.std.proofs.Common.{◌≡◌, ◌⊎◌, inl, inr, false, IsTrue, refl, sym, ap, subst, ◌∙◌}
 use Rattle.std.proofs.Math.Logic.{∥∥₁_map}
 use Rattle.sqlite_disk.specs.declared.Disk.{Ghosts}
@@ -24,11 +24,11 @@ module _ {D : Type 0} (g : Ghosts D) (k : OpenStoreView (FileStore D g)) (conn :
   honest-closed : AreClean g files.log files.db → IsHonest over_files k
   honest-closed clean = subst (λ c. HasCleanDisk (file_state c)) is (early clean)
 
-  -- what an opening may find, the store may have held
+  -- a content that an opening may find is one that the store may have held
   pub left-closed : ((db : Trees) → MayFind g files db → ∥ (file_state conn).may_leave db ∥₁) → (db : Trees) → MayFind g files db → (next : Places) → IsOpenedAs db next → ∥ MayHold over_files k next ∥₁
   left-closed left db found next opened = ∥∥₁_map (left db found) (λ it. (db, subst (λ c. (file_state c).may_leave db) is it, opened))
 
-  -- of a store that runs it is the content and the owner
+  -- for a store that runs, an opening finds its content and its owner
   module _ (runs : k.must_reopen ≡ false)
       (settled : IsHonest over_files k → k.must_reopen ≡ false → (db : Trees) → (file_state k.conn).may_leave db → db ≡ (file_state k.conn).committed.trees)
       (store : IsHonest over_files k → k.must_reopen ≡ false → IsStore (file_state k.conn).committed.trees) where
@@ -53,12 +53,12 @@ module _ {D : Type 0} (g : Ghosts D) (k : OpenStoreView (FileStore D g)) (conn :
         let alone = (copied clean).left image there in
         ((file_state k.conn).committed.trees, (store honest runs, refl, refl), subst (λ c. HoldsAlone image (file_state c).committed.trees) is alone)
 
--- a fault of a statement is another one than of a store that waits
+-- a fault of a statement is never `Reopen`
 pub is-no-reopen : (e : StoreFault) → (e ≡ NoMemory) ⊎ IsTrue (is_device_fault e) → e ≡ Reopen → ⊥
 is-no-reopen e (inl memory) is = let clash : NoMemory ≡ Reopen = sym memory ∙ is in cc (clash)
 is-no-reopen e (inr device) is = let clash = subst (λ f. IsTrue (is_device_fault f)) is device in cc (clash)
 
--- and so is a fault of files that were not opened
+-- nor is a fault of files that were not opened
 pub not-reopen : (e : StoreFault) → (e ≡ Damaged 0) ⊎ ((e ≡ NoMemory) ⊎ IsTrue (is_device_fault e)) → e ≡ Reopen → ⊥
 not-reopen e (inl damaged) is = let clash : Damaged 0 ≡ Reopen = sym damaged ∙ is in cc (clash)
 not-reopen e (inr other) is = is-no-reopen e other is

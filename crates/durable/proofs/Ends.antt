@@ -28,7 +28,7 @@ pub envs : (rows : List Row) → flat_map (λ (r : Row). ([] ∷ r ∷ []) ∷ [
 envs [] = refl
 envs (r ∷ rows) = ap (λ more. ([] ∷ r ∷ []) ∷ more) (envs rows)
 
--- what a row is sorted by, and what it shows
+-- the key by which a row is sorted, and the result that it gives
 abbrev out : ℤ → Output
 out place = (Int place ∷ [], Int place ∷ [])
 
@@ -41,7 +41,7 @@ IsOut o = (place : ℤ) × (o ≡ out place)
 abbrev key : Output → ℤ
 key o = id_in (column o.0 0)
 
--- an answer that is sorted by the places
+-- result rows that are sorted by their places
 pub record IsByPlace (descending : Bool) (entries rows : List Row) : Type 0 where
   pub ordered : List Output
   pub same : IsPermutation (map out_of entries) ordered
@@ -84,7 +84,7 @@ sorted_rest cmp x xs h k d low less =
     let next : suc k + 1 ≡ suc (k + 1) = omega arith in
     subst (λ n. is_lt (cmp (slice_index_or (x ∷ xs) n d) (slice_index_or xs k d)) ≡ false) next (h (suc k) d (omega arith) (omega (arith, less)))
 
--- none of the sorted comes before their first
+-- no row of a sorted list comes before its first row
 none_before : (descending : Bool) (o : Output) (more : List Output) → AllByRecursion IsOut (o ∷ more) → IsSorted (output_cmp (first_row 1 descending)) (o ∷ more)
     → AllByRecursion (λ p. comes_before descending (key p) (key o) → ⊥) (o ∷ more)
 none_before descending o [] are sorted = (not_itself descending (key o), tt)

@@ -1,4 +1,4 @@
--- Which rows the tables of a store can hold, whatever wrote them.
+-- Which rows the tables of a store can hold, regardless of the program that wrote them.
 use Rattle.std.proofs.Common.{◌≡◌, ◌<◌, arith, ◌⊎◌, inl, inr, ℕ, ℤ, pos, List, [], ◌∷◌, Bool, true, false, ◌&&◌, not, Some, ◌<ℤ◌, IsTrue, refl, sym, ap, subst, subst₂, ◌∙◌}
 use Rattle.std.specs.List.{AllByRecursion}
 use Rattle.std.proofs.lemmas.Bool.{and_parts}

@@ -1,4 +1,4 @@
--- What the open store of a store state returns and leaves is what the store state does.
+-- The open store of a store state returns and leaves the same as the store state.
 use Rattle.std.proofs.Common.{◌≡◌, ℕ, List, Result, Vec, Global, sym, subst, ap}
 use Rattle.sqlite.specs.Files.{over_files}
 use Rattle.sqlite_disk.specs.declared.Disk.{Ghosts}
@@ -30,7 +30,7 @@ module _ {D : Type 0} (g : Ghosts D) (store_state : StoreState D g) (old new : O
         settled = h.settled;
       })
 
-  -- of places that are part of the content
+  -- for places that are part of the content
   pub linked_loads : (first : ℕ) (part : Places → Places) (r : Result (Vec Input Global) StoreFault)
       → Loads (connected.IsHonest over_files) (connected.content over_files) (connected.MayHold over_files) (λ k. k.must_reopen) old new first (part (connected.content over_files old)) r
       → Loads (IsHonest g) (content g) (MayHold g) (must_reopen g) store_state (Open new) first (part (content g store_state)) r

@@ -1,4 +1,4 @@
--- What the statements of an opening make of a file that has no row.
+-- The effect of an opening's statements on a file that has no row.
 use Rattle.std.proofs.Common.{◌≡◌, ℕ, pos, List, [], ◌∷◌, false, None, Option, Ok, refl, sym, ap, subst, ◌∙◌, arith}
 use Rattle.sqlite.specs.declared.types.Value.TheVariants.{Int, Text}
 use Rattle.sqlite.specs.Order.{Row}
@@ -53,11 +53,11 @@ entries_made limit db after tally has does =
     let it = made limit entries_text about_schema (entries_table 0) db after tally has.0 entries_is refl does in
     ((AboutFirst, it.0, it.2.0 ∙ has.1, it.1), it.0)
 
--- the parameters of the statement that puts the owner's row
+-- the parameters of the statement that inserts the owner's row
 abbrev pub owner_given : List ℕ → Row
 owner_given node = Int (pos (number_of newest)) ∷ Text node ∷ []
 
--- the owner's row alone is put, and the other tree is as it was
+-- only the owner's row is inserted, and the other tree is unchanged
 row_made : (order : TableOrder) (limit : Option ℕ) (text node : List ℕ) (db after : Database) (tally : Tally) → db.schema ≡ store_schema order → db.trees (about_tree order) ≡ []
     → Does limit enforced (owner_given node) db text None (Insert (about_tree order) (Values own_terms 4)) (Ok (tally, after))
     → (after.schema ≡ store_schema order) × (after.trees (about_tree order) ≡ about (number_of newest) node ∷ []) × (after.trees (entries_tree order) ≡ db.trees (entries_tree order))
@@ -92,7 +92,7 @@ row_made EntriesFirst limit text node db after tally has none does =
       ap (λ (d : Database). d.trees 0) now ∙ ap (λ (t : Trees). t 0) trees ∙ applied.others 0 (λ e. omega (arith, e)) tt,
     )
 
--- the owner's row makes it a store
+-- with the owner's row the file is a store
 pub owner_made : (limit : Option ℕ) (text node : List ℕ) (db after : Database) (tally : Tally) (has : IsEmpty db)
     → Does limit enforced (owner_given node) db text None (Insert (about_tree has.0) (Values own_terms 4)) (Ok (tally, after))
     → HasFresh node after × (after.schema ≡ db.schema)

@@ -1,4 +1,4 @@
--- What the calls of an opening leave of a connection.
+-- The state of a connection after the calls of an opening.
 use Rattle.std.proofs.Common.{◌≡◌, inl, inr, ℕ, ℤ, List, [], ◌∷◌, codes, true, false, Option, None, Ok, sym, ap, subst, ◌∙◌}
 use Rattle.sqlite.specs.Order.{Row}
 use Rattle.sqlite.specs.Tree.{Trees}
@@ -49,7 +49,7 @@ owner_ok old new node params count is was h =
 now_schema : (old : State) (order : TableOrder) → IsOpened old → old.committed.schema ≡ store_schema order → old.now.schema ≡ store_schema order
 now_schema old order opened has = ap (λ (d : Database). d.schema) opened.settled ∙ has
 
--- what is plain under the schema of either order
+-- a text that is plain under the schemas of both orders
 abbrev pub IsPlainText : List ℕ → Type 0
 IsPlainText sql = (order : TableOrder) → IsPlain (understood (store_schema order) sql)
 

@@ -1,4 +1,4 @@
--- What an opening makes of a store.
+-- The places of a store after an opening.
 use Rattle.std.proofs.Common.{◌≡◌, inl, inr, ℕ, List, [], Result, Ok, Err, OnOk, pos, length, arith, IsTrue, sym, ap, subst, ◌∙◌}
 use Rattle.sqlite.specs.declared.types.Value.TheVariants.{Int}
 use Rattle.sqlite.specs.Order.{Row, column}
@@ -26,7 +26,7 @@ pub opened_newest : (db : Trees) (places : Places) → IsStore db → IsOpenedAs
 opened_newest db places store (inl it) = it.1
 opened_newest db places store (inr old) = absurd (two_formats db store old.0)
 
--- the same of a store that is as it was
+-- the same for a store that is unchanged
 pub opened_same : (old db : Trees) (next : Places) → IsStore old → db ≡ old → IsOpenedAs db next → next ≡ slots_in old
 opened_same old db next store same opened = opened_newest db next (subst IsStore (sym same) store) opened ∙ ap slots_in same
 
@@ -36,7 +36,7 @@ no_places db none =
     let order : order_of (db 1) ≡ AboutFirst = ap order_of none in
     ap (λ (o : TableOrder). slots_from 0 (db (entries_tree o))) order ∙ ap (slots_from 0) none
 
--- and are no store
+-- trees without a row are no store
 no_store : (db : Trees) → db 0 ≡ [] → db 1 ≡ [] → IsStoreIn One db → ⊥
 no_store db owner none store =
     let order : order_of (db 1) ≡ AboutFirst = ap order_of none in

@@ -1,5 +1,5 @@
--- What the texts of an opening mean: those that make a store under the schemas that they meet, and those that look at
--- one.
+-- The meaning of the texts of an opening: of those that make a store, under the schemas that they meet, and of those
+-- that query one.
 use Rattle.std.proofs.Common.{◌≡◌, ℕ, pos, negsuc, None, List, [], ◌∷◌, Bool, codes, true, false, refl}
 use Rattle.sqlite.specs.declared.types.Value.TheVariants.{Null, Int}
 use Rattle.sqlite.specs.Collation.TheVariants.{Binary}
@@ -47,7 +47,7 @@ unfolding understood everything
 own_plain AboutFirst = (refl, refl)
 own_plain EntriesFirst = (refl, refl)
 
--- the whole of a table
+-- the query for all rows of a table
 abbrev pub whole : ℕ → List Term → Query
 whole table shown = record {
   from = inner table end;
@@ -64,7 +64,7 @@ whole table shown = record {
 abbrev pub owner_query : ℕ → Query
 owner_query table = whole table (col 1 2 ∷ col 1 3 ∷ [])
 
--- its first row by the rowid
+-- the query for its first row by the rowid
 abbrev pub first_row : ℕ → Bool → Query
 first_row table descending = record (whole table (col 1 0 ∷ [])) { order = (col 1 0, record { collation = Binary; descending = descending }) ∷ []; limit = lit (Int (pos 1)) }
 

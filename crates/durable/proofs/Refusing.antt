@@ -22,30 +22,30 @@ use Rattle.stores.specs.declared.fault.StoreFault.{StoreFault}
 use Rattle.stores.specs.declared.fault.StoreFault.TheVariants.{Device, Full, Damaged, WrongNode, WrongVersion, Reopen, NoMemory}
 use Rattle.durable.proofs.Reopening.{is-clean}
 
--- files that are clean were so when the opening ended
+-- files that are clean now were clean when the opening ended
 pub clean-left : {D : Type 0} {g : Ghosts D} (rest : Leftover D g) (given : Files D) → (given.log, given.db) ≡ files_left rest → AreClean g given.log given.db → IsCleanLeft rest
 clean-left {D} {g} (left.Files now) given same honest = subst (λ (p : D × D). AreClean g p.0 p.1) same honest
 clean-left {D} {g} (left.Unopened it) given same honest = is-clean it.pool (subst (λ (p : D × D). AreClean g p.0 p.1) same honest)
 clean-left {D} {g} (left.Store it) given same honest = is-clean it.pool (subst (λ (p : D × D). AreClean g p.0 p.1) same honest)
 
--- and their failed calls have met as much
+-- and their tally is the one that the opening left
 tally-given : {D : Type 0} {g : Ghosts D} (rest : Leftover D g) (given : Files D) → (given.log, given.db) ≡ files_left rest → tally_of_files g (given.log, given.db) ≡ tally_left rest
 tally-given {D} {g} (left.Files now) given same = ap (tally_of_files g) same
 tally-given {D} {g} (left.Unopened it) given same = ap (tally_of_files g) same
 tally-given {D} {g} (left.Store it) given same = ap (tally_of_files g) same
 
--- no failed call has this name
+-- no failed call gives the error `NotADatabase`
 fault-named : (a b : Bool) → SqliteFailure NotADatabase ≡ store_error (if a then (if b then Io else Full) else Corrupt) → ⊥
 fault-named true true e = absurd (cc (e))
 fault-named true false e = absurd (cc (e))
 fault-named false b e = absurd (cc (e))
 
--- nor this one where no read was found wrong
+-- nor the error `DatabaseCorrupt`, where no read was found wrong
 damage-named : (b : Bool) → SqliteFailure DatabaseCorrupt ≡ store_error (if b then Io else Full) → ⊥
 damage-named true e = absurd (cc (e))
 damage-named false e = absurd (cc (e))
 
--- what an opening answers of files that hold no database
+-- the error of an opening of files that hold no database
 abbrev pub Refuses : Tally → Tally → Error → Type 0
 Refuses before now e = (e ≡ SqliteFailure NotADatabase) ⊎ ((e ≡ SqliteFailure DatabaseCorrupt) × (now.caught ≡ before.caught))
 
@@ -74,7 +74,7 @@ no-database : {D : Type 0} {g : Ghosts D} (files given : Files D) (rest : Leftov
 no-database {D} {g} files given rest e same cause honest refuses =
     no-database-by files rest e (subst (λ (now : Tally). Refuses (tally_of_files g (files.log, files.db)) now e) (tally-given rest given same) refuses) (cause (clean-left rest given same honest))
 
--- the fault that is told of an error, by the tallies of the files before and after
+-- the fault for an error, by the tallies of the files before and after
 pub not-opened : {D : Type 0} {g : Ghosts D} (files given : Files D) (rest : Leftover D g) (e : Error) (before now : Tally) (fault : StoreFault) → (given.log, given.db) ≡ files_left rest
     → (IsCleanLeft rest → FailsToOpenFiles files rest e) → AreClean g given.log given.db → before ≡ tally_of_files g (files.log, files.db) → now ≡ tally_of_files g (given.log, given.db)
     → (fault ≡ Damaged 0) ⊎ ((fault ≡ NoMemory) ⊎ IsTrue (is_device_fault fault)) → ((p : ℕ) → fault ≡ Damaged p → Refuses before now e) → IsFileFault g files fault

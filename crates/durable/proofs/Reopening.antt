@@ -1,4 +1,4 @@
--- What an opening of the files of a connection that was given up finds.
+-- The result of opening the files of a connection that was given up.
 use Rattle.std.proofs.Common.{◌≡◌, IsTrue, sym, subst, true}
 use Rattle.std.proofs.Math.Logic.{∥∥₁_map}
 use Rattle.sqlite_disk.specs.declared.Disk.{Ghosts}
@@ -18,7 +18,7 @@ use Rattle.sqlite_trees.proofs.Doubt.{no_doubt}
 use Rattle.sqlite.proofs.Theorems.{opens_again}
 use Rattle.durable.specs.Backing.{IsFound, MayFind, Hold}
 
--- what a crash may leave of the files may be left of the store
+-- an image that a crash may leave of the files is one that it may leave of the store
 may-leave : {D : Type 0} {g : Ghosts D} (it : Pool D g) (image : Image) → AreClean g (files it).0 (files it).1 → outcomes g (files it).0 (files it).1 image → (state it).may_leave image
 unfolding state files
 may-leave it image honest left = (honest, left)
@@ -27,7 +27,7 @@ pub is-clean : {D : Type 0} {g : Ghosts D} (it : Pool D g) → AreClean g (files
 unfolding state files
 is-clean it honest = honest
 
--- files that are clean come of a connection that was
+-- clean files come from a connection that was clean
 pub honest-before : {D : Type 0} {g : Ghosts D} (it : FileStore D g) (left : Files D) → (left.log, left.db) ≡ store_files it → AreClean g left.log left.db → IsClean (view it)
 honest-before {D} {g} it left same honest = no_doubt (store_state it).is_clean (is-clean it.pool (subst (λ (p : D × D). AreClean g p.0 p.1) same honest))
 
@@ -43,6 +43,6 @@ pub found-again : {D : Type 0} {g : Ghosts D} (it : FileStore D g) (left : Files
 found-again {D} {g} it left same numbered sound db found =
     ∥∥₁_map (holds-again it left same numbered sound found.honest found.image found.left) (λ known. subst (recovers it) (sym (found.held.holds known.0 known.2)) known.1)
 
--- what files hold now is one of the things that an opening may find
+-- the present content of files is one that an opening may find
 pub now-found : {D : Type 0} {g : Ghosts D} (files : Files D) → ((file : D) → g.may_leave file (g.seen file)) → (db : Trees) → IsFound g files db → MayFind g files db
 now-found {D} {g} files stays db found = record { honest = found.honest; image = image_of g files; left = (stays files.log, stays files.db); held = found.held }

@@ -1,4 +1,4 @@
--- What a refusal leaves of files.
+-- The files after a refusal.
 use Rattle.std.proofs.Common.{◌⊎◌, ℕ, List, inl, inr, ap}
 use Rattle.std.proofs.Math.Logic.{∥∥₁_map}
 use Rattle.sqlite_disk.specs.declared.Disk.{Ghosts}
@@ -14,7 +14,7 @@ use Rattle.stores.specs.declared.fault.StoreFault.TheVariants.{Device, Full, Dam
 pub spared : {D : Type 0} (g : Ghosts D) (left : Files D) (may_leave Wanted : Trees → Type 0) → Hold g left may_leave → (AreClean g left.log left.db → (db : Trees) → may_leave db → Wanted db) → Hold g left Wanted
 spared {D} g left may_leave Wanted holds wanted honest image there = ∥∥₁_map (holds honest image there) (λ held. (held.0, wanted honest held.0 held.1, held.2))
 
--- files that were not opened were not judged, but where they hold no database
+-- files that were not opened were not judged, except where they hold no database
 pub not-looked-at : {D : Type 0} (g : Ghosts D) (files left : Files D) (fault : StoreFault) → IsFileFault g files fault → IsUnharmed g files fault left
 not-looked-at {D} g files left (Damaged p) why judged = inl (ap Damaged why.0, why.1)
 not-looked-at {D} g files left WrongNode why judged = absurd why

@@ -1,4 +1,4 @@
--- A store in files: it is its parts, and what a reopening settles.
+-- A store in files: its parts, and what a reopening settles.
 use Rattle.std.proofs.Common.{◌≡◌, ◌⊎◌, inl, inr, ℕ, zero, suc, IsTrue, true, refl, sym, ap, subst, ◌∙◌}
 use Rattle.std.proofs.Math.Logic.{∥∥₁_map, ∥∥₁_elim}
 use mathlib.Core.Bool.{Bool-set}
@@ -29,7 +29,7 @@ same-store {D} {g} s store_state faults there p q = λ i. record {
   there = is_prop→PathP (λ j. IsTrue (is_there g (p j))) (λ j. Bool-set (is_there g (p j)) true) there s.there i;
 }
 
--- what an opening of its files found is one of the things that a store may have held
+-- a database that an opening of its files found is one that the store may have held
 pub settled-again : {D : Type 0} (g : Ghosts D) (old store_state : StoreState D g) (files : Files D) (next : Places) → store_state ≡ old → ((file : D) → g.may_leave file (g.seen file))
     → ((db : Trees) → MayFind g files db → (places : Places) → IsOpenedAs db places → ∥ MayHold g store_state places ∥₁) → (db : Trees) × IsFound g files db × IsOpenedAs db next → ∥ MayHold g old next ∥₁
 settled-again {D} g old store_state files next same stays left found =
@@ -56,7 +56,7 @@ found-and-refused g files left fault refuses unharmed = elim (unharmed (judged f
   | inr found ↦ found
 ]
 
--- and an opening makes nothing else of them than it could make before
+-- and an opening can give only the contents that it could give before
 pub left-again : {D : Type 0} (g : Ghosts D) (files left : Files D) (Held : Places → Type 0) (db : Trees) (next : Places) → ((file : D) → g.may_leave file (g.seen file)) → IsFound g files db → Hold g left (λ t. t ≡ db)
     → ((t : Trees) → MayFind g files t → (places : Places) → IsOpenedAs t places → ∥ Held places ∥₁) → (t : Trees) × MayFind g left t × IsOpenedAs t next → ∥ Held next ∥₁
 left-again g files left Held db next stays found holds made held =

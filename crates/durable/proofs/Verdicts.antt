@@ -1,4 +1,4 @@
--- What an opening answers, by whose the file is and by its least and greatest places.
+-- The result of an opening, by the owner of the file and by its least and greatest places.
 use Rattle.std.proofs.Common.{◌≡◌, inl, inr, ℕ, zero, suc, ℤ, pos, ◌<ℤ◌, ◌<◌, ◌+◌, List, [], ◌∷◌, length, slice_index_or, true, false, Option, Some, None, Ok, Err, refl, sym, ap, subst, ◌∙◌, arith}
 use Rattle.std.specs.List.{AllByRecursion}
 use Rattle.std.proofs.lemmas.Int.{ints}
@@ -71,7 +71,7 @@ counted from row (next ∷ rows) z (suc k) are low is all =
     let count = length-slots from row (next ∷ rows) in
     (rest.0, rest.1, omega (arith, count, rest.2, are.0))
 
--- how many places a store has, by the greatest
+-- the number of a store's places, by the greatest place
 abbrev pub IsCount : ℕ → Option ℤ → Type 0
 IsCount count None = count ≡ 0
 IsCount count (Some place) = (m : ℕ) × (place ≡ pos m) × (count ≡ m + 1)

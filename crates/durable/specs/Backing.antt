@@ -9,17 +9,17 @@ use Rattle.sqlite.specs.WalFiles.{outcomes}
 use Rattle.sqlite.specs.WalReads.{AreClean}
 use Rattle.sqlite.specs.Recovery.{Image}
 
--- these are the trees of what the two files hold
+-- the trees are those of the database that the two files hold
 pub record AreHeld (image : Image) (db : Trees) : Type 0 where
   pub holds : (other : Trees) → HoldsDatabase image other → db ≡ other
   pub reads : AreFoundIn image db
 
--- the disk returned what was written, and these are the trees of what the files hold now
+-- the disk returned what was written, and the trees are those of the database that the files hold now
 pub record IsFound {D : Type 0} (g : Ghosts D) (files : Files D) (db : Trees) : Type 0 where
   pub honest : AreClean g files.log files.db
   pub held : AreHeld (image_of g files) db
 
--- the same, or of what a crash may leave of the files
+-- the same, or the trees are those of a database that the files may hold after a crash
 pub record MayFind {D : Type 0} (g : Ghosts D) (files : Files D) (db : Trees) : Type 0 where
   pub honest : AreClean g files.log files.db
   pub image : Image
@@ -30,7 +30,7 @@ pub record MayFind {D : Type 0} (g : Ghosts D) (files : Files D) (db : Trees) : 
 abbrev pub IsNoDatabase : {D : Type 0} → Ghosts D → Files D → Type 0
 IsNoDatabase g files = (((db : Trees) × HoldsDatabase (image_of g files) db) ⊎ IsNothing (image_of g files)) → ⊥
 
--- whatever the files show now, or after a crash, it is a database with such trees
+-- the files hold a database with such trees, now and after a crash
 abbrev pub Hold : {D : Type 0} → Ghosts D → Files D → (Trees → Type 0) → Type 0
 Hold g files Wanted = AreClean g files.log files.db → (image : Image) → outcomes g files.log files.db image → ∥ ((db : Trees) × Wanted db × HoldsDatabase image db) ∥₁
 

@@ -1,4 +1,4 @@
--- The faults that come of calls of the database: out of memory, and those of its device.
+-- The faults of calls of the database: out of memory, and those of its device.
 use Rattle.std.specs.Prelude.{◌≡◌, ◌⊎◌, IsTrue}
 use Rattle.stores.specs.Faults.{is_device_fault}
 use Rattle.stores.specs.declared.fault.StoreFault.{StoreFault}

@@ -11,7 +11,7 @@ use Rattle.stores.specs.Records.{Places}
 
 pub record OpenStoreView (S : Type 0) : Type 0 where
   pub conn : Held S
-  -- how many places the content has
+  -- the number of places of the content
   pub count : ℕ
   -- a fault stopped it, and it must be reopened first
   pub must_reopen : Bool
@@ -29,7 +29,7 @@ module _ {S : Type 0} (g : Ghosts S) where
   abbrev pub content : OpenStoreView S → Places
   content k = slots_in (state g k.conn).committed.trees
 
-  -- whose the last commit is
+  -- the owner in the last commit
   abbrev pub owner : OpenStoreView S → List ℕ
   owner k = node_in (state g k.conn).committed.trees
 
@@ -37,7 +37,7 @@ module _ {S : Type 0} (g : Ghosts S) where
   abbrev pub disk_faults : OpenStoreView S → ℕ
   disk_faults k = (state g k.conn).faults
 
-  -- what an opening may make of it after a crash
+  -- a content that an opening may give it after a crash
   abbrev pub MayHold : OpenStoreView S → Places → Type 0
   MayHold k next = (db : Trees) × (state g k.conn).may_leave db × IsOpenedAs db next
 

@@ -22,7 +22,7 @@ module _ {D : Type 0} (g : Ghosts D) where
   content (Open k) = connected.content over_files k
   content _ = []
 
-  -- what an opening may make of it, also after a crash
+  -- a content that an opening may give it, also after a crash
   abbrev pub MayHold : StoreState D g → Places → Type 0
   MayHold (Open k) next = connected.MayHold over_files k next
   MayHold (Shut files) next = (db : Trees) × MayFind g files db × IsOpenedAs db next
@@ -32,12 +32,12 @@ module _ {D : Type 0} (g : Ghosts D) where
   must_reopen (Open k) = k.must_reopen
   must_reopen _ = true
 
-  -- whose the last commit is
+  -- the owner in the last commit
   abbrev pub owner : StoreState D g → List ℕ
   owner (Open k) = connected.owner over_files k
   owner _ = []
 
-  -- how many calls of its disk have failed, as its connection counts them
+  -- the number of failed calls of its disk, as its connection counts them
   abbrev pub disk_faults : StoreState D g → ℕ
   disk_faults (Open k) = connected.disk_faults over_files k
   disk_faults _ = 0
@@ -46,7 +46,7 @@ module _ {D : Type 0} (g : Ghosts D) where
   is_there Absent = false
   is_there _ = true
 
-  -- these files are the store's: its own where it is shut, and else files of what its connection may leave
+  -- the files are the store's: its own where it is shut, else files that its connection may leave
   abbrev pub AreFilesOf : StoreState D g → Files D → Type 0
   AreFilesOf (Open k) files = Hold g files (file_state k.conn).may_leave
   AreFilesOf (Shut its) files = files ≡ its

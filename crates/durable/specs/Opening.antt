@@ -1,4 +1,4 @@
--- What an opening finds in a file, and what it makes of a new one.
+-- The database that an opening finds in a file, and the store that it makes of a new one.
 use Rattle.store_tables.specs.Within.{HasStore}
 use Rattle.std.specs.Prelude.{◌≡◌, ◌⊎◌, ℕ, ℤ, pos, negsuc, Bool, true, false, ◌<ℤ◌, List, [], ◌∷◌, map, Option, Some, None, Result, Ok, Err, OnOk, IfOk, IfErr, length, All, IsTrue, Any}
 use Rattle.std.specs.List.{Contains}
@@ -27,11 +27,11 @@ use Rattle.wire.specs.Records.{number_of}
 use Rattle.wire.specs.declared.record_format.RecordFormat.{RecordFormat}
 use Rattle.wire.specs.declared.record_format.RecordFormat.TheVariants.{One}
 
--- the tables are others
+-- the database has tables other than those of a store
 abbrev pub HasOtherTables : Database → Type 0
 HasOtherTables db = (db.schema ≡ no_schema → ⊥) × (IsStoreSchema db.schema → ⊥)
 
--- there are records, and nothing says whose
+-- there are records, and no owner
 abbrev pub HasNoOwner : Database → Type 0
 HasNoOwner db = (order : TableOrder) × (db.schema ≡ store_schema order) × (db.trees (about_tree order) ≡ []) × (db.trees (entries_tree order) ≡ [] → ⊥)
 
@@ -43,12 +43,12 @@ HasNegativePlace db = (order : TableOrder) × (db.schema ≡ store_schema order)
 abbrev pub IsNoStore : Database → Type 0
 IsNoStore db = HasOtherTables db ⊎ (HasNoOwner db ⊎ HasNegativePlace db)
 
--- the owner's row has no format of a store
+-- the owner's row has a format that is none of a store
 abbrev pub HasOtherFormat : Database → Type 0
 HasOtherFormat db =
     (order : TableOrder) × (db.schema ≡ store_schema order) × (row : Row) × (db.trees (about_tree order) ≡ row ∷ []) × ((format : RecordFormat) → column row 2 ≡ Int (pos (number_of format)) → ⊥)
 
--- the owner's row has another node
+-- the owner's row names another node
 abbrev pub HasOtherNode : List ℕ → Database → Type 0
 HasOtherNode node db = (order : TableOrder) × (db.schema ≡ store_schema order) × (row : Row) × (db.trees (about_tree order) ≡ row ∷ []) × (column row 3 ≡ Words node → ⊥)
 
@@ -66,15 +66,15 @@ IsOpeningFault node db Full = Unit {0}
 IsOpeningFault node db NoMemory = Unit {0}
 IsOpeningFault node db Reopen = ⊥
 
--- no table
+-- the database has no table
 abbrev pub IsBare : Database → Type 0
 IsBare db = db.schema ≡ no_schema
 
--- both tables without a row
+-- the database has both tables, without a row
 abbrev pub IsEmpty : Database → Type 0
 IsEmpty db = (order : TableOrder) × (db.schema ≡ store_schema order) × (db.trees 0 ≡ []) × (db.trees 1 ≡ [])
 
--- no table, or both tables without a row
+-- the database has no table, or both tables without a row
 abbrev pub IsNew : Database → Type 0
 IsNew db = IsBare db ⊎ IsEmpty db
 
@@ -84,8 +84,8 @@ pub record IsFresh (name : List ℕ) (db : Trees) : Type 0 where
   pub node : node_in db ≡ name
   pub slots : slots_in db ≡ []
 
--- what an opening for that node makes of a database, whatever becomes of it: the same; of a new one a store without a
--- record; of a store of format One what it is migrated to
+-- a database that may be there after an opening for that node, whether or not it succeeds: the one that was there; for
+-- a new one also a store without a record; for a store of format One also the store that it is migrated to
 abbrev pub MayComeOf : List ℕ → Database → Trees → Type 0
 MayComeOf name before db = (db ≡ before.trees) ⊎ ((IsNew before × IsFresh name db) ⊎ IsMigrated before.trees db)
 
@@ -97,7 +97,7 @@ pub record IsOpened (s : State) : Type 0 where
   pub idle : s.in_transaction ≡ false
   pub settled : s.now ≡ s.committed
 
--- only the table of the owner is made
+-- the schema with only the table of the owner
 abbrev pub about_schema : Schema
 about_schema = record { tables = about_table 0 ∷ []; indexes = []; views = [] }
 
@@ -109,7 +109,7 @@ HasAbout db = (db.schema ≡ about_schema) × (db.trees 0 ≡ [])
 abbrev pub HasFresh : List ℕ → Database → Type 0
 HasFresh node db = (db.schema ≡ store_schema (order_in db.trees)) × IsFresh node db.trees
 
--- it is committed
+-- a fresh store is committed
 abbrev pub IsMade : List ℕ → State → Type 0
 IsMade node s = IsReady s × IsFresh node s.committed.trees
 
@@ -130,11 +130,11 @@ abbrev pub IsLeastOrGreatest : Bool → List Row → Option ℤ → Type 0
 IsLeastOrGreatest greatest rows None = rows ≡ []
 IsLeastOrGreatest greatest rows (Some place) = Contains (places_in rows) place × All (λ n. comes_before greatest n place → ⊥) (places_in rows)
 
--- the same of the records of a database
+-- the same for the records of a database
 abbrev pub HasLeastOrGreatest : Bool → Database → Option ℤ → Type 0
 HasLeastOrGreatest greatest db place = (order : TableOrder) × (db.schema ≡ store_schema order) × IsLeastOrGreatest greatest (db.trees (entries_tree order)) place
 
--- whose the file is
+-- the owner of the file
 abbrev pub IsOwner : List ℕ → Database → FileOwner → Type 0
 IsOwner node db Nobody = (order : TableOrder) × (db.schema ≡ store_schema order) × (db.trees (about_tree order) ≡ [])
 IsOwner node db OtherFormat = HasOtherFormat db
@@ -146,7 +146,7 @@ abbrev pub IsNegative : Option ℤ → Type 0
 IsNegative None = ⊥
 IsNegative (Some place) = place <ℤ pos 0
 
--- what is told of both tables: no row, or a store of that node, or else why not
+-- the verdict on both tables: no row, a store of that node, or the fault
 abbrev pub IsVerdict : List ℕ → Database → Result Contents StoreFault → Type 0
 IsVerdict node db (Ok NoRow) = IsEmpty db
 IsVerdict node db (Ok (OwnStore format)) = HasStore format db × (node_in db.trees ≡ node)
@@ -156,9 +156,10 @@ IsVerdict node db (Err fault) = IsOpeningFault node db fault
 abbrev pub HasItsTables : Schema → Schema → Type 0
 HasItsTables before after = ((before ≡ no_schema) × (after ≡ store_schema AboutFirst)) ⊎ (IsStoreSchema before × (after ≡ before))
 
--- What an opening for that node leaves of a connection to a file that held this: a store of the node or the fault,
--- and over a crash what was there or, of a new file, a store without a record or, of a store of format One, what it is
--- migrated to. A file that is no store of the node, or has a damaged record, stays as it was.
+-- The state of a connection to a file that held `before`, after an opening for that node: it has a store of the node,
+-- or the result is the fault. After a crash the file holds the database that was there or, for a new file, a store
+-- without a record or, for a store of format One, the store that it is migrated to. A file that is no store of the
+-- node, or has a damaged record, stays as it was.
 pub record BecomesStore (name : List ℕ) (before : Database) (s : State) (result : Result ℕ StoreFault) : Type 0 where
   pub ready : OnOk result (IsReady s × (node_in s.committed.trees ≡ name))
   pub count : IfOk result (λ count. count ≡ length (slots_in s.committed.trees))
@@ -168,7 +169,7 @@ pub record BecomesStore (name : List ℕ) (before : Database) (s : State) (resul
   pub crash : (db : Trees) → s.may_leave db → MayComeOf name before db
   pub unharmed : IfErr result (λ e. IsTrue (is_judgement e) → (db : Trees) → s.may_leave db → db ≡ before.trees)
 
--- a call that only reads, whatever it returns: a crash leaves what was committed before it
+-- a call that only reads, with any result: a crash leaves what was committed before it
 pub record OnlyReads {S : Type 0} (g : Ghosts S) (old new : Held S) : Type 0 where
   pub idle : old.in_transaction ≡ false → new.in_transaction ≡ false
   pub clean : HasCleanDisk (state g new) → HasCleanDisk (state g old)

@@ -1,4 +1,4 @@
--- Why files are not opened as a store of a node, and what is left of them then.
+-- Why files are not opened as a store of a node, and the state of the files then.
 use Rattle.std.specs.Prelude.{◌≡◌, ◌⊎◌, ◌&&◌, ℕ, List, false, IsTrue}
 use Rattle.sqlite.specs.Closing.{files_left}
 use Rattle.sqlite.specs.Effect.{Database, IsDatabase}
@@ -19,8 +19,8 @@ use Rattle.durable.specs.Opening.{IsOpeningFault, MayComeOf}
 use Rattle.stores.specs.declared.fault.StoreFault.{StoreFault}
 use Rattle.stores.specs.declared.fault.StoreFault.TheVariants.{Device, Full, Damaged, NoMemory}
 
--- the fault that is told of an error of SQLite's opening, by what the failed calls of the files had met before it and
--- since: SQLite calls a file corrupt where it is no database, and where a read was found wrong
+-- the fault for an error of SQLite's opening, by the tallies of the files' failed calls before and after it: SQLite
+-- reports a file as corrupt where it is no database, and where a read was found wrong
 abbrev pub IsToldOf : Tally → Tally → Error → StoreFault → Type 0
 IsToldOf before now error fault =
     ((fault ≡ Damaged 0) × ((error ≡ SqliteFailure code.NotADatabase) ⊎ ((error ≡ SqliteFailure code.DatabaseCorrupt) × (now.caught ≡ before.caught)))) ⊎ (fault ≡ store_fault_of error)
@@ -38,15 +38,15 @@ module _ {D : Type 0} (g : Ghosts D) where
   abbrev pub IsRefusal : Files D → List ℕ → StoreFault → Type 0
   IsRefusal files name fault = IsFileFault files fault ⊎ ((db : Database) × IsDatabase db × IsFound g files db.trees × IsOpeningFault name db fault)
 
-  -- files that hold a database hold the same after a refusal of what they hold
+  -- files that hold a database hold the same one after it was refused
   abbrev pub IsUnharmed : Files D → StoreFault → Files D → Type 0
   IsUnharmed files fault left = IsTrue (is_judgement fault) → ((fault ≡ Damaged 0) × IsNoDatabase g files) ⊎ ((db : Trees) × IsFound g files db × Hold g left (λ next. next ≡ db))
 
-  -- the files weren't opened, as memory ran out or a sync had failed, and are as they were
+  -- the files weren't opened, since memory ran out or a sync had failed, and are unchanged
   abbrev pub AreUntouched : Files D → Files D → StoreFault → Type 0
   AreUntouched files left fault = (left ≡ files) × ((fault ≡ NoMemory) ⊎ ((fault ≡ Device) × ((g.is_usable files.log && g.is_usable files.db) ≡ false)))
 
-  -- SQLite did not open the files: it says why, the fault is told of that, and it says what it gave back
+  -- SQLite did not open the files: the fault follows from its error, and it gave these files back
   pub record AreGivenBack (files left : Files D) (fault : StoreFault) : Type 0 where
     pub rest : Leftover D g
     pub same : (left.log, left.db) ≡ files_left rest
@@ -55,13 +55,14 @@ module _ {D : Type 0} (g : Ghosts D) where
     pub told : IsToldOf (tally_of_files g (files.log, files.db)) (tally_of_files g (left.log, left.db)) error fault
     pub leaves : AreClean g left.log left.db → LeavesFiles files rest
 
-  -- SQLite opened the files, and then they held that database, or hold what an opening for that node makes of it
+  -- SQLite opened the files, which held that database; now they hold it, or the one that an opening for that node makes
+  -- of it
   pub record AreOfOpened (name : List ℕ) (files left : Files D) : Type 0 where
     pub db : Database
     pub sound : IsDatabase db
     pub found : IsFound g files db.trees
     pub holds : Hold g left (MayComeOf name db)
 
-  -- what an opening for that node that failed leaves of files
+  -- the files after a failed opening for that node
   abbrev pub AreSpared : List ℕ → Files D → Files D → StoreFault → Type 0
   AreSpared name files left fault = AreUntouched files left fault ⊎ (AreGivenBack files left fault ⊎ (AreClean g left.log left.db → AreOfOpened name files left))

@@ -21,7 +21,7 @@ module _ {D : Type 0} (g : Ghosts D) where
   abbrev pub content : SqlStore D g → Places
   content s = kept.content g s.store_state
 
-  -- what an opening may make of it, also after a crash
+  -- a content that an opening may give it, also after a crash
   abbrev pub MayHold : SqlStore D g → Places → Type 0
   MayHold s next = kept.MayHold g s.store_state next
 
@@ -29,30 +29,30 @@ module _ {D : Type 0} (g : Ghosts D) where
   abbrev pub must_reopen : SqlStore D g → Bool
   must_reopen s = kept.must_reopen g s.store_state
 
-  -- the node in the row of about
+  -- the node in the table `about`
   abbrev pub owner : SqlStore D g → List ℕ
   owner s = kept.owner g s.store_state
 
-  -- how many calls of its files have failed, as its connection counts them
+  -- the number of failed calls of its files, as its connection counts them
   abbrev pub disk_faults : SqlStore D g → ℕ
   disk_faults s = kept.disk_faults g s.store_state
 
-  -- for which node it was opened
+  -- the node for which it was opened
   abbrev pub node_of : SqlStore D g → Node
   node_of s = s.node
 
   abbrev pub faults : SqlStore D g → ℕ
   faults s = s.faults
 
-  -- these files are the store's, and what an opening makes of them, the store may have held
+  -- the files are the store's, and each content that an opening may give them is one that the store may have held
   abbrev pub HadFiles : SqlStore D g → Files D → Type 0
   HadFiles s files = kept.AreFilesOf g s.store_state files × ((db : Trees) → MayFind g files db → (next : Places) → IsOpenedAs db next → ∥ MayHold s next ∥₁)
 
-  -- why an opening of its files for its node was refused
+  -- the fault of a refused opening of its files for its node
   abbrev pub IsReopeningFault : SqlStore D g → StoreFault → Type 0
   IsReopeningFault s fault = (files : Files D) × HadFiles s files × IsRefusal g files (node_text (node_of s)) fault
 
-  -- its files were opened again in vain, with that fault, and it has those that were left of them
+  -- an opening of its files failed with that fault, and it has the files that were left
   pub record HasSpared (old new : SqlStore D g) (fault : StoreFault) : Type 0 where
     pub files : Files D
     pub left : Files D

@@ -44,7 +44,7 @@ pub(crate) fn copied_files<D: Disk + Drop>(
     ensures holds { IfErr result (λ e. e.0 ≢ StoreFault.Device → Hold D.Disk e.1 (file_state conn).may_leave) }
 {
     let mut database = conn.into_store();
-    // Again, for what only this store's rollback says of the log.
+    // Repeated here, since only this store's rollback has a clause about the log.
     database.rollback();
     match database.checkpoint() {
         Ok(()) => Ok(database.close()),
@@ -55,9 +55,9 @@ pub(crate) fn copied_files<D: Disk + Drop>(
     }
 }
 
-/// What an error of an opening tells, by what the failed calls of the files had met before it and since. SQLite calls
-/// a file corrupt where it can't be a database and where a read was found wrong; only the first is a fault of what is
-/// written.
+/// The fault for an error of an opening, by the tallies of the files' failed calls before and after it. SQLite reports
+/// a file as corrupt where it can't be a database and where a read was found wrong; only the first is a fault of the
+/// file's content.
 pub(crate) fn opening_fault(error: SqlError, before: Tally, now: Tally) -> StoreFault
     ensures told { IsToldOf before now error result }
     ensures named { (result ≡ StoreFault.Damaged 0) ⊎ IsCallFault result }
@@ -83,7 +83,7 @@ pub(crate) fn opening_fault(error: SqlError, before: Tally, now: Tally) -> Store
 
 /// Opens the files. An error gives them back; after a failed sync they can't be used again.
 ///
-/// `Damaged(0)`: they hold no database. `Device`, `Full` and `NoMemory` may come at any call.
+/// Fails with `Damaged(0)` where they hold no database, and with `Device`, `Full` or `NoMemory` at any call.
 pub(crate) fn open_again<D: Disk + Drop>(
     alloc: Global,
     files: Files<D>,

@@ -1,4 +1,4 @@
-//! What errors of a database mean for a store whose log is copied.
+//! The store's faults for errors of a database whose log is copied.
 ghost use Rattle.std.specs.Prelude.{◌≡◌, ◌≢◌, ◌⊎◌, IsTrue};
 ghost use Rattle.sqlite.specs.State.{store_error};
 ghost use Rattle.sqlite.specs.View.{IsClean};
@@ -12,7 +12,7 @@ use sqlite_trees::error::StoreError;
 use sqlite_trees::store::Store;
 use stores::StoreFault;
 
-/// What an error of the database below the statements tells.
+/// The fault for an error of the database below the statements.
 fn fault_below(error: StoreError) -> StoreFault
     ensures told { result ≡ store_fault_of (store_error error) }
 {

@@ -10,8 +10,8 @@ ghost use Rattle.durable.specs.declared.sql_store.SqlStore.{SqlStore};
 
 use sqlite_disk::Disk;
 
-/// Files that a running store was closed into, opened again, have its content and its owner, where the device returns
-/// what was written: what `close_files` says of the files, and what `open_files` finds in them.
+/// Where the device returns what was written, the files into which a running store was closed have its content and its
+/// owner when they are opened again. The law joins the clauses of `close_files` and `open_files`.
 pub fn closed_files_open_as_they_were<D: Disk + Drop>()
     ensures { (closed opened : SqlStore D D.Disk) (files : Files D)
         → Hold D.Disk files

@@ -28,7 +28,7 @@ pub(crate) struct OpenStore<S: Alter> {
     alloc: Global,
 }
 
-// Written out, since a derived destructor is proved anew in each crate that lets a value go.
+// Written out, since a derived destructor is proved anew in each crate that drops a value.
 impl<S: Alter + Drop> Drop for OpenStore<S> {
     fn drop(self) {
         let OpenStore {
@@ -55,7 +55,7 @@ impl<S: Alter> Model for OpenStore<S> {
         (record { conn = s.conn; count = s.count; must_reopen = is_stopped s.readiness }) };
 }
 
-/// The count with the batch, if the places fit.
+/// The number of places with the batch, or `None` where it isn't below 2^62.
 fn total(count: u64, more: usize) -> Option<u64>
     ensures sum { IfSome result (λ total. total ≡ count + more) }
     ensures fits { IfSome result (λ total. total < 2 ^ 62) }
@@ -111,7 +111,7 @@ impl<S: Alter> OpenStore<S> {
         conn
     }
 
-    /// The texts of a batch at the places after the content.
+    /// Puts the texts of a batch at the places after the content.
     fn put(&mut self, texts: &[Vec<u8>]) -> Result<(), StoreFault>
         requires runs { self.old.must_reopen ≡ false }
         ensures named { IfErr result IsCallFault }
@@ -172,7 +172,8 @@ impl<S: Alter> OpenStore<S> {
         self.put(&texts)
     }
 
-    /// The records of the places from the first one up to another, of which there is at least one.
+    /// The records of the places from the first one up to, but not including, another one. There is at least one such
+    /// place.
     fn records_between(&mut self, first: u64, until: u64) -> Result<Vec<Input>, StoreFault>
         requires runs { self.old.must_reopen ≡ false }
         requires some { first < until }

@@ -1,4 +1,4 @@
-//! Opening: a file that has no row yet is made a store, and of any other it is found whether it is one.
+//! Opening: a file that has no row yet becomes a store, and any other file is checked to be one.
 ghost use Rattle.std.specs.Prelude.{◌≡◌, ◌≢◌, ◌⊎◌, ◌≤◌, ◌^◌, ℕ, ◌+◌, pos, List, [], length, IsTrue, OnOk, IfOk, IfErr, true, false};
 ghost use Rattle.sqlite.specs.Effect.{Database};
 ghost use Rattle.sqlite.specs.Given.{IsPlain};
@@ -74,7 +74,7 @@ fn create_entries<S: Alter>(tx: &mut Transaction<'_, S>) -> Result<(), SqlError>
     Ok(())
 }
 
-/// Puts the owner's row.
+/// Inserts the owner's row.
 fn put_owner<S: Alter>(tx: &mut Transaction<'_, S>, node: &str) -> Result<(), SqlError>
     requires inside { HasCleanDisk (state S.Store tx.old.conn.now) → IsWithin (state S.Store tx.old.conn.now) IsEmpty }
     ensures same_reference { tx.new.conn.ghost_name ≡ tx.old.conn.ghost_name }
@@ -114,7 +114,7 @@ fn make<S: Alter>(conn: &mut Connection<S>, node: &str) -> Result<(), SqlError>
     tx.commit()
 }
 
-/// Puts the owner's row into tables that have no row.
+/// Inserts the owner's row into tables that have no row.
 fn write_owner<S: Alter>(conn: &mut Connection<S>, node: &str) -> Result<(), SqlError>
     requires idle { conn.old.in_transaction ≡ false }
     requires opened { HasCleanDisk (state S.Store conn.old) → IsOpened (state S.Store conn.old)
@@ -132,7 +132,7 @@ fn write_owner<S: Alter>(conn: &mut Connection<S>, node: &str) -> Result<(), Sql
     tx.commit()
 }
 
-/// The rows that a query on a store shows.
+/// The rows that a query on a store returns.
 fn ask<S: Alter>(conn: &mut Connection<S>, sql: &str) -> Result<Vec<Row>, StoreFault>
     requires opened { HasCleanDisk (state S.Store conn.old) → IsOpened (state S.Store conn.old)
         × IsStoreSchema (state S.Store conn.old).committed.schema }
@@ -150,7 +150,7 @@ fn ask<S: Alter>(conn: &mut Connection<S>, sql: &str) -> Result<Vec<Row>, StoreF
     }
 }
 
-/// Whose the file is.
+/// The owner of the file.
 fn find_owner<S: Alter>(conn: &mut Connection<S>, node: &str) -> Result<FileOwner, StoreFault>
     requires opened { HasCleanDisk (state S.Store conn.old) → IsOpened (state S.Store conn.old)
         × HasRows (state S.Store conn.old).committed }
@@ -209,15 +209,15 @@ fn is_negative(place: Option<i64>) -> bool
     }
 }
 
-/// What both tables have.
+/// The content of both tables.
 #[derive(Clone, Copy)]
 enum Contents {
     NoRow,
-    /// They are a store of the node that asks, in that format.
+    /// They are a store, in that format, of the node for which the file is opened.
     OwnStore(RecordFormat),
 }
 
-/// What both tables have, or why they are no store of the node that asks.
+/// The content of both tables, or why they are no store of the node for which the file is opened.
 fn verdict(owner: FileOwner, least: Option<i64>) -> Result<Contents, StoreFault>
     ensures never { IfErr result (λ e. e ≢ StoreFault.Reopen) }
     ensures places { IfErr result (λ e. (p : ℕ) → e ≡ StoreFault.Damaged p → p ≡ 0) }
@@ -237,7 +237,7 @@ fn verdict(owner: FileOwner, least: Option<i64>) -> Result<Contents, StoreFault>
     }
 }
 
-/// What both tables of the file have, or why it is no store of the node.
+/// The content of both tables of the file, or why it is no store of the node.
 fn examine<S: Alter>(conn: &mut Connection<S>, node: &str) -> Result<Contents, StoreFault>
     requires opened { HasCleanDisk (state S.Store conn.old) → IsOpened (state S.Store conn.old)
         × HasRows (state S.Store conn.old).committed }
@@ -264,7 +264,7 @@ fn next_place(place: i64) -> u64
 /// The most places that a store can have: those from 0 to the greatest number of SQLite.
 const MOST_PLACES: u64 = 1 << 63;
 
-/// How many places the content of a store has, of either format.
+/// The number of places of a store's content, in either format.
 fn count<S: Alter>(conn: &mut Connection<S>) -> Result<u64, StoreFault>
     requires opened { HasCleanDisk (state S.Store conn.old) → IsOpened (state S.Store conn.old)
         × HasRows (state S.Store conn.old).committed }
@@ -326,7 +326,7 @@ fn start_in_empty_tables<S: Alter>(conn: &mut Connection<S>, node: &str) -> Resu
     }
 }
 
-/// A store of format One becomes one of format Two. Returns how many places it has.
+/// Migrates a store of format One to format Two. Returns the number of its places.
 fn resume_format_one<S: Alter, W: Watch>(
     conn: &mut Connection<S>,
     alloc: Global,
@@ -351,7 +351,7 @@ fn resume_format_one<S: Alter, W: Watch>(
     }
 }
 
-/// A file with both tables is a store of the node, or becomes one where it has no row, or is refused.
+/// Opens a file with both tables: it is a store of the node, becomes one where it has no row, or is refused.
 fn resume<S: Alter, W: Watch>(
     conn: &mut Connection<S>,
     alloc: Global,
@@ -375,13 +375,14 @@ fn resume<S: Alter, W: Watch>(
     }
 }
 
-/// Makes the file a store of the node where it has no row yet, or finds that it is one, which it migrates where it has
-/// format One, and returns how many places its content has.
+/// Makes the file a store of the node where it has no row yet, or checks that it is one, and migrates it where it has
+/// format One. Returns the number of places of its content.
 ///
-/// Faults in this order: `Damaged(0)` where the file has other tables, records without an owner, or a place below 0;
-/// `WrongVersion`; `WrongNode`; `Damaged(p)` for the first place of a store of format One that has no record. `Device`,
-/// `Full` and `NoMemory` may come at any call of the database. A refused file is as it was, except that after
-/// one of these three faults one that was new may have been made whole, and one of format One may have been migrated.
+/// Fails with the first of these that applies: `Damaged(0)` where the file has other tables, records without an owner,
+/// or a place below 0; `WrongVersion`; `WrongNode`; `Damaged(p)` for the first place of a store of format One that has
+/// no record. Fails with `Device`, `Full` or `NoMemory` at any call of the database. A refused file is as it was,
+/// except that after one of these three faults a new file may have become a store, and a store of format One may have
+/// been migrated.
 pub(crate) fn open_as_store<S: Alter, W: Watch>(
     conn: &mut Connection<S>,
     alloc: Global,

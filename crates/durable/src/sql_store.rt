@@ -31,7 +31,7 @@ pub struct SqlStore<D: Disk + Drop> {
     ghost there: { IsTrue (is_there D.Disk store_state) },
 }
 
-// Written out, since a derived destructor is proved anew in each crate that lets a value go.
+// Written out, since a derived destructor is proved anew in each crate that drops a value.
 impl<D: Disk + Drop> Drop for SqlStore<D> {
     fn drop(self) {
         let SqlStore {
@@ -51,13 +51,14 @@ impl<D: Disk + Drop> SqlStore<D> {
     /// Opens the database file and its log, makes them a store of the node where they are new, and migrates a store of
     /// format One to format Two. An error gives the files back.
     ///
-    /// Fails with the first that is so of `Damaged(0)`, where the files hold no store, `WrongVersion`, `WrongNode`, and
-    /// `Damaged(p)`, where `p` is the first place without a record in a store of format One; the database that they
-    /// hold stays as it was. Fails with `Device`, `Full` or `NoMemory` at any call of the database, and with `Device`
-    /// where the files can't be used since a sync failed. Then the files are as they were, and no call of them was
-    /// made; or SQLite couldn't open them, for a cause that it tells, and gave them back; or it could, and they hold
-    /// the database that it found, or a store that was made of new files, or that a store of format One was migrated
-    /// to.
+    /// Fails with the first of these that applies: `Damaged(0)` where the files hold no store, `WrongVersion`,
+    /// `WrongNode`, and `Damaged(p)`, where `p` is the first place without a record in a store of format One. The
+    /// database that the files hold then stays as it was.
+    ///
+    /// Fails with `Device`, `Full` or `NoMemory` at any call of the database, and with `Device` where the files can't
+    /// be used since a sync failed. Then one of these is the case. No call of the files was made, and they are as they
+    /// were. SQLite couldn't open them, and gave them back with its error. Or SQLite could open them, and they hold the
+    /// database that it found, a store that was made of new files, or a store that was migrated from format One.
     pub fn open_files(
         alloc: Global,
         files: Files<D>,
@@ -81,7 +82,7 @@ impl<D: Disk + Drop> SqlStore<D> {
         SqlStore::open_files_watched(alloc, files, options, node, &mut Nobody)
     }
 
-    /// As `open_files`, and tells how far a migration of the store has come.
+    /// As `open_files`, and reports to the watch how far a migration of the store is.
     ///
     /// Fails as `open_files` does.
     pub fn open_files_watched<W: Watch>(
@@ -115,16 +116,16 @@ impl<D: Disk + Drop> SqlStore<D> {
         })
     }
 
-    /// For which node it was opened.
+    /// The node for which it was opened.
     pub fn node(&self) -> Node
         ensures { result ≡ node_of D.Disk self.now }
     {
         self.node
     }
 
-    /// Closes the store, and gives both files back with no call of the device, so that it can't fail. They hold the
-    /// content and the owner as they were, now and after a crash. If the store had to be reopened first, opening
-    /// these files decides the content.
+    /// Closes the store and gives both files back. It makes no call of the device, and can't fail. The files hold the
+    /// content and the owner as they were, now and after a crash. If the store had to be reopened first, opening these
+    /// files decides the content.
     pub fn close_files(self) -> Files<D>
         ensures honest { AreClean D.Disk result.log result.db → IsHonest D.Disk self }
         ensures left { (db : Trees) → MayFind D.Disk result db → (next : Places) → IsOpenedAs db next
@@ -146,15 +147,15 @@ impl<D: Disk + Drop> SqlStore<D> {
         store_state.into_files()
     }
 
-    /// Copies what the log holds into the database file, closes the store, and gives both files back. After Ok the
-    /// database file holds the content and the owner by itself, whatever becomes of its log, now and after a crash.
-    /// An error gives the files back.
+    /// Copies what the log holds into the database file, closes the store, and gives both files back. After `Ok` the
+    /// database file holds the content and the owner by itself, with or without its log, now and after a crash. An
+    /// error gives the files back.
     ///
     /// Fails with `Reopen` exactly when the store must be reopened first; then no call of the device is made, and the
     /// files are those of `close_files`. Fails with `Full` where there is no room for the database file, and with
     /// `NoMemory`; then the files hold the content and the owner as they were, now and after a crash. Fails with
-    /// `Device` at any call of the files. What an opening finds of them then is not proved, as the database has no
-    /// clause on it once a call of the device has shut it.
+    /// `Device` at any call of the files. No clause says what an opening finds in them then, since the database has
+    /// none for files after a failed call of the device has shut it.
     pub fn checkpoint_files(self) -> Result<Files<D>, (StoreFault, Files<D>)>
         ensures runs { OnOk result (must_reopen D.Disk self ≡ false) }
         ensures honest { IfOk result (λ files. AreClean D.Disk files.log files.db → IsHonest D.Disk self) }
@@ -188,7 +189,7 @@ impl<D: Disk + Drop> SqlStore<D> {
 impl SqlStore<File> {
     ghost use Rattle.durable.specs.Stores.{must_reopen};
 
-    /// As `checkpoint_files`, and the files are closed.
+    /// As `checkpoint_files`, and closes the files.
     ///
     /// Fails with `Reopen` exactly when the store must be reopened first, and else with `Device`, `Full` or `NoMemory`.
     pub fn checkpoint(self) -> Result<(), StoreFault>
@@ -228,8 +229,8 @@ impl<D: Disk + Drop> NodeStore for SqlStore<D> {
 
     ghost is_own = { λ s. owner D.Disk s ≡ node_text (node_of D.Disk s) };
 
-    /// `Full`: a call of the files failed, or the count of the places with the batch is not below 2^62, or SQLite
-    /// itself refuses one of the records.
+    /// Fails with `Full` where a call of the files failed, where the count of the places with the batch is not below
+    /// 2^62, and where SQLite itself refuses one of the records.
     fn append(&mut self, batch: &[Input]) -> Result<(), StoreFault>
         ensures appends { Appends (IsHonest D.Disk) (content D.Disk) (MayHold D.Disk)
             (must_reopen D.Disk) self.old self.new batch.now result }
@@ -270,8 +271,8 @@ impl<D: Disk + Drop> NodeStore for SqlStore<D> {
         }
     }
 
-    /// Fails with `Damaged(p)`, `WrongVersion` and `WrongNode` as `open_files` does, and leaves of the files what that
-    /// leaves. After a sync that failed the same files can't be used again, and every reopening fails with `Device`.
+    /// Fails with `Damaged(p)`, `WrongVersion` and `WrongNode` as `open_files` does, and leaves the files as it does.
+    /// After a sync that failed the same files can't be used again, and every reopening fails with `Device`.
     fn reopen(&mut self) -> Result<(), StoreFault>
         ensures reopens { Reopens (IsHonest D.Disk) (content D.Disk) (MayHold D.Disk)
             (must_reopen D.Disk) self.old self.new result }

@@ -35,11 +35,11 @@ use wire::Input;
 pub(crate) enum StoreState<D: Disk + Drop> {
     Open(OpenStore<FileStore<D>>),
     Shut(Files<D>),
-    /// Within a reopening alone.
+    /// Only within a reopening.
     Absent,
 }
 
-/// How many calls of the device have failed, after this fault too.
+/// The number of failed calls of the device, counting this fault too.
 pub(crate) fn count_fault(faults: u64, fault: StoreFault) -> u64
     ensures { result ≡ count_after faults fault }
 {
@@ -80,8 +80,8 @@ impl<D: Disk + Drop> StoreState<D> {
         }
     }
 
-    /// The files, where the database file holds the whole store with no log too. A fault gives them back: `Reopen`
-    /// with no call of the device.
+    /// Copies the log, and returns the files. The database file then holds the whole store without its log. A fault
+    /// gives the files back; for `Reopen` no call of the device was made.
     pub(crate) fn into_copied_files(self) -> Result<Files<D>, (StoreFault, Files<D>)>
         requires there { IsTrue (is_there D.Disk self) }
         ensures runs { OnOk result (must_reopen D.Disk self ≡ false) }
@@ -191,7 +191,7 @@ pub(crate) fn store_over<D: Disk + Drop, W: Watch>(
     }
 }
 
-/// Opens the files as a store of the node, and tells the watch how far a migration has come. An error gives them back,
+/// Opens the files as a store of the node, and reports to the watch how far a migration is. An error gives them back,
 /// and files that were found to be no store of the node, or to have a damaged record, hold what they held.
 pub(crate) fn store_from_files<D: Disk + Drop, W: Watch>(
     alloc: Global,

@@ -1,4 +1,4 @@
--- The table of a run that was listed is one of an audit.
+-- The table of a listed run is one that an audit may write.
 use Rattle.std.proofs.Common.{◌≡◌, ◌++◌, ℕ, List, subst}
 use Rattle.protocol.specs.Input.{Input}
 use Rattle.protocol.specs.Scheme.{Scheme}

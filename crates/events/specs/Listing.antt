@@ -35,7 +35,7 @@ module _ {S : Type 0} (g : Ghosts S) where
     pub loaded : AreLoaded g scheme (nodes scheme) olds news journals
     pub lists : ListsRun form scheme journals text
 
-  -- nothing was written, or the first bytes of the text, fewer than all
+  -- nothing was written, or some first bytes of the text, but not all of it
   abbrev pub FailsToList : Form → OpFault → Scheme → List S → List S → (before after : Option (List ℕ)) → Type 0
   FailsToList form (Stuck n place) scheme olds news v w = FindsNoRun g scheme olds news n place × Keeps v w
   FailsToList form (Store told fault) scheme olds news v w = FailsToLoad g scheme (nodes scheme) olds news (Store told fault) × Keeps v w

@@ -7,7 +7,7 @@ use Rattle.protocol.specs.declared.event.WorldEvent.TheVariants.{Take, Commit, P
 use Rattle.scheme.specs.Written.{scheme_text}
 use Rattle.protocol.specs.Scheme.{Scheme}
 
--- the object of an event and a newline. An input has its record's text, and a moment its seconds
+-- the object of an event, and a newline. An input is written as its record's text, and a moment in seconds
 abbrev pub event_object : WorldEvent → List ℕ
 event_object (Take node input) = codes "{\"event\":\"take\",\"input\":" ++ record_text input ++ codes ",\"node\":\"" ++ node_text node ++ codes "\"}\n"
 event_object (Commit node count) = codes "{\"count\":" ++ decimal count ++ codes ",\"event\":\"commit\",\"node\":\"" ++ node_text node ++ codes "\"}\n"
@@ -16,7 +16,7 @@ event_object (Deliver message moment) = codes "{\"event\":\"deliver\",\"message\
 event_object (Crash node kept) = codes "{\"event\":\"crash\",\"kept\":" ++ decimal kept ++ codes ",\"node\":\"" ++ node_text node ++ codes "\"}\n"
 event_object (Restart node) = codes "{\"event\":\"restart\",\"node\":\"" ++ node_text node ++ codes "\"}\n"
 
--- those of the events, one after another
+-- the objects of the events, one after another
 abbrev pub event_objects : List WorldEvent → List ℕ
 event_objects [] = []
 event_objects (e ∷ events) = event_object e ++ event_objects events

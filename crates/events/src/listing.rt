@@ -45,7 +45,7 @@ fn text_in(
     }
 }
 
-/// The text of the run that was woven of these journals, or what the fault is to the command.
+/// The text of the run that was woven from these journals, or the command's fault.
 fn text_of_woven(
     alloc: Global,
     scheme: &Scheme,
@@ -86,23 +86,23 @@ fn text_of_cores<P: Watch>(
 }
 
 /// Reads the stores, one for each node: the log's, then those of the registries in the scheme's order. Finds a run that
-/// leads to all their records and to no others, and writes its scheme and its events, as `rehearse` reads them. Tells of
+/// leads to all their records and to no others, and writes its scheme and its events, as `rehearse` reads them. Reports
 /// the records as they are read and woven.
 ///
-/// As JSON, the first line is the scheme's, and each event is an object with its name as `event`, and with its node, its
-/// numbers, the moment in seconds, and of an input the record's text. `rehearse` doesn't read these.
+/// As JSON, the first line is the scheme's, and each event is an object with its name as `event`, its node, its
+/// numbers, its moment in seconds and, for an input, the record's text. `rehearse` doesn't read these.
 ///
 /// The stores are read by pages, and nothing is written to them.
 ///
 /// # Errors
 ///
-/// Nothing is written, but where the output failed:
+/// Nothing is written, except where the output failed:
 ///
-/// - `Store`: the first store in that order that could not be read, or has a damaged record. A record is damaged too
-///   where its node doesn't record it after those before it.
+/// - `Store`: a store could not be read, or has a damaged record; it is the first such store in that order. A record is
+///   also damaged where its node doesn't record it after those before it.
 /// - `Stuck`: no run leads to these records. Followed as far as they go, the node is the first with a record left, and
 ///   the place is that record's.
-/// - `Write`: the output failed, after the number of bytes that the fault tells.
+/// - `Write`: the output failed, after the number of bytes in the fault.
 /// - `NoMemory`: out of memory.
 pub fn list_events<S: NodeStore, W: Write, P: Watch>(
     alloc: Global,
@@ -127,8 +127,8 @@ pub fn list_events<S: NodeStore, W: Write, P: Watch>(
     Ok(())
 }
 
-/// What `rehearse` reports of a run that was listed, within the limits of an input, ends with a table that `audit` may
-/// write of the same journals.
+/// For a listed run within the limits of an input, the report of `rehearse` ends with a table that `audit` may write
+/// for the same journals.
 pub fn ends_with_audits_table()
     ensures { (scheme : Registries) (journals : List (List Input)) (text : List ℕ) → ListsRun Lines scheme journals text
         → IsWithinLimits text → (s : Registries) (events : List WorldEvent) (report : List ℕ)

@@ -18,7 +18,7 @@ fn node_member(alloc: Global, node: Node) -> Result<String, NoMemory>
     Ok(format!(in alloc; ",\"node\":\"{node}\"}}\n")?)
 }
 
-/// Adds the three texts.
+/// Adds the three texts, one after another.
 fn push_parts(text: &mut Vec<u8>, first: &[u8], second: &[u8], third: &[u8]) -> Result<(), NoMemory>
     ensures { OnOk result (text.new.items ≡ text.old.items ++ (first.now ++ second.now ++ third.now)) }
 {
@@ -28,7 +28,7 @@ fn push_parts(text: &mut Vec<u8>, first: &[u8], second: &[u8], third: &[u8]) -> 
     Ok(())
 }
 
-/// Adds the object of an input that a node takes.
+/// Adds the object of a node's input.
 fn push_take(alloc: Global, text: &mut Vec<u8>, node: Node, input: &Input) -> Result<(), NoMemory>
     ensures { OnOk result (text.new.items ≡ text.old.items ++ event_object (Take node input.now)) }
 {
@@ -43,21 +43,21 @@ fn push_take(alloc: Global, text: &mut Vec<u8>, node: Node, input: &Input) -> Re
     Ok(())
 }
 
-/// The object of records that a node commits.
+/// The object of an event in which a node commits records.
 fn commit_object(alloc: Global, node: Node, count: u64) -> Result<String, NoMemory>
     ensures { IfOk result (λ s. string_bytes s ≡ event_object (Commit node count)) }
 {
     Ok(format!(in alloc; "{{\"count\":{count},\"event\":\"commit\",\"node\":\"{node}\"}}\n")?)
 }
 
-/// The object of a message that a node posts.
+/// The object of an event in which a node posts a message.
 fn post_object(alloc: Global, node: Node, key: u64) -> Result<String, NoMemory>
     ensures { IfOk result (λ s. string_bytes s ≡ event_object (Post node key)) }
 {
     Ok(format!(in alloc; "{{\"event\":\"post\",\"key\":{key},\"node\":\"{node}\"}}\n")?)
 }
 
-/// The object of a message that is delivered at that moment.
+/// The object of an event in which a message is delivered at that moment.
 fn deliver_object(alloc: Global, message: u64, moment: Moment) -> Result<String, NoMemory>
     ensures { IfOk result (λ s. string_bytes s ≡ event_object (Deliver message moment)) }
 {

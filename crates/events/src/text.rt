@@ -49,7 +49,7 @@ fn push_events(alloc: Global, text: &mut Vec<u8>, events: &[WorldEvent]) -> Resu
 /// # Errors
 ///
 /// Fails with `NoMemory` where there is no room for the text, and where no line writes an event. Each woven event has a
-/// line, except one with a number of more than 18 digits, which no machine has the records or messages for.
+/// line, except one with a number of more than 18 digits; no machine has that many records or messages.
 pub(crate) fn run_text(
     alloc: Global,
     scheme: &Scheme,
@@ -64,7 +64,7 @@ pub(crate) fn run_text(
     Ok(text)
 }
 
-/// A run's text that is within the limits of an input is a rehearsal of the scheme and the events.
+/// If the text of a run is within the limits of an input, it is a rehearsal of the scheme and the events.
 pub fn is_rehearsal()
     ensures { (text : List ℕ) (scheme : Registries) (events : List Happening) → IsRun text scheme events
         → IsWithinLimits text → IsRehearsal text scheme events }

@@ -1,4 +1,4 @@
--- What a session has heard so far, and how it goes on and ends.
+-- The lines that a session has read so far, and how it goes on and ends.
 use Rattle.std.proofs.Common.{◌≡◌, ℕ, ◌+◌, ◌*◌, List, [], ◌++◌, length, Option, refl, sym, ap, subst, ◌∙◌, arith, append_assoc, append-nil, length-append}
 use Rattle.std.proofs.KnownBytes.{Appends-nil, Consumes-nil, Consumes-trans, Consumes-kept}
 use Rattle.std.specs.Io.KnownBytes.{Consumes, Keeps}
@@ -133,7 +133,7 @@ module _ {R W : Type 0} (remaining : R → Option (List ℕ)) (contents : W → 
       ends_within left left' r r0 r1 w w1 w2 g0 g1 g2 held piece written new (WriteFault n) (session.WriteFault (written + n)) h read p
       (cut_more contents most_interruptions left w w1 w2 h.given p.given n (written + n) (omega (arith, h.count, replies_length h.given)) goes h.replied p.ends, sound)
 
--- a splitter that holds what follows the lines
+-- a splitter that holds the bytes after the lines
 pub takes_more : (new : SplitterView) (rest : List ℕ) → new ≡ open_with rest → new ≡ open_with new.rest
 takes_more new rest e = e ∙ ap open_with (sym (ap (λ (h : SplitterView). h.rest) e))
 

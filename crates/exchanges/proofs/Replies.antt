@@ -36,7 +36,7 @@ pub each_front : (P : List ℕ → Type 0) (ls ms : List (List ℕ)) → AllByRe
 each_front P [] ms a = tt
 each_front P (l ∷ ls) ms a = (a.0, each_front P ls ms a.1)
 
--- ---- what was given, with more given after it
+-- ---- lists of given lines, with more after them
 
 pub lines_append : (a b : List Given) → lines_of (a ++ b) ≡ lines_of a ++ lines_of b
 lines_append a b = map-append (λ (g : Given). g.line) a b

@@ -27,7 +27,7 @@ module _ {W : Type 0} (contents : W → Option (List ℕ)) where
       ap (λ (t : List (List ℕ)). t ++ ms) x ∙ ap (λ (t : List (List ℕ)). lines_of a ++ t) y ∙ sym (append_assoc (lines_of a) (lines_of b) later)
       ∙ ap (λ (t : List (List ℕ)). t ++ later) (sym (lines_append a b))
 
-  -- as many replies as lines
+  -- the numbers of replies and lines are the same
   pub served_length : (w w' : CountedView W) (old new : List Given) (lines : List (List ℕ)) (s : Served w w' old new lines) → length (replies_text s.given) ≡ 31 * length lines
   served_length w w' old new lines s = replies_length s.given ∙ ap (λ (n : ℕ). 31 * n) (sym (lines_length s.given) ∙ ap length (sym s.exact))
 
@@ -55,7 +55,7 @@ module _ {W : Type 0} (contents : W → Option (List ℕ)) where
   later_more a b ls ms later rest x y =
       sym (append_assoc ls ms rest) ∙ ap (λ (t : List (List ℕ)). t ++ rest) (exact_more a b ls ms later x y) ∙ append_assoc (lines_of (a ++ b)) later rest
 
-  -- more lines, of which the last was not replied to in full, and no further ones
+  -- more lines; the last was not replied to in full, and no further ones were given
   pub serves_stop : (most left : ℕ) (w0 w1 w2 : CountedView W) (g0 g1 g2 : List Given) (ls ms rest : List (List ℕ)) → Served w0 w1 g0 g1 ls → ServesLines contents left w1 w2 g1 g2 ms Stopped
       → ServesLines contents most w0 w2 g0 g2 (ls ++ (ms ++ rest)) Stopped
   serves_stop most left w0 w1 w2 g0 g1 g2 ls ms rest s t = record {

@@ -1,4 +1,4 @@
--- What an exchange writes and reads.
+-- The bytes that an exchange writes and reads.
 use Rattle.std.specs.Prelude.{◌≡◌, ℕ, ◌+◌, List, [], ◌∷◌, ◌++◌, length, Option, ◌⊎◌}
 use Rattle.units.specs.Limits.{longest_line}
 use Rattle.streams.specs.Lines.{HasNoNewline, IsWithin}
@@ -15,7 +15,7 @@ abbrev pub IsNoReply : List ℕ → Type 0
 IsNoReply line = (reply : Reply) → IsReply line reply → ⊥
 
 module _ {R W : Type 0} (remaining : R → Option (List ℕ)) (contents : W → Option (List ℕ)) where
-  -- what was read where the text was written, and what that came to
+  -- the bytes that were read after the text was written, and the end that they lead to
   abbrev pub Hears : CountedView R → CountedView R → Exchange → Type 0
   Hears old new (Answered reply) = (line : List ℕ) × IsReply line reply × IsWithin longest_line line × Takes remaining old new (line ++ 10 ∷ [])
   Hears old new ReadFault = (start : List ℕ) × IsWithin longest_line start × TakesAndFails remaining old new start
@@ -26,7 +26,7 @@ module _ {R W : Type 0} (remaining : R → Option (List ℕ)) (contents : W → 
   Hears old new NoMemory = (line : List ℕ) × IsWithin longest_line line × Takes remaining old new (line ++ 10 ∷ [])
   Hears old new (WriteFault n) = ⊥
 
-  -- what an exchange of a text wrote and read, and why it ended so
+  -- the bytes that an exchange of a text wrote and read, and the reason for its end
   abbrev pub Exchanges : CountedView R → CountedView R → CountedView W → CountedView W → List ℕ → Exchange → Type 0
   Exchanges r r' w w' text (WriteFault n) = (r' ≡ r) × WritesFirst contents most_interruptions w w' text n
   Exchanges r r' w w' text NoMemory = ((r' ≡ r) × (w' ≡ w)) ⊎ (WritesAll contents w w' text × Hears r r' NoMemory)

@@ -13,7 +13,7 @@ pub record Given : Type 0 where
   pub line : List ℕ
   pub reply : Reply
 
--- what was given after one more line with its reply, or without a reply
+-- the list of given lines after one more line with its reply, or without a reply
 abbrev pub GivesOne : List Given → List Given → List ℕ → Result Reply NoMemory → Type 0
 GivesOne old new line (Ok reply) = new ≡ old ++ record { line = line; reply = reply } ∷ []
 GivesOne old new line (Err e) = new ≡ old

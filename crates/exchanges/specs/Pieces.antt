@@ -1,4 +1,4 @@
--- What some lines and a piece of a stream come to, and what is left of them. No public contract cites it.
+-- How some lines and a piece of a stream are served, and the bytes that are left of them. No public contract cites it.
 use Rattle.std.specs.Prelude.{◌≡◌, ℕ, ◌+◌, ◌*◌, ◌<◌, ◌≤◌, List, [], ◌++◌, length, take, false, Option}
 use Rattle.std.specs.List.{AllByRecursion}
 use Rattle.units.specs.Limits.{longest_line}
@@ -19,7 +19,7 @@ use Rattle.exchanges.specs.declared.replying.LinesEnd.TheVariants as lines_end
 abbrev pub most_lines : ℕ
 most_lines = 12_288
 
--- the end of a piece by that of its lines
+-- the end of a piece from the end of its lines
 abbrev pub piece_end : PieceEnd → LinesEnd → PieceEnd
 piece_end all lines_end.AllReplied = all
 piece_end all lines_end.Stopped = Stopped
@@ -45,14 +45,14 @@ StreamEnds rest session_end.Truncated = 0 < length rest
 StreamEnds rest _ = ⊥
 
 module _ {W : Type 0} (contents : W → Option (List ℕ)) where
-  -- how some lines were replied to, by what was given of them and by the lines after these
+  -- how the replies to some lines ended, by the lines that were given and the lines after these
   abbrev pub LinesEndBy : ℕ → CountedView W → CountedView W → List Given → List (List ℕ) → LinesEnd → Type 0
   LinesEndBy most w w' given later lines_end.AllReplied = RepliesToAll contents w w' given × (later ≡ [])
   LinesEndBy most w w' given later lines_end.Stopped = RepliesToTheStop contents w w' given
   LinesEndBy most w w' given later (lines_end.WriteFault n) = RepliesCutShort contents most w w' given n
   LinesEndBy most w w' given later lines_end.NoMemory = RepliesToAll contents w w' given
 
-  -- the first of these lines were given in their order, and it ended so
+  -- the first of these lines were given in their order, with this end
   pub record ServesLines (most : ℕ) (w w' : CountedView W) (old new : List Given) (lines : List (List ℕ)) (end : LinesEnd) : Type 0 where
     pub given : List Given
     pub later : List (List ℕ)
@@ -60,7 +60,7 @@ module _ {W : Type 0} (contents : W → Option (List ℕ)) where
     pub first : lines ≡ lines_of given ++ later
     pub ends : LinesEndBy most w w' given later end
 
-  -- why a piece was left, by what was given and by the bytes after these lines
+  -- why a piece was left, by the lines that were given and the bytes after these lines
   abbrev pub PieceEndsBy : ℕ → ℕ → CountedView W → CountedView W → List Given → List ℕ → SplitterView → PieceEnd → Type 0
   PieceEndsBy left left' w w' given rest held (Replied n) =
       RepliesToAll contents w w' given × (n ≡ length given) × (held ≡ open_with rest) × IsWithin longest_line rest × GoesOn left left' w.calls w'.calls × (0 < left')
@@ -69,7 +69,7 @@ module _ {W : Type 0} (contents : W → Option (List ℕ)) where
   PieceEndsBy left left' w w' given rest held (WriteFault n) = RepliesCutShort contents left w w' given n
   PieceEndsBy left left' w w' given rest held NoMemory = RepliesToAll contents w w' given
 
-  -- the first lines of some bytes were given in their order, and it ended so
+  -- the first lines of some bytes were given in their order, with this end
   pub record ServesPiece (left left' : ℕ) (w w' : CountedView W) (old new : List Given) (bytes : List ℕ) (held : SplitterView) (end : PieceEnd) : Type 0 where
     pub given : List Given
     pub rest : List ℕ

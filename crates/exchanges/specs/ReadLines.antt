@@ -1,4 +1,4 @@
--- What reading a line takes. No public contract cites it.
+-- The bytes that reading a line takes. No public contract cites it.
 use Rattle.std.specs.Prelude.{◌≡◌, ℕ, ◌+◌, List, [], ◌∷◌, ◌++◌, length, Option}
 use Rattle.units.specs.Limits.{longest_line}
 use Rattle.streams.specs.Lines.{HasNoNewline, IsWithin}
@@ -8,7 +8,7 @@ use Rattle.exchanges.specs.declared.reading.LineEnd.{LineEnd}
 use Rattle.exchanges.specs.declared.reading.LineEnd.TheVariants.{Newline, TooLong, Ended, Fault}
 
 module _ {R : Type 0} (remaining : R → Option (List ℕ)) where
-  -- the bytes of a line that were read, its newline left out, and why reading ended
+  -- the bytes of a line that were read, without its newline, and why reading ended
   abbrev pub ReadsLine : CountedView R → CountedView R → List ℕ → LineEnd → Type 0
   ReadsLine old new line Newline = IsWithin longest_line line × Takes remaining old new (line ++ 10 ∷ [])
   ReadsLine old new line TooLong = (HasNoNewline line × (length line ≡ longest_line + 1)) × Takes remaining old new line

@@ -1,4 +1,4 @@
--- What a session gives to its answerer, what it reads and writes, and why it ends.
+-- The lines that a session gives to its answerer, the bytes that it reads and writes, and why it ends.
 use Rattle.std.specs.Prelude.{◌≡◌, ℕ, ◌+◌, ◌<◌, ◌≤◌, List, [], ◌∷◌, ◌++◌, length, take, Option}
 use Rattle.std.specs.Io.KnownBytes.{Appends, Consumes, IsAtEnd}
 use Rattle.std.specs.List.{AllByRecursion}
@@ -16,13 +16,13 @@ abbrev pub most_reads : ℕ
 most_reads = 1_000_000
 
 module _ {W : Type 0} (contents : W → Option (List ℕ)) where
-  -- the replies to all that was given were written, no call failed, and no reply says that the node has stopped
+  -- the replies to all given lines were written, no call failed, and no reply says that the node has stopped
   pub record RepliesToAll (old new : CountedView W) (given : List Given) : Type 0 where
     pub wrote : Appends (contents old.inner) (contents new.inner) (replies_text given)
     pub sound : new.calls.failures ≡ old.calls.failures
     pub running : NoneStopped given
 
-  -- the same, but that the last reply, and no earlier one, says that the node has stopped
+  -- the same, except that the last reply, and no earlier one, says that the node has stopped
   pub record RepliesToTheStop (old new : CountedView W) (given : List Given) : Type 0 where
     pub earlier : List Given
     pub last : Given
@@ -32,7 +32,7 @@ module _ {W : Type 0} (contents : W → Option (List ℕ)) where
     pub running : NoneStopped earlier
     pub stopped : IsStopped last.reply
 
-  -- the first n bytes of the replies were written, which are all replies but the last, and a part of that one
+  -- the first n bytes of the replies were written: all replies except the last, and a part of the last
   pub record RepliesCutShort (most : ℕ) (old new : CountedView W) (given : List Given) (n : ℕ) : Type 0 where
     pub earlier : List Given
     pub last : Given
@@ -42,7 +42,7 @@ module _ {W : Type 0} (contents : W → Option (List ℕ)) where
     pub wrote : WritesFirst contents most old new (replies_text given) n
 
 module _ {R W : Type 0} (remaining : R → Option (List ℕ)) (contents : W → Option (List ℕ)) where
-  -- why a session ended, by what was given and by the bytes that were read after these lines
+  -- why a session ended, by the lines that were given and the bytes that were read after these lines
   abbrev pub EndsBy : CountedView R → CountedView R → CountedView W → CountedView W → List Given → List ℕ → SessionEnd → Type 0
   EndsBy r r' w w' given rest PeerEnded = RepliesToAll contents w w' given × (r'.calls.failures ≡ r.calls.failures) × (rest ≡ []) × IsAtEnd (remaining r'.inner)
   EndsBy r r' w w' given rest Truncated =
@@ -55,7 +55,8 @@ module _ {R W : Type 0} (remaining : R → Option (List ℕ)) (contents : W → 
   EndsBy r r' w w' given rest TurnLimit = RepliesToAll contents w w' given × (r'.calls.failures ≡ r.calls.failures) × IsWithin longest_line rest × GoesUp most_reads r.calls.count r'.calls.count
   EndsBy r r' w w' given rest NoMemory = RepliesToAll contents w w' given × (r'.calls.failures ≡ r.calls.failures)
 
-  -- a session: lines were given in their order, they are the first lines of what was read, and it ended so
+  -- a session: lines were given in their order, they are the first lines of the bytes that were read, and this was its
+  -- end
   pub record Serves (r r' : CountedView R) (w w' : CountedView W) (old new : List Given) (end : SessionEnd) : Type 0 where
     pub given : List Given
     pub rest : List ℕ

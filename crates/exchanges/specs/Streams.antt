@@ -1,4 +1,4 @@
--- What was read and written of known bytes, and whether calls failed.
+-- The reading and writing of known bytes, and whether calls failed.
 use Rattle.std.specs.Prelude.{◌≡◌, ℕ, ◌<◌, List, length, take, Option}
 use Rattle.std.specs.Io.KnownBytes.{Appends, Consumes, IsAtEnd}
 use Rattle.streams.specs.Calls.{Fails, FailsAfter}
@@ -9,7 +9,7 @@ module _ {W : Type 0} (contents : W → Option (List ℕ)) where
   abbrev pub WritesAll : CountedView W → CountedView W → List ℕ → Type 0
   WritesAll old new bytes = Appends (contents old.inner) (contents new.inner) bytes × (new.calls.failures ≡ old.calls.failures)
 
-  -- the first n of these bytes were written and no others, since a call failed or `most` calls were interrupted
+  -- the first n of these bytes were written and no others, because a call failed or `most` calls were interrupted
   abbrev pub WritesFirst : ℕ → CountedView W → CountedView W → List ℕ → ℕ → Type 0
   WritesFirst most old new bytes n = (n < length bytes) × Appends (contents old.inner) (contents new.inner) (take n bytes) × FailsAfter most old.calls new.calls
 

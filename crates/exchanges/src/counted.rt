@@ -25,7 +25,7 @@ impl<T> Model for Counted<T> {
 }
 
 impl<T> Counted<T> {
-    /// That reader or writer, no call of which was made yet.
+    /// That reader or writer, before any call of it.
     pub fn new(inner: T) -> Counted<T>
         ensures { result ≡ record { inner = inner; calls = no_calls } }
     {
@@ -43,8 +43,8 @@ impl<T> Counted<T> {
         inner
     }
 
-    /// How many calls returned an error other than `Interrupted`, or were given bytes to write and took none. 0 follows
-    /// `u64::MAX`.
+    /// How many calls returned an error other than `Interrupted`, or were given bytes to write and took none. The count
+    /// wraps around to 0 after `u64::MAX`.
     pub fn failures(&self) -> u64
         ensures { result ≡ self.now.calls.failures }
     {
@@ -53,7 +53,7 @@ impl<T> Counted<T> {
 }
 
 impl<T: Read> Counted<T> {
-    /// Reads once into `piece`, which has room, and returns how many bytes: none only at the end.
+    /// Reads once into `piece`, which has room, and returns how many bytes were read: none only at the end.
     pub(crate) fn read_once(&mut self, piece: &mut [u8]) -> Result<usize, CallFault>
         requires { 0 < length piece.old }
         ensures bytes { ReadConsumes (T.remaining self.old.inner) (T.remaining self.new.inner) result piece.new }
@@ -65,10 +65,9 @@ impl<T: Read> Counted<T> {
 }
 
 impl<T: Write> Counted<T> {
-    /// Writes the bytes. An interrupted write is made again, and `left` says how many more of them there may be.
+    /// Writes the bytes. An interrupted write is made again, and `left` is how many more interruptions there may be.
     ///
-    /// The error is how many of the first bytes were written: the writer failed, or the last of the interruptions that
-    /// were left came.
+    /// Fails with how many of the first bytes were written, if the writer failed or was interrupted that often.
     pub(crate) fn write_all(&mut self, left: &mut u32, bytes: &[u8]) -> Result<(), usize>
         requires { 0 < left.old }
         ensures wrote { MatchResult result (λ _. WritesAll T.contents self.old self.new bytes.now)

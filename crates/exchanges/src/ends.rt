@@ -7,14 +7,14 @@ use wire::Reply;
 pub enum Exchange {
     /// The message was written, and this reply was read.
     Answered(Reply),
-    /// The writer failed, or 20,000 writes were interrupted. The number says how many of the first bytes of the
-    /// message's text and its newline were written.
+    /// The writer failed, or 20,000 writes were interrupted. The number is how many of the first bytes of the message's
+    /// text and its newline were written.
     WriteFault(usize),
     /// The message was written. Then the reader failed, or 20,000 reads were interrupted.
     ReadFault,
     /// The message was written. Then the stream ended before a newline.
     PeerEnded,
-    /// The message was written. What was read is a line that is no reply, or 8,193 bytes without a newline.
+    /// The message was written. The bytes that were read are a line that is no reply, or 8,193 bytes without a newline.
     BadReply,
     /// Out of memory: nothing was written, or the message was written and a whole line was read.
     NoMemory,
@@ -31,7 +31,7 @@ pub enum SessionEnd {
     TooLong,
     /// The reader failed, or 20,000 reads were interrupted.
     ReadFault,
-    /// The writer failed, or 20,000 writes were interrupted. The number says how many of the first bytes of the replies
+    /// The writer failed, or 20,000 writes were interrupted. The number is how many of the first bytes of the replies
     /// were written.
     WriteFault(usize),
     /// The last reply that was written says that the node has stopped.

@@ -14,23 +14,23 @@ use streams::{LineFault, Splitter};
 /// How many bytes are read at once at most.
 pub(crate) const PIECE: usize = 4_096;
 
-/// What a piece came to.
+/// How the serving of a piece ended.
 #[derive(Clone, Copy)]
 pub(crate) enum PieceEnd {
-    /// Each line that it ended was replied to. The number says how many there were.
+    /// Each line that it ended was replied to. The number is how many there were.
     Replied(usize),
-    /// Each line that it ended was replied to. What follows them is too long for a line.
+    /// Each line that it ended was replied to. The bytes after them are too long for a line.
     TooLong,
     /// The last reply that was written says that the node has stopped.
     Stopped,
-    /// The writer failed, or the last of the interruptions that were left came. The number says how many of the first
-    /// bytes of the replies were written.
+    /// The writer failed, or was interrupted too often. The number is how many of the first bytes of the replies were
+    /// written.
     WriteFault(usize),
     /// Out of memory.
     NoMemory,
 }
 
-/// `all` where each line was replied to, and else why not.
+/// `all` if each line was replied to, and otherwise why not.
 fn end_of_piece(all: PieceEnd, end: LinesEnd) -> PieceEnd
     ensures { result ≡ piece_end all end }
 {
@@ -42,7 +42,7 @@ fn end_of_piece(all: PieceEnd, end: LinesEnd) -> PieceEnd
     }
 }
 
-/// How the session of a stream ends that ends here.
+/// How the session ends if its stream ends here.
 pub(crate) fn stream_end(splitter: &Splitter) -> SessionEnd
     requires { splitter.now.closed ≡ false }
     ensures { StreamEnds splitter.now.rest result }

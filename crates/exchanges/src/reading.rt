@@ -13,7 +13,7 @@ use units::limits::LONGEST_LINE;
 pub(crate) enum LineEnd {
     /// Its newline was read.
     Newline,
-    /// `LONGEST_LINE` bytes and one more were read, and none is a newline.
+    /// `LONGEST_LINE + 1` bytes were read, and none is a newline.
     TooLong,
     /// The stream ended.
     Ended,
@@ -21,8 +21,8 @@ pub(crate) enum LineEnd {
     Fault,
 }
 
-/// Reads up to a newline and adds what comes before it to `line`. Reads `LONGEST_LINE` bytes and one more at most. An
-/// interrupted read is made again.
+/// Reads up to a newline and adds the bytes before it to `line`. Reads at most `LONGEST_LINE + 1` bytes. An interrupted
+/// read is made again.
 pub(crate) fn read_line<R: Read>(reader: &mut Counted<R>, line: &mut Vec<u8>) -> LineEnd
     requires empty { line.old.items ≡ [] }
     requires room { longest_line + 1 ≤ vec_capacity line.old }

@@ -20,8 +20,8 @@ pub(crate) enum LinesEnd {
     AllReplied,
     /// The last reply that was written says that the node has stopped.
     Stopped,
-    /// The writer failed, or the last of the interruptions that were left came. The number says how many of the first
-    /// bytes of the replies were written.
+    /// The writer failed, or was interrupted too often. The number is how many of the first bytes of the replies were
+    /// written.
     WriteFault(usize),
     /// Out of memory.
     NoMemory,

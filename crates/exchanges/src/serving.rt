@@ -17,8 +17,8 @@ const MOST_READS: usize = 1_000_000;
 /// Reads lines, gives each to the answerer, and writes each reply with its newline before it gives the next line. Ends
 /// after a reply that says that the node has stopped. An interrupted call is made again.
 ///
-/// Each end says what was given, read and written. `failures` of the writer has changed only at `WriteFault`, and that
-/// of the reader only at `ReadFault`.
+/// Each end says which lines were given and which bytes were read and written. `failures` of the writer has changed
+/// only at `WriteFault`, and that of the reader only at `ReadFault`.
 pub fn serve_session<R: Read, W: Write, A: Answerer>(
     alloc: Global,
     reader: &mut Counted<R>,

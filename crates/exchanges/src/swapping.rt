@@ -27,10 +27,10 @@ fn make_room(alloc: Global, message: &Message) -> Result<(Vec<u8>, Vec<u8>), NoM
 }
 
 /// Writes the message's text with its newline, and reads the reply: up to the first newline, and 8,193 bytes at most.
-/// Takes all memory first but for what reading a reply takes. An interrupted call is made again.
+/// Takes all memory first, except the memory for parsing the reply. An interrupted call is made again.
 ///
-/// Each end says what was written and read. `failures` of the writer has changed only at `WriteFault`, and that of the
-/// reader only at `ReadFault`.
+/// Each end says which bytes were written and read. `failures` of the writer has changed only at `WriteFault`, and that
+/// of the reader only at `ReadFault`.
 pub fn exchange<R: Read, W: Write>(
     alloc: Global,
     reader: &mut Counted<R>,

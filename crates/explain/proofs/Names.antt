@@ -1,4 +1,4 @@
--- The names of topics differ, which is computed.
+-- The names of topics differ. The proof computes this.
 use Rattle.std.proofs.Common.{◌≡◌, ◌∙◌, ◌&&◌, ℕ, Bool, List, [], ◌∷◌, not, refl, sym, false, true}
 use Rattle.std.proofs.lemmas.Map.Views.{lookup-from_Contains}
 use Rattle.std.proofs.lemmas.Cmp.{nat_list_eq_equiv}
@@ -10,7 +10,7 @@ use Rattle.std.specs.Map.{keys_of}
 use Rattle.std.specs.Str.{bytes_eq}
 use Rattle.explain.specs.Topics.{Has, topics}
 
--- the text is none of the others
+-- the text differs from each of the others
 differs : List ℕ → List (List ℕ) → Bool
 differs x [] = true
 differs x (y ∷ ys) = not (bytes_eq x y) && differs x ys

@@ -19,7 +19,7 @@ has_at table k d word lt e =
     let text : List ℕ = (get_or table k d).1.now in
     (k, subst (λ n. k < n) (sym (length-map table (λ t. (t.0.now, t.1.now)))) lt, entry_at table k d (word, text) lt ∙ ap (λ name. (name, text)) e)
 
--- one more topic hasn't the name
+-- one more topic doesn't have the name
 pub none_more : (table : Table) (k : ℕ) (d : Bor (List ℕ) × Bor (List ℕ)) (word : List ℕ) → k < length table
     → AllWithin (λ t. t.0.now ≡ word → ⊥) table 0 k → ((get_or table k d).0.now ≡ word → ⊥) → AllWithin (λ t. t.0.now ≡ word → ⊥) table 0 (k + 1)
 none_more table k d word lt before other =

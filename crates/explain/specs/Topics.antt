@@ -25,7 +25,8 @@ Has named word text = Contains named (word, text)
 abbrev pub HasNone : List (List ℕ × List ℕ) → List ℕ → Type 0
 HasNone named word = (text : List ℕ) → Contains named (word, text) → ⊥
 
--- no topic has that name, and nothing was written; or the first bytes of the topic's text were, fewer than all
+-- no topic has that name, and nothing was written; or some first bytes of the topic's text were written, but not all of
+-- it
 abbrev pub FailsToExplain : OpFault → List ℕ → (before after : Option (List ℕ)) → Type 0
 FailsToExplain (Input line cause) word v w = (line ≡ 1) × (cause ≡ Order) × HasNone topics word × Keeps v w
 FailsToExplain (Write count) word v w = (text : List ℕ) × Has topics word text × (count < length text) × Appends v w (take count text)

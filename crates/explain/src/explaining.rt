@@ -1,4 +1,4 @@
-//! The text of a topic, to a writer.
+//! Writing the text of a topic.
 ghost use Rattle.std.specs.Prelude.{ℕ, List, IfErr, OnOk};
 ghost use Rattle.std.specs.Io.KnownBytes.{Appends};
 ghost use Rattle.explain.specs.Topics.{FailsToExplain, Has, topics};
@@ -11,8 +11,8 @@ use std::io::Write;
 ///
 /// # Errors
 ///
-/// - `Input`, of line 1, with `Order`: there is no topic with that name. Nothing is written.
-/// - `Write`: the output failed, after the number of bytes that the fault tells. They are the first ones of the text.
+/// - `Input`, at line 1, with `Order`: there is no topic with that name. Nothing is written.
+/// - `Write`: the output failed, after the number of bytes in the fault. They are the first ones of the text.
 pub fn explain<W: Write>(writer: &mut W, word: &str) -> Result<(), OpFault>
     ensures ok { OnOk result ((text : List ℕ) × Has topics word.now text
         × Appends (W.contents writer.old) (W.contents writer.new) text) }

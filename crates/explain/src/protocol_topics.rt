@@ -7,7 +7,7 @@ pub(crate) const PROTOCOL_TOPICS: &[(&str, &str)] = &[
     (
         "41",
         "41: a refusal of a message
-Cause: the line is no message
+Cause: the line is not a message
 ",
     ),
     (
@@ -19,36 +19,39 @@ Cause: it is addressed to another node
     (
         "43",
         "43: a refusal of a message
-Cause: its sender may not send to this node: a registry takes messages of the log alone, the log
-those of the scheme's registries
+Cause: its sender may not send to this node: a registry takes messages from the log alone, and the
+log from the scheme's registries alone
 ",
     ),
     (
         "44",
         "44: a refusal of a message
-Cause: at the log: a proposal or a request whose identifier carries another code than its sender's,
-Accepted or Rejected not from the acquirer, Completed not from the initiator. At a registry: a
-proposal of another acquirer, of the registry's own code, or whose blocks overlap
+Cause: at the log: a proposal or a request whose identifier doesn't begin with its sender's code,
+Accepted or Rejected from a registry other than the acquirer, Completed from one other than the
+initiator. At a registry: a proposal to another acquirer, one whose identifier begins with the
+registry's own code, or one whose blocks overlap
 ",
     ),
     (
         "45",
         "45: a refusal of a message
-Cause: a proposal of a known transaction, with another content
+Cause: a proposal of a known transaction with different content
 ",
     ),
     (
         "46",
         "46: a refusal of a message
-Cause: the table has no row; also a proposal with Checked at the log or with Proposed at a registry
+Cause: the status table has no row for it; also a proposal with Checked at the log, or with Proposed
+at a registry
 46: a refusal of an acknowledgement
-Cause: the node has sent no message with that key; also an input of the other kind of node
+Cause: the node has sent no message with this key; also any input that only the other kind of node
+takes
 ",
     ),
     (
         "47",
         "47: a refusal of a message
-Cause: a notification of an unknown transaction; at an acquirer Cancelled is no such one
+Cause: a notification of an unknown transaction, except Cancelled at an acquirer
 ",
     ),
     (
@@ -60,7 +63,7 @@ Cause: the node is stopped
     (
         "49",
         "49: a refusal of a message
-Cause: it would be recorded, and the journal is full
+Cause: the journal is full, and the input would be recorded
 ",
     ),
     (
@@ -72,7 +75,7 @@ Cause: out of memory
     (
         "101",
         "101: a refusal of propose
-Cause: no block, or more than 16
+Cause: no blocks, or more than 16
 ",
     ),
     (
@@ -84,7 +87,7 @@ Cause: a first number above the last, or a number out of range
     (
         "103",
         "103: a refusal of propose
-Cause: a unit stands twice in the blocks
+Cause: a unit is in the blocks twice
 ",
     ),
     (
@@ -96,19 +99,19 @@ Cause: the account is unknown or closed
     (
         "105",
         "105: a refusal of propose
-Cause: a unit that is not held in that account with that kind
+Cause: the account doesn't hold one of the units in its kind
 ",
     ),
     (
         "106",
         "106: a refusal of propose
-Cause: a unit that is reserved
+Cause: one of the units is reserved
 ",
     ),
     (
         "107",
         "107: a refusal of propose
-Cause: the acquiring registry is unknown, or this one
+Cause: the acquiring registry is unknown, or is this one
 ",
     ),
     (
@@ -132,7 +135,7 @@ Cause: the scheme has no such account at this registry
     (
         "111",
         "111: a refusal of open or close
-Cause: the account is so already
+Cause: the account is already open, or already closed
 ",
     ),
     (
@@ -168,7 +171,7 @@ Cause: the transaction no longer has status Proposed
     (
         "201",
         "201: a finding of the log (Terminated)
-Cause: the acquirer is unknown, or the initiator
+Cause: the acquirer is unknown, or is the initiator
 ",
     ),
     (
@@ -180,25 +183,25 @@ Cause: the blocks overlap
     (
         "203",
         "203: a finding of the log (Terminated)
-Cause: a unit that is allotted to nobody
+Cause: a unit is allotted to nobody
 ",
     ),
     (
         "204",
         "204: a finding of the log (Terminated)
-Cause: an allotted unit whose owner in the log's book is not the initiator
+Cause: the owner of an allotted unit in the log's book is not the initiator
 ",
     ),
     (
         "205",
         "205: a finding of the log (Terminated)
-Cause: a unit of another transfer that has status Checked or Accepted
+Cause: a unit is in another transfer with status Checked or Accepted
 ",
     ),
     (
         "206",
         "206: a finding of the log (Terminated)
-Cause: an allotted unit of another kind
+Cause: an allotted unit has another kind
 ",
     ),
     (
@@ -228,13 +231,13 @@ Cause: the receiving account is closed
     (
         "303",
         "303: a finding of the acquirer (Rejected)
-Cause: a unit that is held here already
+Cause: a unit is held by this registry already
 ",
     ),
     (
         "304",
         "304: a finding of the acquirer (Rejected)
-Cause: a kind that the registry does not take
+Cause: the registry doesn't take the kind of a unit
 ",
     ),
     (

@@ -1,4 +1,4 @@
--- How an initiator's tables are stored, by which a proof tells them apart.
+-- The encoding of an initiator's tables by which a proof distinguishes them.
 use Rattle.std.specs.Prelude.{ℕ, refl}
 use Rattle.std.specs.Coded.{Coded, code_by, coded×, coded_ℕ}
 use Rattle.std.specs.FinMap as map

@@ -1,4 +1,4 @@
--- What an initiator keeps of its transfers, and what it reads off that.
+-- The transfers that an initiator keeps, and the facts that it reads off them.
 use Rattle.std.specs.Prelude.{ℕ, Bool, true, false, ◌&&◌, not, cond, [], ◌∷◌, Option, is_some}
 use Rattle.std.specs.BTreeMap.{BTreeMap}
 use Rattle.std.specs.FinMap.{FinMap, from_entries, get}
@@ -30,15 +30,15 @@ pub record InitiatorView : Type 0 where
 abbrev pub opened : OutgoingTransfer
 opened = record { status = Proposed; cancellation = NotAsked }
 
--- the transfer when its cancellation was asked for
+-- the transfer after its cancellation was asked for
 abbrev pub asked : OutgoingTransfer → OutgoingTransfer
 asked x = record x { cancellation = Asked }
 
--- the transfer when it has come to that status
+-- the transfer after it moved to that status
 abbrev pub concluded : Status → OutgoingTransfer → OutgoingTransfer
 concluded new x = record x { status = new }
 
--- what the table asks of a transfer: an initiator always has its content
+-- the recorded status of a transfer, as the status table takes it: an initiator always has its content
 abbrev pub known_transfer : Option OutgoingTransfer → RecordedStatus
 known_transfer x = option_map_or (λ y. Stands y.status) x Unknown
 
@@ -50,7 +50,7 @@ is_asked Asked = true
 abbrev pub column_of_request : Option OutgoingTransfer → RowInput
 column_of_request x = cond (option_map_or (λ y. is_asked y.cancellation) x false) RepeatedRequestOrder RequestOrder
 
--- stands Proposed
+-- it stands Proposed
 abbrev pub is_still_proposed : Option OutgoingTransfer → Bool
 is_still_proposed x = option_map_or (λ y. same_status y.status Proposed) x false
 

@@ -39,8 +39,8 @@ use std::marker::Model;
 use units::refusal_code::{NO_LONGER_PROPOSED, NOT_PROPOSED_HERE};
 use units::{Code, Items, NoMemory, Refusal};
 
-/// The transfers that a registry proposed, by their identifiers. It decides what the initiator's table says to an
-/// input, without any change, says what is sent where a transfer moves, and does then what that asks for.
+/// The transfers that a registry proposed, by their identifiers. Without any change it gives the decision of the
+/// initiator's table on an input and the messages of a move; other calls carry the move out.
 #[derive(Debug)]
 pub struct Initiator {
     code: Code,
@@ -91,7 +91,7 @@ impl Initiator {
         self.transfers.get(&id).copied()
     }
 
-    /// Where the transfer stands, or `None` where the registry proposed no such one.
+    /// Where the transfer stands, or `None` where the registry proposed no such transfer.
     pub fn status_of(&self, id: TransactionId) -> Option<Status>
         ensures { result ≡ option_map (λ x. x.status) (map.get self.now.transfers id) }
     {
@@ -99,7 +99,7 @@ impl Initiator {
         Some(transfer.status)
     }
 
-    /// The new transfer that an order makes, under the registry's next number. Fails as `propose_check` fails.
+    /// The new transfer of an order, under the registry's next number. Fails as `propose_check` fails.
     pub fn new_transfer(
         &self,
         alloc: Global,
@@ -121,15 +121,15 @@ impl Initiator {
         propose_check(alloc, scheme, self.code, holdings, self.last, order)
     }
 
-    /// What the table says to a new transfer with that identifier. Fails with `NO_ROW` where the registry has a
-    /// transfer with it.
+    /// The table's decision on a new transfer with that identifier. Fails with `NO_ROW` where the registry has a
+    /// transfer with the identifier.
     pub fn propose(&self, id: TransactionId) -> Result<Decision, Refusal>
         ensures { result ≡ decided (initiator_row (known_transfer (map.get self.now.transfers id)) column.Propose) }
     {
         Decision::by_row(row(Role::Initiator, known(self.transfer(id)), RowInput::Propose))
     }
 
-    /// What is sent where a new transfer is Proposed: the proposal to the log.
+    /// The message that is sent where a new transfer is Proposed: the proposal to the log.
     pub fn proposes(
         &self,
         alloc: Global,
@@ -142,9 +142,9 @@ impl Initiator {
         on_proposing(alloc, self.code, new_transfer.id, &new_transfer.content)
     }
 
-    /// What the table says to an order to ask the log for the transfer's cancellation: the first is to be sent, and
-    /// any other is a repeat. Fails with `NOT_PROPOSED_HERE` where this registry didn't propose the transfer, and with
-    /// `NO_LONGER_PROPOSED` where it has another status than Proposed.
+    /// The table's decision on an order to ask the log for the transfer's cancellation: the first order is to be sent,
+    /// and any other is a repeat. Fails with `NOT_PROPOSED_HERE` where this registry didn't propose the transfer, and
+    /// with `NO_LONGER_PROPOSED` where it has another status than Proposed.
     pub fn request(&self, id: TransactionId) -> Result<Decision, Refusal>
         ensures { result ≡ unless (cancellation_refusals self.now id)
             (decided (initiator_row (known_transfer (map.get self.now.transfers id))
@@ -164,7 +164,8 @@ impl Initiator {
         Decision::by_row(row(Role::Initiator, known(transfer), request_column(transfer)))
     }
 
-    /// What is sent where the order to ask for the transfer's cancellation is recorded: the request to the log.
+    /// The message that is sent where the order to ask for the transfer's cancellation is recorded: the request to the
+    /// log.
     pub fn requests(&self, alloc: Global, id: TransactionId) -> Result<Items<Message>, NoMemory>
         ensures { (content : Option Terms)
             → IfOk result (λ messages. messages ≡ initiator_sends self.now.code id content
@@ -173,7 +174,7 @@ impl Initiator {
         on_request(alloc, self.code, id, request_column(self.transfer(id)))
     }
 
-    /// What the table says to the log's notification of that status. Fails with `NO_ROW` where the table has no such
+    /// The table's decision on the log's notification of that status. Fails with `NO_ROW` where the table has no such
     /// row.
     pub fn notice(&self, id: TransactionId, told: Status) -> Result<Decision, Refusal>
         ensures { result ≡ decided
@@ -186,8 +187,8 @@ impl Initiator {
         ))
     }
 
-    /// What is sent where the notification of that status is recorded: Completed to the log after Accepted, and nothing
-    /// after any other.
+    /// The messages that are sent where the notification of that status is recorded: Completed to the log after
+    /// Accepted, and none after any other.
     pub fn notifies(
         &self,
         alloc: Global,
@@ -200,8 +201,8 @@ impl Initiator {
         on_notified(alloc, self.code, id, told)
     }
 
-    /// The new transfer is a transfer that is Proposed, and its units are reserved for it. After `OUT_OF_MEMORY`,
-    /// with which alone it fails, nothing has changed.
+    /// Adds the new transfer as Proposed, and reserves its units for it. Fails with `OUT_OF_MEMORY` alone; then nothing
+    /// has changed.
     pub fn open(
         &mut self,
         holdings: &mut Holdings,
@@ -232,7 +233,7 @@ impl Initiator {
         Ok(())
     }
 
-    /// The transfer's cancellation was asked for. Takes no memory.
+    /// Notes that the transfer's cancellation was asked for. Takes no memory.
     pub fn ask(&mut self, id: TransactionId)
         ensures transfers { (t : TransactionId)
             → map.get self.new.transfers t
@@ -243,8 +244,8 @@ impl Initiator {
         ask(&mut self.transfers, id);
     }
 
-    /// The transfer has come to that status: its units leave the registry where it is Completed, and are free again
-    /// at any other. Takes no memory.
+    /// Moves the transfer to that status: its units leave the registry where it is Completed, and are free again
+    /// otherwise. Takes no memory.
     pub fn conclude(&mut self, holdings: &mut Holdings, id: TransactionId, new: Status)
         ensures transfers { (t : TransactionId)
             → map.get self.new.transfers t

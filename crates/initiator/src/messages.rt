@@ -1,4 +1,4 @@
-//! What an initiator sends.
+//! The messages that an initiator sends.
 ghost use Rattle.std.specs.Prelude.{◌≡◌, ◌⊎◌, Option, IfOk, Some};
 ghost use Rattle.protocol.specs.Effects.{initiator_sends};
 ghost use Rattle.status.specs.Content.{Content as Terms};
@@ -39,7 +39,7 @@ pub(crate) fn on_proposing(
     one_message(alloc, to_log(code, id, Body::Proposal(proposal)))
 }
 
-/// What follows an order to ask for cancellation: a request to the log after the first one.
+/// The messages after an order to ask for cancellation: a request to the log after the first one.
 pub(crate) fn on_request(
     alloc: Global,
     code: Code,
@@ -55,7 +55,7 @@ pub(crate) fn on_request(
     one_message(alloc, to_log(code, id, Body::Request))
 }
 
-/// What follows a notification of that status: Completed to the log after Accepted, and nothing after any other.
+/// The messages after a notification of that status: Completed to the log after Accepted, and none after any other.
 pub(crate) fn on_notified(
     alloc: Global,
     code: Code,

@@ -11,7 +11,7 @@ use status::{Status, TransactionId};
 use std::collections::BTreeMap;
 use units::NoMemory;
 
-/// A new transfer. After `NoMemory` nothing has changed.
+/// Adds a new transfer. After `NoMemory` nothing has changed.
 pub(crate) fn open(
     transfers: &mut BTreeMap<TransactionId, OutgoingTransfer>,
     id: TransactionId,
@@ -27,7 +27,7 @@ pub(crate) fn open(
     table::put(transfers, id, transfer)
 }
 
-/// The transfer's cancellation was asked for.
+/// Notes that the transfer's cancellation was asked for.
 pub(crate) fn ask(transfers: &mut BTreeMap<TransactionId, OutgoingTransfer>, id: TransactionId)
     ensures { (t : TransactionId)
         → tree.get id_cmp transfers.new t
@@ -39,7 +39,7 @@ pub(crate) fn ask(transfers: &mut BTreeMap<TransactionId, OutgoingTransfer>, id:
     }
 }
 
-/// The transfer has come to that status.
+/// Moves the transfer to that status.
 pub(crate) fn conclude(
     transfers: &mut BTreeMap<TransactionId, OutgoingTransfer>,
     id: TransactionId,

@@ -1,4 +1,4 @@
-//! What an initiator knows of a transfer.
+//! A transfer in an initiator's table.
 
 ghost use Rattle.std.specs.Prelude.{◌≡◌, ◌⊎◌};
 ghost use Rattle.initiator.specs.Transfers as transfers;
@@ -13,14 +13,14 @@ pub enum Cancellation {
     Asked,
 }
 
-/// What an initiator knows of a transfer of its own: where it stands, and whether its cancellation was asked for.
+/// A transfer in the table of its initiator: where it stands, and whether its cancellation was asked for.
 #[derive(Clone, Copy, Debug, PartialEq, Eq)]
 pub struct OutgoingTransfer {
     pub status: Status,
     pub cancellation: Cancellation,
 }
 
-/// What the table asks of a transfer.
+/// The recorded status of a transfer, as the status table takes it.
 pub(crate) fn known(transfer: Option<OutgoingTransfer>) -> RecordedStatus
     ensures { result ≡ transfers.known_transfer transfer }
 {

@@ -1,4 +1,4 @@
--- Lines that are read one after another, each of which writes something.
+-- Lines that are read one after another; each of them writes something.
 use Rattle.std.proofs.Common.{◌≡◌, ◌==◌, true, false, true≢false, Result, Ok, Err, IfErr, ℕ, suc, ◌+◌, ◌<◌, ◌≤◌, List, [], ◌∷◌, ◌++◌, length, sym, ap, subst, arith, append_assoc, append-nil, length-append}
 use Rattle.std.specs.Result.{IsErrAnd}
 use Rattle.std.proofs.lemmas.Bool.{eqb-true}
@@ -25,7 +25,8 @@ length_line : (bytes line rest : List ℕ) → bytes ≡ line ++ 10 ∷ rest →
 length_line bytes line rest e = let all = ap length e in let sum : length (line ++ 10 ∷ rest) ≡ length line + length (10 ∷ rest) = length-append line (10 ∷ rest) in omega arith
 
 module _ {X : Type 0} (Writes : List ℕ → X → Type 0) where
-  -- what was written so far, where what the rest writes, or lacks, the whole does after it
+  -- what was read so far: where the rest is lines of more things, or has a fault, the whole is lines of all of them, or
+  -- has that fault later
   pub record HasReadTo (lines : List ℕ) (all : ℕ) (rest : List ℕ) (room : ℕ) (done : List X) : Type 0 where
     pub few : length done + length rest ≤ length lines
     pub more : (xs : List X) → AreLines Writes rest room xs → AreLines Writes lines all (done ++ xs)
@@ -51,7 +52,7 @@ module _ {X : Type 0} (Writes : List ℕ → X → Type 0) where
         (read.fault (suc good) cause (words, others, x, line, writes, subst (λ (r : ℕ). IsFaultAfter Writes others r good cause) is wrong));
   }
 
-  -- the fault of the line that is next
+  -- the fault of the next line
   pub read_fault : (lines : List ℕ) (all : ℕ) (rest : List ℕ) (room : ℕ) (done : List X) (cause : Cause) → HasReadTo lines all rest room done → IsFaultAfter Writes rest room 0 cause → IsFaultAfter Writes lines all (length done) cause
   read_fault lines all rest room done cause read wrong =
       let same : length done + 0 ≡ length done = omega arith in

@@ -31,7 +31,7 @@ use Rattle.input_lines.proofs.SpacedWords.{one_cut}
 
 -- ---- the first word
 
--- the verb of an event's line. What is received has no line
+-- the verb of an event's line. A received message has no line
 verb_of : WorldEvent → Verb
 verb_of (Take n (Propose o)) = verb.Propose
 verb_of (Take n (Request t)) = verb.Request
@@ -190,7 +190,7 @@ words_once words a b p q = let h = same_letters words a b p q in absurd (omega a
 pub one_event : (line : List ℕ) (a b : WorldEvent) → IsEventLine line a → IsEventLine line b → a ≡ b
 one_event line a b p q = words_once q.words a b (subst (λ w. AreWords w a) (one_cut line p.words q.words p.cut q.cut) p.told) q.told
 
--- ---- what is returned of a line and its words
+-- ---- the result for a line and its words
 
 module _ (line : List ℕ) (words : List (List ℕ)) (utf8 : IsUtf8 line) (cut : AreCut line words) where
   is_line : (e : WorldEvent) → AreWords words e → IsEventLine line e

@@ -1,4 +1,4 @@
--- Lines that ask nothing, and those that neither ask nor order.
+-- Lines that ask nothing, and those that neither ask nor order anything.
 use Rattle.std.proofs.Common.{◌≡◌, ◌≤◌, ◌<◌, ◌∙◌, ◌^◌, ℕ, List, [], ◌∷◌, decimal, sym, arith, Option, Some, None, IfNone, subst}
 use Rattle.units.specs.declared.code.Node.{Node}
 use Rattle.units.proofs.OneText.{number_same}

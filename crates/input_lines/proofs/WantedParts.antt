@@ -1,13 +1,13 @@
--- A part that is wanted, where the line is no event without it.
+-- A part without which the line is no event.
 use Rattle.std.proofs.Common.{◌≡◌, Option, Some, None, Ok, Err, IfSome, IfNone, subst}
 use Rattle.std.specs.Option.{ok_or}
 
--- what is said of the part where it is there
+-- a fact about the part, where it is there
 pub part_so : {A E : Type 0} (P : A → Type 0) (o : Option A) (fault : E) (a : A) → Ok a ≡ ok_or o fault → IfSome o P → P a
 part_so P (Some b) fault a e is = let same : b ≡ a = cc (e) in subst P same is
 part_so P None fault a e is = absurd (cc (e))
 
--- what is said of its lack where it isn't
+-- a fact about its lack, where it is missing
 pub lack_so : {A E : Type 0} (Q : Type 0) (o : Option A) (fault e : E) → Err e ≡ ok_or o fault → IfNone o Q → Q
 lack_so Q (Some b) fault e is none = absurd (cc (is))
 lack_so Q None fault e is none = none

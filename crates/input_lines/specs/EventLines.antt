@@ -1,4 +1,4 @@
--- The lines of events: for each event the words that it is written with.
+-- The lines of events: the words for each event.
 use Rattle.std.specs.Prelude.{◌≡◌, ℕ, ◌<◌, Bool, true, false, List, [], ◌∷◌, ◌++◌, decimal, codes, map}
 use Rattle.std.specs.Str.{IsUtf8}
 use Rattle.units.specs.Block.{raw_text}
@@ -26,8 +26,8 @@ pub record AreWithMoment (words front : List (List ℕ)) (moment : Moment) : Typ
   pub spelled : words ≡ front ++ text ∷ []
   pub names : IsMomentText text moment
 
--- what a node is ordered, or that a message of its is acknowledged. What it receives is delivered, so that it has no
--- line
+-- the words of an order to a node, or of an acknowledgement of one of its messages. A received message has no line,
+-- since it is delivered by an event of its own
 abbrev pub AreInputWords : List (List ℕ) → Node → Input → Type 0
 AreInputWords words node (Propose o) =
     (words ≡ codes "propose" ∷ node_text node ∷ decimal o.account ∷ code_text o.acquirer ∷ decimal o.to_account ∷ map raw_text o.units) × IsOrder o
@@ -48,8 +48,7 @@ AreWords words (Deliver message moment) = AreWithMoment words (codes "deliver" �
 AreWords words (Crash node kept) = (words ≡ codes "crash" ∷ node_text node ∷ decimal kept ∷ []) × (kept < too_long)
 AreWords words (Restart node) = words ≡ codes "restart" ∷ node_text node ∷ []
 
--- the line, without its newline, is UTF-8 and its words write the event. A moment is one word, so that it has no
--- space in it
+-- the line, without its newline, is UTF-8 and its words write the event. A moment is one word: it has no space in it
 pub record IsEventLine (line : List ℕ) (event : WorldEvent) : Type 0 where
   pub words : List (List ℕ)
   pub utf8 : IsUtf8 line

@@ -1,4 +1,4 @@
--- What the lines of a script write.
+-- The orders and questions that the lines of a script write.
 use Rattle.std.specs.Prelude.{◌≡◌, ◌≤◌, ℕ, List, [], ◌∷◌, codes, decimal}
 use Rattle.std.specs.Str.{IsUtf8}
 use Rattle.units.specs.Code.{node_text}
@@ -12,17 +12,17 @@ use Rattle.input_lines.specs.Words.{AreCut}
 use Rattle.input_lines.specs.declared.script_line.ScriptLine.{ScriptLine}
 use Rattle.input_lines.specs.declared.script_line.ScriptLine.TheVariants.{Order, Status, Until}
 
--- how often a line may ask
+-- the greatest number of times that a line may ask
 abbrev pub most_turns : ℕ
 most_turns = 1_000_000
 
--- acknowledgements and received messages are what a node takes by itself
+-- the inputs that a script may order: a node takes acknowledgements and received messages by itself
 abbrev pub MayOrder : Input → Type 0
 MayOrder (Ack key) = ⊥
 MayOrder (Received message moment) = ⊥
 MayOrder _ = Unit {0}
 
--- the words ask where a transaction stands
+-- the words ask for the status of a transaction
 abbrev pub AskBy : List (List ℕ) → ScriptLine → Type 0
 AskBy words (Order node input) = ⊥
 AskBy words (Status node id) = words ≡ codes "status" ∷ node_text node ∷ id_text id ∷ []

@@ -1,4 +1,4 @@
--- A script: lines that each order or ask something; and the first fault of what is none.
+-- A script: lines that each give an order or ask a question; and the first fault of an input that is no script.
 use Rattle.std.specs.Prelude.{◌≡◌, ◌⊎◌, ◌<◌, ◌+◌, ℕ, List, [], length, Option}
 use Rattle.input_lines.specs.Lines.{AreLines, IsFaultAfter}
 use Rattle.streams.specs.Inputs.{longest_input, Takes}
@@ -9,7 +9,7 @@ use Rattle.command_faults.specs.declared.fault.OpFault.TheVariants.{Input, Read,
 use Rattle.input_lines.specs.ScriptLines.{IsScriptLine}
 use Rattle.input_lines.specs.declared.script_line.ScriptLine.{ScriptLine}
 
--- all of an input was read, which has a line or more, and they write these
+-- all of an input was read; it has at least one line, and the lines write these
 pub record ReadsScript (old new : Option (List ℕ)) (lines : List ScriptLine) : Type 0 where
   pub input : List ℕ
   pub taken : Takes old new input

@@ -6,8 +6,8 @@ use command_faults::Cause;
 use memchr::memchr;
 use streams::LONGEST_INPUT_LINE;
 
-/// The first line of `bytes`, and what comes after its newline. `room` is how many more bytes the
-/// input may have.
+/// The first line of `bytes`, and the bytes after its newline. `room` is the number of bytes that the input may still
+/// have.
 pub fn first_line(bytes: &[u8], room: usize) -> Result<(&[u8], &[u8]), Cause>
     ensures ok { IfOk result (λ p. IsLine bytes.now room p.0.now p.1.now) }
     ensures fault { IfErr result (λ cause. IsLineFault bytes.now room cause) }

@@ -1,5 +1,5 @@
-//! The lines that people write: those of events and those of scripts, each of words with one space between them; and
-//! how the lines of an input are read one after another.
+//! The lines that people write: those of events and those of scripts, each with one space between its words; and the
+//! reading of an input's lines one after another.
 #![tactic(auto)]
 
 mod cutting;

@@ -1,4 +1,4 @@
-//! The words of a line, and what one of them writes.
+//! The words of a line, and the values that single words write.
 ghost use Rattle.std.specs.Prelude.{◌≡◌, ◌<◌, [], ◌∷◌, ℕ, List, IfOk, IfSome, IfNone, decimal};
 ghost use Rattle.units.specs.Code.{code_text, node_text};
 ghost use Rattle.units.specs.Limits.{too_long};
@@ -13,12 +13,12 @@ use std::alloc::{AllocFailed, Global};
 use units::{Code, NoMemory, Node, cut, number};
 use wire::Number;
 
-/// Why no event is read from a line.
+/// Why a line gives no event.
 #[derive(Clone, Copy, Debug, PartialEq, Eq)]
 pub enum WordsFault {
     /// The line writes no event.
     Order,
-    /// Out of memory, which says nothing of the line.
+    /// Out of memory; the line may or may not write an event.
     NoMemory,
 }
 
@@ -57,7 +57,7 @@ pub fn words_of(alloc: Global, line: &str) -> Result<Vec<&str>, NoMemory>
     Ok(found)
 }
 
-/// The first word, and the others.
+/// The first word, and the other words.
 pub fn first_of<'w, 'a>(words: &'w [&'a str]) -> Option<(&'a str, &'w [&'a str])>
     ensures some { IfSome result (λ p. texts words.now ≡ p.0.now ∷ texts p.1.now) }
     ensures none { IfNone result (texts words.now ≡ []) }
@@ -66,7 +66,7 @@ pub fn first_of<'w, 'a>(words: &'w [&'a str]) -> Option<(&'a str, &'w [&'a str])
     Some((*word, others))
 }
 
-/// The word, where there is one alone.
+/// The word, where there is exactly one.
 pub fn only_word<'a>(words: &[&'a str]) -> Option<&'a str>
     ensures some { IfSome result (λ w. texts words.now ≡ w.now ∷ []) }
     ensures none { IfNone result ((w : List ℕ) → texts words.now ≡ w ∷ [] → ⊥) }

@@ -31,8 +31,8 @@ fn blocks(alloc: Global, words: &[&str]) -> Result<Items<RawBlock>, WordsFault>
     Ok(Items::from_vec(found))
 }
 
-/// What stands before the blocks of an order: the node, its account, the acquirer and the account
-/// there; and the words after them.
+/// The parties of an order, which come before its blocks: the node, its account, the acquirer and the account there;
+/// and the words after them.
 fn parties<'w, 'a>(words: &'w [&'a str]) -> Option<(Node, u64, Code, u64, &'w [&'a str])>
     ensures some { IfSome result
         (λ p. (texts words.now ≡ node_text p.0 ∷ decimal p.1 ∷ code_text p.2 ∷ decimal p.3 ∷ texts p.4.now)

@@ -1,4 +1,4 @@
-//! The line that comes next in an input, and what it writes.
+//! The next line of an input, and the thing that it writes.
 ghost use Rattle.std.specs.Prelude.{◌≡◌, ℕ, List, IfOk, IfErr};
 ghost use Rattle.input_lines.specs.Lines.{IsLine, IsNextFault, room_after};
 
@@ -7,19 +7,19 @@ use crate::line::WordsFault;
 use command_faults::{Cause, OpFault};
 use std::alloc::Global;
 
-/// What is written in one line.
+/// A thing that is written in one line.
 pub trait WrittenLine: Drop {
     ghost use Rattle.std.specs.Prelude.{◌≡◌, ℕ, List, Err, IfOk};
     ghost use Rattle.input_lines.specs.declared.line.WordsFault.TheVariants as faults;
 
-    /// The line, without its newline, writes it.
+    /// The line, without its newline, writes the thing.
     ghost writes: { List ℕ → Self → Type 0 };
 
-    /// What the line writes.
+    /// The thing that the line writes.
     ///
     /// # Errors
     ///
-    /// Fails with `Order` where the line writes nothing of the kind, and with `NoMemory` where memory ran out.
+    /// Fails with `Order` where the line writes no such thing, and with `NoMemory` for lack of memory.
     fn read(alloc: Global, line: &[u8]) -> Result<Self, WordsFault>
     where
         Self: Sized,
@@ -27,12 +27,12 @@ pub trait WrittenLine: Drop {
         ensures order { result ≡ Err faults.Order → (written : Self) → writes line.now written → ⊥ };
 }
 
-/// What the first line of `bytes` writes, what comes after that line, and how many more bytes the input may have then.
-/// `room` is how many it may have before, and `line` is the line's number, for its fault.
+/// The thing that the first line of `bytes` writes, the bytes after that line, and the number of bytes that the input
+/// may still have then. `room` is that number before the line, and `line` is the line's number, for its fault.
 ///
 /// # Errors
 ///
-/// - `Input`: the line has a fault, `TooLong` or `Truncated`, or it is none of these lines, which is `Order`.
+/// - `Input`: the line has a fault: `TooLong`, `Truncated`, or `Order`, where it writes no such thing.
 /// - `NoMemory`: out of memory.
 pub fn next_line<L: WrittenLine>(
     alloc: Global,

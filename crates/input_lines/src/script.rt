@@ -20,7 +20,7 @@ fn push(lines: &mut Vec<ScriptLine>, line: ScriptLine) -> Result<(), NoMemory>
     Ok(())
 }
 
-/// What the lines of a script write.
+/// The lines of a script, from its bytes.
 fn lines_of(alloc: Global, bytes: &[u8]) -> Result<Vec<ScriptLine>, OpFault>
     ensures ok { IfOk result (λ v. AreLines IsScriptLine bytes.now longest_input v.items) }
     ensures err { IfErr result (IsScriptFault bytes.now) }
@@ -37,13 +37,13 @@ fn lines_of(alloc: Global, bytes: &[u8]) -> Result<Vec<ScriptLine>, OpFault>
     Ok(lines)
 }
 
-/// The lines of a script, all that the reader gives.
+/// Reads the reader to its end, and returns the lines of the script.
 ///
 /// # Errors
 ///
 /// - `Read`: the reader failed.
 /// - `Input`: the first line with a fault, counted from 1, and its fault: `TooLong`, `Truncated` (also where there is
-///   no line at all) or `Order`, for a line that is none of a script.
+///   no line at all) or `Order`, where the line is no line of a script.
 /// - `NoMemory`: out of memory.
 pub fn read_script<R: Read>(alloc: Global, reader: &mut R) -> Result<Vec<ScriptLine>, OpFault>
     ensures ok { IfOk result (λ v. ReadsScript (R.remaining reader.old) (R.remaining reader.new) v.items) }

@@ -31,12 +31,12 @@ pub enum ScriptLine {
         node: Node,
         input: Input,
     },
-    /// A node is asked where a transaction stands.
+    /// A node is asked for the status of a transaction.
     Status {
         node: Node,
         id: TransactionId,
     },
-    /// A node is asked that until the transaction has the status, at most that many times.
+    /// A node is asked repeatedly, until the transaction has the status, at most that number of times.
     Until {
         node: Node,
         id: TransactionId,
@@ -45,7 +45,7 @@ pub enum ScriptLine {
     },
 }
 
-/// Whether a script may order it: acknowledgements and received messages are what a node takes by itself.
+/// Whether a script may give this input as an order: a node takes acknowledgements and received messages by itself.
 fn may_order(input: &Input) -> bool
     ensures { MatchBool result (MayOrder input.now) (MayOrder input.now → ⊥) }
 {
@@ -82,14 +82,14 @@ fn status_first<'w, 'a>(words: &'w [&'a str]) -> Option<(Status, &'w [&'a str])>
     Some((status, others))
 }
 
-/// Whether a line may wait that many turns.
+/// Whether a line may wait that number of turns.
 fn is_turns(turns: u64) -> bool
     ensures { MatchBool result ((1 ≤ turns) × (turns ≤ most_turns)) ((1 ≤ turns) × (turns ≤ most_turns) → ⊥) }
 {
     1 <= turns && turns <= MOST_TURNS
 }
 
-/// The number of turns that the word writes, where there is one alone.
+/// The number of turns that the word writes, where there is exactly one.
 fn only_turns(words: &[&str]) -> Option<u64>
     ensures some { IfSome result (λ n. (texts words.now ≡ decimal n ∷ []) × (1 ≤ n) × (n ≤ most_turns)) }
     ensures none { IfNone result ((n : ℕ) → 1 ≤ n → n ≤ most_turns → texts words.now ≡ decimal n ∷ [] → ⊥) }
@@ -117,7 +117,7 @@ fn status(words: &[&str]) -> Option<ScriptLine>
     Some(ScriptLine::Status { node, id })
 }
 
-/// What a transaction is to become, and the turns, that words write.
+/// The status that a transaction is to reach, and the turns, that words write.
 fn status_and_turns(words: &[&str]) -> Option<(Status, u64)>
     ensures some { IfSome result (λ p. (texts words.now ≡ status_text p.0 ∷ decimal p.1 ∷ []) × (1 ≤ p.1)
         × (p.1 ≤ most_turns)) }
@@ -168,7 +168,7 @@ fn question_with(words: &[&str]) -> Option<ScriptLine>
     }
 }
 
-/// The question that a line writes. `None` where it writes none.
+/// The question that a line writes, or `None` where it writes none.
 fn question_of(alloc: Global, line: &[u8]) -> Result<Option<ScriptLine>, NoMemory>
     ensures some { IfOk result (λ o. IfSome o (λ l. IsQuestion line.now l × IsScriptLine line.now l)) }
     ensures none { IfOk result (λ o. IfNone o ((l : ScriptLine) → IsQuestion line.now l → ⊥)) }
@@ -195,11 +195,11 @@ fn order_of(alloc: Global, line: &[u8]) -> Result<ScriptLine, WordsFault>
     }
 }
 
-/// What a line of a script writes.
+/// The order or the question that a line of a script writes.
 ///
 /// # Errors
 ///
-/// Fails with `Order` where the line writes nothing of the kind, and with `NoMemory`.
+/// Fails with `Order` where the line is no line of a script, and with `NoMemory`.
 pub fn script_line_of(alloc: Global, line: &[u8]) -> Result<ScriptLine, WordsFault>
     ensures ok { IfOk result (IsScriptLine line.now) }
     ensures order { result ≡ Err WordsFault.Order → (l : ScriptLine) → IsScriptLine line.now l → ⊥ }

@@ -16,7 +16,7 @@ pub(crate) enum Verb {
     Restart,
 }
 
-/// A first word that a node and a number come after.
+/// A first word that is followed by a node and a number.
 #[derive(Clone, Copy)]
 pub(crate) enum Numbered {
     Open,

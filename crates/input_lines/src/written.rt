@@ -24,7 +24,7 @@ fn push_order(line: &mut String, node: Node, order: &Order) -> Result<(), NoMemo
     Ok(())
 }
 
-/// Adds the words of what a node takes. No words write a message, which is delivered.
+/// Adds the words of a node's input. No words write a received message, since it is delivered.
 fn push_input(line: &mut String, node: Node, input: &Input) -> Result<(), NoMemory> {
     match input {
         Input::Propose(order) => push_order(line, node, order)?,
@@ -54,13 +54,13 @@ fn push_event(line: &mut String, event: &WorldEvent) -> Result<(), NoMemory> {
     Ok(())
 }
 
-/// The line that writes an event, without its newline. It is read back before it is returned, so that it is what
-/// `event_of` reads as this event.
+/// The line that writes an event, without its newline. The line is read back before it is returned: `event_of` returns
+/// this event for it.
 ///
 /// # Errors
 ///
-/// Fails with `Order` where no line writes the event: one that gives a node a message or an order that isn't for it, or
-/// that has a number of more than 18 digits. Fails with `NoMemory` where there is no room for the line.
+/// Fails with `Order` where no line writes the event: an event that gives a node a message or an order that isn't for
+/// it, or that has a number of more than 18 digits. Fails with `NoMemory` where there is no room for the line.
 pub fn line_of(alloc: Global, event: &WorldEvent) -> Result<String, WordsFault>
     ensures writes { IfOk result (λ s. IsEventLine (string_bytes s) event.now) }
     ensures free { IfOk result (λ s. IsFreeOf 10 (string_bytes s)) }

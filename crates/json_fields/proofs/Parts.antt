@@ -1,4 +1,4 @@
--- What one part of an object finds or lacks, seen from the whole.
+-- The results for one part of an object, and the result for the whole.
 use Rattle.std.proofs.Common.{◌≡◌, ap, sym, subst, Option, Some, None, Result, Ok, Err}
 use Rattle.std.specs.Option.{ok_or}
 use Rattle.std.specs.Result.{IsErrAnd}

@@ -12,7 +12,7 @@ HasKeys d count = option_map members_len (as_object d) ≡ Some count
 abbrev pub HasAt : Data → List ℕ → Data → Type 0
 HasAt d key value = get key d ≡ Some value
 
--- each item writes the element at its place, and there are as many of both
+-- each item writes the element at its place, and both have the same length
 abbrev pub EachIs : {X : Type 0} → (Data → X → Type 0) → Items → List X → Type 0
 EachIs R no_items [] = Unit {0}
 EachIs R no_items (x ∷ xs) = ⊥

@@ -1,4 +1,4 @@
--- What a reader returns: a value as described, or that there is none.
+-- The results of a reader: a value as described, or that there is none.
 use Rattle.std.specs.Prelude.{Option, Some, None, Result, Ok, Err}
 use Rattle.json_fields.specs.declared.fault.TextFault.{TextFault}
 use Rattle.json_fields.specs.declared.fault.TextFault.TheVariants.{Shape, NoMemory}

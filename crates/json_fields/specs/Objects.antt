@@ -8,11 +8,11 @@ use Rattle.json_fields.specs.Fields.{HasKeys, HasAt}
 abbrev pub Field : Type 0
 Field = List ℕ × Data
 
--- the object has these fields, and may have others
+-- the object has these fields, and may have others; no public contract cites it
 abbrev pub HasFields : Data → List Field → Type 0
 HasFields d fields = AllByRecursion (λ f. HasAt d f.0 f.1) fields
 
--- the object has these fields and no other, in whatever order
+-- the object has these fields and no other, in any order; no public contract cites it
 abbrev pub HasExactly : Data → List Field → Type 0
 HasExactly d fields = HasKeys d (length fields) × HasFields d fields
 

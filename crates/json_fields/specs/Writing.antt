@@ -1,4 +1,4 @@
--- The tokens of values, written one after another. No public contract of other crates cites this.
+-- The tokens of values, written one after another.
 use Rattle.std.specs.Prelude.{List, [], ◌∷◌, ◌++◌}
 use Rattle.std.specs.List.{flat_map}
 use Rattle.json.specs.Token.{key}
@@ -15,7 +15,7 @@ use Rattle.json_fields.specs.Objects.{Field}
 abbrev pub data_tokens : Data → List Token
 data_tokens d = json_tokens (outline d)
 
--- the tokens of a value for each element
+-- the tokens of a value for each element; no public contract cites it
 abbrev pub each_tokens : {X : Type 0} → (X → Data) → List X → List Token
 each_tokens f xs = flat_map (λ x. data_tokens (f x)) xs
 
@@ -23,7 +23,7 @@ each_tokens f xs = flat_map (λ x. data_tokens (f x)) xs
 abbrev pub after_field : List Token → Field → List Token
 after_field ts f = (ts ++ key f.0 ∷ []) ++ data_tokens f.1
 
--- these tokens, and then those of each field
+-- these tokens, and then those of each field; no public contract cites it
 abbrev pub after_fields : List Token → List Field → List Token
 after_fields ts [] = ts
 after_fields ts (f ∷ fs) = after_fields (after_field ts f) fs

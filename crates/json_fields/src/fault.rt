@@ -11,7 +11,7 @@ pub enum TextFault {
     /// It is outside the grammar.
     #[error("shape")]
     Shape,
-    /// An allocation was refused, which says nothing of the text.
+    /// An allocation was refused. It says nothing about the text.
     #[error("out of memory")]
     NoMemory,
 }

@@ -1,4 +1,4 @@
-//! Compact JSON that is written a token at a time, or a member of an object.
+//! Compact JSON that is written token by token, or member by member of an object.
 ghost use Rattle.std.specs.Prelude.{◌≡◌, ◌++◌, ◌∷◌, [], decimal, IfOk, OnOk};
 ghost use Rattle.std.specs.Str.{IsUtf8};
 ghost use Rattle.json.specs.Lex.{tokens};
@@ -13,11 +13,11 @@ use std::alloc::Global;
 use std::marker::Model;
 use units::NoMemory;
 
-/// How many bytes of a text have room from the start. Most messages and records are no longer.
+/// The number of bytes for which a text has room from the start. Most messages and records are no longer.
 const ROOM: usize = 256;
 
-/// A text of JSON that is being written, without blanks, seen in contracts as its tokens. Whoever writes sees to it that
-/// they nest.
+/// A text of JSON that is being written, without blanks, seen in contracts as its tokens. The caller has to nest the
+/// tokens correctly.
 #[derive(Drop)]
 pub struct JsonText {
     writer: Writer,
@@ -37,7 +37,7 @@ impl Model for JsonText {
 }
 
 impl JsonText {
-    /// A text without a token; or `NoMemory`.
+    /// A text without tokens; or `NoMemory`.
     pub fn new(alloc: Global) -> Result<JsonText, NoMemory>
         ensures { IfOk result (λ t. t ≡ []) }
     {
@@ -56,63 +56,63 @@ impl JsonText {
         self.writer.into_inner()
     }
 
-    /// The beginning of an object.
+    /// Writes the beginning of an object.
     pub fn begin_object(&mut self) -> Result<(), NoMemory>
         ensures { OnOk result (self.new ≡ self.old ++ begin_object ∷ []) }
     {
         Ok(self.writer.begin_object()?)
     }
 
-    /// The end of an object.
+    /// Writes the end of an object.
     pub fn end_object(&mut self) -> Result<(), NoMemory>
         ensures { OnOk result (self.new ≡ self.old ++ end_object ∷ []) }
     {
         Ok(self.writer.end_object()?)
     }
 
-    /// The beginning of an array.
+    /// Writes the beginning of an array.
     pub fn begin_array(&mut self) -> Result<(), NoMemory>
         ensures { OnOk result (self.new ≡ self.old ++ begin_array ∷ []) }
     {
         Ok(self.writer.begin_array()?)
     }
 
-    /// The end of an array.
+    /// Writes the end of an array.
     pub fn end_array(&mut self) -> Result<(), NoMemory>
         ensures { OnOk result (self.new ≡ self.old ++ end_array ∷ []) }
     {
         Ok(self.writer.end_array()?)
     }
 
-    /// A key.
+    /// Writes a key.
     pub fn key(&mut self, name: &str) -> Result<(), NoMemory>
         ensures { OnOk result (self.new ≡ self.old ++ key name.now ∷ []) }
     {
         Ok(self.writer.key(name)?)
     }
 
-    /// A text.
+    /// Writes a text.
     pub fn string(&mut self, text: &str) -> Result<(), NoMemory>
         ensures { OnOk result (self.new ≡ self.old ++ string text.now ∷ []) }
     {
         Ok(self.writer.string(text)?)
     }
 
-    /// A whole number.
+    /// Writes a whole number.
     pub fn number(&mut self, value: u64) -> Result<(), NoMemory>
         ensures { OnOk result (self.new ≡ self.old ++ number (decimal value) ∷ []) }
     {
         Ok(self.writer.u64(value)?)
     }
 
-    /// Yes or no.
+    /// Writes `true` or `false`.
     pub fn boolean(&mut self, value: bool) -> Result<(), NoMemory>
         ensures { OnOk result (self.new ≡ self.old ++ boolean value ∷ []) }
     {
         Ok(self.writer.boolean(value)?)
     }
 
-    /// A member that is a text.
+    /// Writes a member that is a text.
     pub fn put_text(&mut self, key: &str, text: &str) -> Result<(), NoMemory>
         ensures { OnOk result (self.new ≡ after_field self.old (key.now, values.string text.now)) }
     {
@@ -120,7 +120,7 @@ impl JsonText {
         self.string(text)
     }
 
-    /// A member that is a whole number.
+    /// Writes a member that is a whole number.
     pub fn put_number(&mut self, key: &str, number: u64) -> Result<(), NoMemory>
         ensures { OnOk result (self.new ≡ after_field self.old (key.now, whole number)) }
     {
@@ -128,7 +128,7 @@ impl JsonText {
         self.number(number)
     }
 
-    /// A member that is yes or no.
+    /// Writes a member that is `true` or `false`.
     pub fn put_boolean(&mut self, key: &str, value: bool) -> Result<(), NoMemory>
         ensures { OnOk result (self.new ≡ after_field self.old (key.now, values.boolean value)) }
     {

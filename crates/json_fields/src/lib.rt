@@ -1,4 +1,4 @@
-//! JSON objects: what a value has at its keys, why a value isn't what a grammar wants, and compact texts.
+//! JSON objects: the values at their keys, the faults of values outside a grammar, and compact texts.
 #![tactic(auto)]
 
 mod fault;

@@ -1,4 +1,4 @@
-//! A second line on a fault, for who waits at a terminal: the path, the word or the line that it is about.
+//! A second line about a fault, for a user at a terminal: the path, the word or the line at fault.
 
 use crate::scheme_hints::tell_scheme;
 use crate::system_files::SystemFiles;
@@ -8,7 +8,7 @@ use commands::{Archive, scheme_at};
 use std::fs;
 use std::io::IsTerminal;
 
-/// What the words of a command name.
+/// The files and words that a command names.
 #[derive(Clone, Copy)]
 struct Named<'a> {
     scheme: &'a str,
@@ -18,7 +18,7 @@ struct Named<'a> {
     script: Option<&'a str>,
 }
 
-/// What an action's words name. `None` where it reads standard input alone.
+/// The files and words that an action names. `None` if it reads standard input alone.
 fn named_by(action: &Action) -> Option<Named<'_>> {
     match action {
         Action::Rehearse | Action::Chart | Action::Explain { .. } => None,
@@ -76,7 +76,7 @@ fn named_by(action: &Action) -> Option<Named<'_>> {
     }
 }
 
-/// Tells of words of a node with that fault: what they are, and what they should be.
+/// Writes which words of a node have that fault, and what they should be.
 fn tell_setup(rt: &HostRuntime, words: &NodeWords, fault: SetupFault) {
     let node = words.node.as_str();
     let scheme = words.scheme.as_str();
@@ -89,14 +89,14 @@ fn tell_setup(rt: &HostRuntime, words: &NodeWords, fault: SetupFault) {
     let _ = match fault {
         SetupFault::Unknown => eprintln!(rt; "kyoto-link: {node} is no node of {scheme}"),
         SetupFault::Listen => eprintln!(rt;
-            "kyoto-link: {listen} is no address, as 127.0.0.1:7001 is one"
+            "kyoto-link: {listen} is not an address such as 127.0.0.1:7001"
         ),
         SetupFault::Peer => eprintln!(rt; "kyoto-link: a peer is written as ITL=127.0.0.1:7000"),
         SetupFault::Stranger(_) | SetupFault::Missing(_) => eprintln!(rt;
             "kyoto-link: a registry has the peer ITL, and ITL has each registry of {scheme}"
         ),
         SetupFault::Port => eprintln!(rt;
-            "kyoto-link: {listen} is in use, or no address of this machine"
+            "kyoto-link: {listen} is in use, or is not an address of this machine"
         ),
         SetupFault::KeysShared => eprintln!(rt;
             "kyoto-link: 'chmod 600 {keys}' leaves it to its owner"
@@ -108,11 +108,11 @@ fn tell_setup(rt: &HostRuntime, words: &NodeWords, fault: SetupFault) {
             "kyoto-link: {keys} has a line for each peer: its name, a space, and 64 hexadecimal digits"
         ),
         SetupFault::Twice(_) | SetupFault::Exposed | SetupFault::CleanUp | SetupFault::NotTheLog =>
-            { eprintln!(rt; "kyoto-link: 'kyoto-link node --help' tells what words it takes") }
+            { eprintln!(rt; "kyoto-link: 'kyoto-link node --help' lists the options") }
     };
 }
 
-/// Names what could not be read: it is tried once more, in the order in which the commands read.
+/// Names the file that could not be read: each is tried once more, in the order in which the commands read them.
 fn tell_unread(rt: &HostRuntime, named: &Named<'_>) {
     if fs::read(rt, named.scheme).is_err() {
         let _ = eprintln!(rt;
@@ -128,7 +128,7 @@ fn tell_unread(rt: &HostRuntime, named: &Named<'_>) {
         }
     }
     if !(SystemFiles { rt }).has_folder(named.folder) {
-        let _ = eprintln!(rt; "kyoto-link: {} is no folder", named.folder);
+        let _ = eprintln!(rt; "kyoto-link: {} is not a folder", named.folder);
         return;
     }
     let _ = match named.node {
@@ -153,27 +153,30 @@ fn tell_script_line(rt: &HostRuntime, script: &str, line: u64) {
     }
 }
 
-/// Names the file of which a line has a fault, or the node that isn't in the scheme, or the word that is no transaction's.
+/// Names the file that has a fault in this line, or the node that isn't in the scheme, or the word that is no
+/// transaction's.
 fn tell_line(rt: &HostRuntime, named: &Named<'_>, line: u64) {
     if scheme_at(rt.alloc(), &SystemFiles { rt }, named.scheme).is_err() {
         tell_scheme(rt, named.scheme);
     } else if let Some(node) = named.node {
         let _ = eprintln!(rt; "kyoto-link: {node} is no node of {}", named.scheme);
     } else if let Some(id) = named.id {
-        let _ = eprintln!(rt; "kyoto-link: {id} is no identifier of a transaction, as NZ1 is one");
+        let _ = eprintln!(rt;
+            "kyoto-link: {id} is not the identifier of a transaction, such as NZ1"
+        );
     } else if let Some(script) = named.script {
         tell_script_line(rt, script, line);
     }
 }
 
-/// Writes on standard error what the fault of an action is about, where standard error is a terminal.
+/// If standard error is a terminal, writes there which file, word or line caused the fault of an action.
 pub(crate) fn explain(rt: &HostRuntime, action: &Action, fault: OpFault) {
     if !rt.stderr().is_terminal() {
         return;
     }
     if let (Action::Explain { topic }, OpFault::Input { .. }) = (action, fault) {
         let _ = eprintln!(rt;
-            "kyoto-link: there is no topic {topic}; 'kyoto-link explain --help' tells what topics are"
+            "kyoto-link: there is no topic {topic}; 'kyoto-link explain --help' lists the kinds"
         );
     }
     if let (Action::Node(words), OpFault::Setup(fault)) = (action, fault) {

@@ -29,12 +29,12 @@ use std::{env, io};
 /// The exit status for words that aren't UTF-8.
 const WRONG_WORDS: u8 = 2;
 
-/// Tells on standard error of a fault.
+/// Writes a fault on standard error.
 fn tell(rt: &HostRuntime, fault: OpFault) {
     let _ = eprintln!(rt; "kyoto-link: {fault}");
 }
 
-/// Tells on standard error what is wrong with the words: `clap`'s lines, each after the program's name.
+/// Writes on standard error what is wrong with the words: `clap`'s lines, each after the program's name.
 fn tell_wrong_words(rt: &HostRuntime, error: &Error) {
     let Ok(text) = format!(in rt.alloc(); "{error}") else {
         tell(rt, OpFault::NoMemory);
@@ -47,8 +47,8 @@ fn tell_wrong_words(rt: &HostRuntime, error: &Error) {
     }
 }
 
-/// Tells on standard error of what went wrong, if anything did, and returns the exit status. Where standard error can't
-/// be written, the status alone tells of it.
+/// Writes on standard error what went wrong, if anything did, and returns the exit status. If standard error can't be
+/// written, only the status shows it.
 fn report(rt: &HostRuntime, ended: &Ended) -> ExitCode
     ensures { exit_status result ≡ status_of ended.now }
 {
@@ -92,7 +92,7 @@ where
     report(rt, &ended)
 }
 
-/// The words of the command line. `InvalidData`: one of them isn't UTF-8.
+/// The words of the command line. Fails with `InvalidData` if one of them isn't UTF-8.
 fn words(rt: &HostRuntime) -> io::Result<Vec<String>> {
     Ok(env::args(rt)?.collect(rt.alloc())?)
 }
@@ -105,7 +105,7 @@ fn main(rt: HostRuntime) -> ExitCode {
         }
         Err(_) => {
             let _ = eprintln!(rt;
-                "kyoto-link: a word isn't UTF-8, which each word must be, a path too"
+                "kyoto-link: a word isn't UTF-8; each word must be, including paths"
             );
             ExitCode::from(WRONG_WORDS)
         }

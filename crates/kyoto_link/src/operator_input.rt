@@ -16,7 +16,7 @@ const LONGEST_WAIT: u64 = 250;
 /// How many bytes are read at once at most.
 const READ_AT_ONCE: usize = 4_096;
 
-/// What waits until there is something to read.
+/// Waits until there is something to read.
 #[derive(Drop)]
 struct Watch {
     poll: Poll,
@@ -24,8 +24,8 @@ struct Watch {
 }
 
 impl Watch {
-    /// What waits for standard input. `None` where the system can't wait for it, as for a file, which always has
-    /// something to read or has ended.
+    /// A wait for standard input. `None` if the system can't wait for it, as for a file, which always has something to
+    /// read or has ended.
     fn new<R: Net>(rt: &R, alloc: Global) -> Option<Watch> {
         let poll = Poll::new(rt).ok()?;
         let events = Events::with_capacity(alloc, 1).ok()?;
@@ -38,10 +38,10 @@ impl Watch {
         Some(watch)
     }
 
-    /// Waits until there is something to read or the input has ended, which is `true`, for `LONGEST_WAIT` milliseconds
-    /// at most.
+    /// Waits for something to read or the end of the input, for at most `LONGEST_WAIT` milliseconds. Returns whether
+    /// either has come.
     fn has_come(&mut self) -> io::Result<bool> {
-        // An event comes once, so that what a read has left would wait for more otherwise.
+        // An event comes once: without this, bytes that a read has left would wait for the next event.
         self.poll.registry().reregister(
             &mut SourceFd(&STANDARD_INPUT),
             Token(0),
@@ -53,7 +53,7 @@ impl Watch {
     }
 }
 
-/// Standard input, of which a read fails with `WouldBlock` where nothing was written for `LONGEST_WAIT` milliseconds.
+/// Standard input, with reads that fail with `WouldBlock` if nothing was written for `LONGEST_WAIT` milliseconds.
 #[derive(Drop)]
 pub(crate) struct OperatorInput {
     stdin: StdinLock<'static>,
@@ -76,12 +76,12 @@ impl Read for OperatorInput {
 pub(crate) enum StandardInput {
     /// Each read waits until something is written.
     Waiting(StdinLock<'static>),
-    /// A read returns now and then where nothing is.
+    /// A read returns now and then if nothing is written.
     Returning(BufReader<OperatorInput>),
 }
 
 impl StandardInput {
-    /// That of a node's operator, or that of any other command.
+    /// The input of a node's operator, or that of any other command.
     ///
     /// # Errors
     ///

@@ -1,4 +1,4 @@
-//! Where the fault of a scheme's file is, for who waits at a terminal.
+//! The place of the fault in a scheme's file, for a user at a terminal.
 
 use protocol::scheme::Scheme;
 use protocol::units::NoMemory;
@@ -6,7 +6,7 @@ use serde_json::Value;
 use std::alloc::Global;
 use std::fs;
 
-/// Two codes, of which a registry has one at most.
+/// Two codes; a registry has at most one of them.
 const CODES: [&str; 2] = ["AA", "AB"];
 
 /// The registries that the value of a scheme's file lists.
@@ -22,7 +22,7 @@ fn other_code(registry: &Value) -> &'static str {
     }
 }
 
-/// The text of a scheme of this registry and one that has nothing.
+/// The text of a scheme of this registry and one without content.
 fn pair_text(alloc: Global, registry: &Value) -> Result<String, NoMemory> {
     let mut text = String::from_str(alloc, "{\"records\":1,\"registries\":[")?;
     let written = registry.to_string(alloc)?;
@@ -41,7 +41,7 @@ fn is_faulty(alloc: Global, registry: &Value) -> bool {
     }
 }
 
-/// Names the first registry that has a fault by itself, counted from 1, or the file where none has.
+/// Names the first registry that has a fault by itself, counted from 1, or the file if none has.
 fn tell_registry(rt: &HostRuntime, path: &str, value: &Value) {
     let mut number: usize = 0;
     if let Some(registries) = registries_in(value) {
@@ -49,18 +49,18 @@ fn tell_registry(rt: &HostRuntime, path: &str, value: &Value) {
             number = number.saturating_add(1);
             if is_faulty(rt.alloc(), registry) {
                 let _ = eprintln!(rt;
-                    "kyoto-link: it is in registry {number} of the scheme's file, {path}"
+                    "kyoto-link: the fault is in registry {number} of the scheme's file, {path}"
                 );
                 return;
             }
         }
     }
     let _ = eprintln!(rt;
-        "kyoto-link: it is the scheme's file, {path}, and no registry of it by itself"
+        "kyoto-link: the fault is in the scheme's file, {path}, and in no single registry of it"
     );
 }
 
-/// Names the place in the scheme's file at which it is no JSON, or else the registry that has a fault.
+/// Names the place in the scheme's file at which it is no JSON, or otherwise the registry that has a fault.
 pub(crate) fn tell_scheme(rt: &HostRuntime, path: &str) {
     let Ok(bytes) = fs::read(rt, path) else {
         return;

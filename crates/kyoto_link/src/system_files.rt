@@ -13,26 +13,26 @@ use std::{fs, io};
 use store_files::durable::SqlStore;
 use stores::StoreFault;
 
-/// The files of the system. No clause ties what a path names to what is opened, so that the bodies here are to be read.
+/// The files of the system. No clause relates a path to the file that is opened, so the bodies here have to be read.
 #[derive(Clone, Copy)]
 pub(crate) struct SystemFiles<'a> {
     pub(crate) rt: &'a HostRuntime,
 }
 
-/// Where the node's store is.
+/// The path of the node's store.
 fn store_path(alloc: Global, folder: &str, node: Node) -> Result<String, AllocError> {
     format!(in alloc; "{folder}/{node}.db")
 }
 
-/// Where the sum of the scheme of the node's store is.
+/// The path of the sum of the scheme of the node's store.
 fn sum_path(alloc: Global, folder: &str, node: Node) -> Result<String, AllocError> {
     format!(in alloc; "{folder}/{node}.scheme")
 }
 
-/// The permissions of a file that others than its owner have.
+/// The permissions that others than its owner have on a file.
 const OF_OTHERS: u32 = 0o077;
 
-/// Where the sum is written before it gets its place, so that it is there as a whole or not at all.
+/// The path at which the sum is written before it is moved to its place, so that it is there as a whole or not at all.
 fn new_sum_path(alloc: Global, folder: &str, node: Node) -> Result<String, AllocError> {
     format!(in alloc; "{folder}/{node}.scheme.new")
 }
@@ -46,10 +46,10 @@ fn write_sum(rt: &HostRuntime, new: &str, path: &str, sum: &str) -> io::Result<(
     fs::rename(rt, new, path)
 }
 
-/// Tells, at a terminal, that a store isn't there and is made.
+/// Writes, at a terminal, that a store isn't there and is made.
 fn tell_missing(rt: &HostRuntime, path: &str) {
     if rt.stderr().is_terminal() && fs::metadata(rt, path).is_err() {
-        let _ = eprintln!(rt; "kyoto-link: {path} isn't there, and is made as an empty store");
+        let _ = eprintln!(rt; "kyoto-link: {path} doesn't exist, and is created as an empty store");
     }
 }
 
@@ -89,7 +89,7 @@ impl<'a> Archive for SystemFiles<'a> {
         }
     }
 
-    /// Opens the store, makes it where there is none, and migrates it where it has format 1.
+    /// Opens the store, makes it if there is none, and migrates it if it has format 1.
     fn open_store(&self, folder: &str, node: Node) -> Result<SqlStore<StoreFile>, StoreFault> {
         let Ok(path) = store_path(self.rt.alloc(), folder, node) else {
             return Err(StoreFault::NoMemory);
@@ -101,7 +101,7 @@ impl<'a> Archive for SystemFiles<'a> {
         opened
     }
 
-    /// Copies the store's log into its database file, which has all its records by itself then, and closes it.
+    /// Copies the store's log into its database file, which then has all its records by itself, and closes it.
     fn close(&self, store: SqlStore<StoreFile>) -> Result<(), StoreFault> {
         store.checkpoint()
     }

@@ -1,4 +1,4 @@
-//! How far long work has come, for who waits at a terminal.
+//! The progress of long work, for a user at a terminal.
 
 use commands::Progress;
 use commands::weave::Watch;
@@ -6,18 +6,18 @@ use protocol::units::Node;
 use std::io::IsTerminal;
 use std::time::Instant;
 
-/// When a line of progress is written: once a second, where standard error is a terminal.
+/// When a line of progress is written: once a second, if standard error is a terminal.
 #[derive(Drop)]
 struct Pace<'a> {
     rt: &'a HostRuntime,
-    /// When the last line was written, or the work began. `None` where no line is written.
+    /// When the last line was written, or the work began. `None` if no line is written.
     last: Option<Instant>,
     /// How many lines were written, each over the one before it.
     lines: usize,
 }
 
 impl<'a> Pace<'a> {
-    /// That of work that begins now.
+    /// The pace of work that begins now.
     fn new(rt: &'a HostRuntime) -> Pace<'a> {
         let last = if rt.stderr().is_terminal() {
             Instant::now(rt).ok()
@@ -27,7 +27,7 @@ impl<'a> Pace<'a> {
         Pace { rt, last, lines: 0 }
     }
 
-    /// Whether it is time for a line, which then is to be written.
+    /// Whether it is time for a line, which the caller then writes.
     fn should_write(&mut self) -> bool {
         let Some(last) = self.last else {
             return false;
@@ -62,7 +62,7 @@ impl<'a> Pace<'a> {
 #[derive(Drop)]
 pub(crate) struct ProgressLine<'a> {
     pace: Pace<'a>,
-    /// What was done with the records before they are woven.
+    /// The work that is done with the records before they are woven.
     done: &'static str,
     records: usize,
     woven: usize,
@@ -74,7 +74,7 @@ impl<'a> ProgressLine<'a> {
         ProgressLine::of(rt, "read")
     }
 
-    /// The line of work that begins now, and first does that with the records.
+    /// The line of work that begins now and first does this with the records.
     fn of(rt: &'a HostRuntime, done: &'static str) -> ProgressLine<'a> {
         ProgressLine {
             pace: Pace::new(rt),
@@ -84,7 +84,7 @@ impl<'a> ProgressLine<'a> {
         }
     }
 
-    /// Writes the line, where it is time for one.
+    /// Writes the line if it is time for one.
     fn tell(&mut self) {
         if self.pace.should_write() {
             let _ = eprint!(self.pace.rt;

@@ -10,7 +10,7 @@ use tagged_lines::{CheckingReader, MessageCell, MessageWriter};
 use tags::Key;
 use units::{NoMemory, Node};
 
-/// The two directions of a connection from one node to another, over those.
+/// The two directions of a connection from one node to another, over those of an inner connection.
 fn made<'k, R: Drop, W: Drop>(
     alloc: Global,
     key: &'k Key,
@@ -35,8 +35,8 @@ impl<'k, D: Dial> Dial for Tagged<'k, D> {
 
     type Writer = MessageWriter<'k, D::Writer>;
 
-    // The connection below leads there, and the message goes there from the dialer's node, under the key that it shares
-    // with the peer.
+    // The connection below leads to the peer, and the message goes there from the dialer's node, under the key that it
+    // shares with the peer.
     ghost leads = { λ d peer reader writer. D.leads d.inner peer reader writer.inner × (writer.to ≡ peer)
         × (writer.from ≡ d.node) × (key_of d.keys.now peer ≡ Some writer.key) };
 

@@ -9,7 +9,7 @@ use tagged_lines::{MessageCell, OpeningReader, ReplyWriter};
 use tags::Keys;
 use units::{NoMemory, Node};
 
-/// The two directions of a connection that `node` accepted, over those.
+/// The two directions of a connection that `node` accepted, over those of an inner connection.
 fn accepted<'k, R: Drop, W: Drop>(
     alloc: Global,
     keys: &'k Keys,

@@ -1,18 +1,19 @@
-//! What makes or accepts connections whose messages and replies have tags.
+//! Making and accepting connections whose messages and replies have tags.
 ghost use Rattle.std.specs.Prelude.{◌≡◌};
 
 use std::alloc::Global;
 use tags::Keys;
 use units::Node;
 
-/// Makes connections of a node, or accepts them, as `C` does. One message goes over each, which has a tag under the key
-/// that the node shares with its peer, and its reply has one too.
+/// Makes connections of a node, or accepts them, as `C` does. One message goes over each, with a tag under the key that
+/// the node shares with its peer, and the reply to it has a tag too.
 ///
-/// - Of a connection that is made, the writer puts the message's tag before it, and the reader gives out the reply where it
-///   has its tag, and fails where it doesn't. No connection is made with a node with which no key is shared, and none where
-///   memory ran out.
-/// - Of a connection that is accepted, the reader gives out the message where it has its tag, and an empty line where it
-///   doesn't; the writer puts a tag before the reply to one that has. Where memory runs out, accepting a connection fails.
+/// - On a connection that is made, the writer puts the message's tag before it, and the reader returns the reply if its
+///   tag is right, and fails otherwise. No connection is made with a node with which no key is shared, and none if
+///   memory runs out.
+/// - On a connection that is accepted, the reader returns the message if its tag is right, and an empty line otherwise;
+///   the writer puts a tag before the reply to a message whose tag is right. Accepting a connection fails if memory
+///   runs out.
 #[derive(Drop)]
 pub struct Tagged<'k, C> {
     pub(crate) inner: C,
@@ -22,7 +23,7 @@ pub struct Tagged<'k, C> {
 }
 
 impl<'k, C> Tagged<'k, C> {
-    /// Makes or accepts connections of `node` where `inner` does, under these keys.
+    /// Makes or accepts connections of `node` as `inner` does, under these keys.
     pub fn new(inner: C, keys: &'k Keys, node: Node, alloc: Global) -> Tagged<'k, C>
         ensures inner { result.inner ≡ inner }
         ensures keys { result.keys ≡ keys.entry }

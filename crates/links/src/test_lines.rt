@@ -12,7 +12,7 @@ pub(crate) const REPLY: &[u8] =
 pub(crate) const REFUSAL: &[u8] =
     b"0fdf85eb532d65fcd12d53ba2bc0287619f65a5d39e10c1edfd2d3eb3423e300 {\"code\":41,\"result\":\"refused\"}\n";
 
-/// The message behind a tag of which one digit differs.
+/// The message behind a tag with one wrong digit.
 pub(crate) const WRONG: &[u8] =
     b"07b10b070cc541cc60c48dbe8644c5c1e222977c6e600ec85af7772f9266326f {\"call\":\"AcceptNotification\",\"codes\":[],\"from\":\"JP\",\"status\":\"Accepted\",\"to\":\"ITL\",\"transaction\":\"NZ1\"}\n";
 

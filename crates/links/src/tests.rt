@@ -16,7 +16,7 @@ use units::refusal_code::NOT_A_MESSAGE;
 use units::{Code, NoMemory, Node};
 use wire::{Reply, ReplyCode, decode};
 
-/// JP, and the log where that is no code.
+/// JP, or the log if that is no code.
 fn jp() -> Node {
     match Code::new(b'J', b'P') {
         Some(code) => Node::Registry(code),
@@ -47,7 +47,7 @@ impl Model for Answered {
     ghost view = { λ a. record { line = a.line.items; reply = a.reply } };
 }
 
-/// Replies to each message that it was received, and to other lines that they are none.
+/// Replies to each message that it was received, and to any other line that it is no message.
 #[derive(Drop)]
 struct Taker {
     alloc: Global,
@@ -72,7 +72,7 @@ impl Answerer for Taker {
     }
 }
 
-/// What a peer sends, over a connection that it makes or takes.
+/// The bytes that a peer sends, over a connection that it makes or accepts.
 #[derive(Drop)]
 struct Peer {
     alloc: Global,
@@ -109,7 +109,8 @@ enum Outcome {
     NoMemory,
 }
 
-/// What a peer sends to the log, which line its answerer is given, if it is one, and what the log writes.
+/// The bytes that a peer sends to the log, the line that its answerer is given, if it is given one, and the bytes that
+/// the log writes.
 struct Row {
     sent: &'static [u8],
     line: Option<&'static [u8]>,
@@ -174,7 +175,7 @@ const ROWS: [Row; 11] = [
     },
 ];
 
-/// Whether the lines that were given are that one, or none.
+/// Whether exactly that line was given, or none.
 fn is_given(answered: &[Answered], line: Option<&[u8]>) -> bool {
     match (answered.first(), line) {
         (Some(first), Some(line)) => answered.len() == 1 && first.line.as_slice() == line,
@@ -188,7 +189,7 @@ fn is_written(written: &[u8], expected: &[u8]) -> bool {
     written == expected
 }
 
-/// Serves what the peer sends at the log.
+/// Serves the bytes that the peer sends to the log.
 fn served(alloc: Global, keys: &Keys, row: &Row) -> Outcome {
     let peer = Peer {
         alloc,
@@ -224,7 +225,7 @@ fn served(alloc: Global, keys: &Keys, row: &Row) -> Outcome {
     }
 }
 
-/// Reads the keys of the log, and serves what the peer sends.
+/// Reads the keys of the log, and serves the bytes that the peer sends.
 fn served_with_keys(alloc: Global, row: &Row) -> Outcome {
     match Keys::read(alloc, KEYS_OF_LOG) {
         Ok(keys) => served(alloc, &keys, row),
@@ -245,7 +246,7 @@ fn a_line_is_given_where_it_has_its_tag(rt: HostRuntime) {
     }
 }
 
-/// What a peer sends to JP in reply to the message, and how the exchange ends.
+/// The bytes that a peer sends to JP in reply to the message, and how the exchange ends.
 struct ReplyRow {
     sent: &'static [u8],
     end: Exchange,

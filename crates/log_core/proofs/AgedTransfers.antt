@@ -1,5 +1,5 @@
--- The transactions that a clean-up finds: the front of the set of what stands Checked with one more, whether there is
--- one, and what is sent for them.
+-- The transactions that a clean-up finds: the front of the set of those that stand Checked, with one more, whether
+-- there is one, and the messages that are sent for them.
 use Rattle.std.proofs.Common.{List, [], append_assoc, arith, false, length, map, refl, sym, true, ap, ◌++◌, ◌==◌, ◌∙◌, ◌∷◌, ◌≡◌, ℕ}
 use Rattle.std.specs.Prelude.{flat_map}
 use Rattle.std.proofs.lemmas.Bool.{eqb-false, eqb-true}
@@ -40,7 +40,7 @@ pub some_listed : {X : Type 0} (xs : List X) (n : ℕ) → n ≡ length xs → (
 some_listed [] n e h = let other = eqb-false n 0 h in absurd (omega arith)
 some_listed (x ∷ xs) n e h = (x, xs, refl)
 
--- ---- what is sent for each of them
+-- ---- the messages that are sent for each of them
 
 pub cancelled_sends : (scheme : Scheme) (tables : Tables) → IsKept scheme tables → (shown ids : List TransactionId) → shown ≡ ids → flat_map (λ t. log_sends t (transfer_state_content (transfer_state_in tables t)) [] column.CleanUp) shown
     ≡ flat_map (λ t. log_sends t (content_in (newest (transitions_of (history scheme Itl tables.records.inputs)) t)) [] column.CleanUp) ids

@@ -1,4 +1,4 @@
--- What a record asks for may be carried out.
+-- The effect that a record asks for may be carried out.
 use Rattle.std.specs.BTreeSet.{contains}
 use Rattle.std.specs.FinMap as finite
 use Rattle.std.proofs.Common.{◌≡◌, ℕ, List, Some, refl, ap, subst, ◌∙◌}

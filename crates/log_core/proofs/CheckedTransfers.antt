@@ -1,4 +1,4 @@
--- The set of the transactions that stand Checked, and the units under way, by what the table says of each transaction.
+-- The set of the transactions that stand Checked, and the units under way, by the table's entry of each transaction.
 use Rattle.std.proofs.Common.{◌≡◌, ◌&&◌, ◌==◌, ℕ, Bool, true, false, not, cond, Option, Some, None, refl, sym, ap, ◌∙◌}
 use Rattle.std.specs.BTreeMap as tree
 use Rattle.std.specs.BTreeMap.{BTreeMap}

@@ -1,5 +1,5 @@
--- The transactions that a clean-up cancels, read off the set of those that stand Checked: they are those of its
--- front, up to the first one that hasn't stood so for a day, and no two of these are of one transaction.
+-- The transactions that a clean-up cancels, read off the set of those that stand Checked: they are those of its front,
+-- up to the first one that hasn't stood Checked for a day, and no two of these are of one transaction.
 use Rattle.std.proofs.Common.{List, Ordering, [], ap, arith, false, get_or, inl, inr, map, refl, subst, sym, true, ℕ, ◌++◌, ◌+◌, ◌∙◌, ◌∷◌, ◌≡◌, ◌≤◌}
 use Rattle.std.specs.BTreeMap.{is_at}
 use Rattle.std.specs.BTreeSet.{IsOrdered}
@@ -46,7 +46,7 @@ use Rattle.safety.proofs.OneLog.CleanedInOrder.{ids_turned}
 use Rattle.log_core.proofs.CleanedUp.{HasExpired, checked_newest, expired_so}
 use Rattle.log_core.proofs.KnownEffects.{all_in}
 
--- it has stood so for a day at that moment
+-- it has stood Checked for a day at that moment
 abbrev pub IsAged : ℕ → Waiting → Type 0
 IsAged moment w = w.since.seconds + clean_up_age ≤ moment
 
@@ -194,7 +194,7 @@ module _ (scheme : Scheme) (tables : Tables) (kept : IsKept scheme tables) where
         let w = In_map (λ (z : Waiting). z.id) t front i in
         subst (HasExpired xs moment) w.2 (w.0.since.seconds, since_so w.0 (in_front w.0 w.1), all_in (IsAged moment) front w.0 aged w.1)
 
-    -- what stands after the front has not stood so for a day
+    -- an entry after the front has not stood Checked for a day
     behind : (ws : List Waiting) → rest ≡ ws → IsStrictlySortedBy waiting_cmp ws → (w : Waiting) → In w ws → IsAged moment w → ⊥
     behind [] e sorted w i old = i
     behind (v ∷ vs) e sorted w (inl same) old = young v vs e (subst (IsAged moment) (sym same) old)

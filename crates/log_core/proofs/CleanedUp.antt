@@ -1,5 +1,5 @@
--- What a clean-up cancels: each transaction that has stood Checked for a day, in ascending order of code and number,
--- and what it sends for each.
+-- The transactions that a clean-up cancels: each that has stood Checked for a day, in ascending order of code and
+-- number, and the messages that it sends for each.
 use Rattle.std.proofs.Common.{Contains, List, None, Option, Some, [], ap, false, inl, inr, map, refl, subst, sym, true, ℕ, ◌&&◌, ◌++◌, ◌+◌, ◌==◌, ◌∙◌, ◌∷◌, ◌↔◌, ◌≡◌, ◌≤◌, ◌⊎◌}
 use Rattle.std.specs.List.{AllByRecursion}
 use Rattle.std.specs.Option.{option_map_or}
@@ -43,7 +43,7 @@ use Rattle.safety.proofs.OneLog.CleanedInOrder.{Ascend, all_from_in, ascend_by_i
 abbrev pub HasExpired : List Transition → ℕ → TransactionId → Type 0
 HasExpired xs moment t = (since : ℕ) × (is_checked_since xs since t ≡ true) × (since + clean_up_age ≤ moment)
 
--- ---- what becomes of one
+-- ---- the transition of one transaction
 
 -- the transition to a status
 abbrev cleaned_to : ℕ → Transition → Status → Transition
@@ -169,9 +169,9 @@ module _ (scheme : Scheme) (es : List Entry) (made : Made scheme Itl es) (moment
       let b = expired_of y i in
       (sym (ap (λ (z : Transition). z.new) (cleaned_made scheme es moment b.0 y b.3).3), (cleaned_about moment b.0 y b.3).1))
 
-  -- ---- what it sends
+  -- ---- the messages that it sends
 
-  -- what is sent of one transaction
+  -- the messages that are sent for one transaction
   abbrev cancellations : TransactionId → List Message
   cancellations t = log_sends t (content_in (newest xs t)) [] column.CleanUp
 

@@ -1,4 +1,4 @@
--- What the log's tables say, seen from outside: the transfer that a unit is in, and what has ended.
+-- The log's tables, seen from outside: the transfer that a unit is in, and the transactions that have ended.
 use Rattle.std.specs.FinMap as map
 use Rattle.std.proofs.Common.{Err, List, Ok, Some, ap, inl, inr, refl, subst, sym, ◌∙◌, ◌∷◌, [], ◌≡◌}
 use Rattle.std.specs.Prelude.{Result}
@@ -55,7 +55,7 @@ module _ (scheme : Scheme) (tables : Tables) (kept : IsKept scheme tables) (l : 
   pub transfer_only : (s : Serial) (t : TransactionId) → IsUnderWayWith l s t → map.get tables.register.under_way s ≡ Some (record { id = t })
   transfer_only s t h = under_way_so s ∙ busy_under_way l.scheme (past l) (made_history l.scheme Itl l.journal) s t (record { last = h.0; is = h.1; new = busy_from h.0.new h.2; has = h.3 })
 
--- ---- what ended stays so
+-- ---- ended transactions stay as they are
 
 ended_stays : (scheme : Scheme) (journal : List Input) (input : Input) (result : Result Stepped Refusal) (t : TransactionId) (s : Status) → IsEnd s → stands (transitions_of (verdicts.history scheme Itl journal)) t ≡ Some s
     → stands (transitions_of (verdicts.history scheme Itl (after journal input result))) t ≡ Some s

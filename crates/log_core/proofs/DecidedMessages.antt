@@ -1,4 +1,4 @@
--- What the log's table decides for a message against the verdict on it, and what the tables do by that.
+-- The decision of the log's table on a message, and the verdict on it; and the change of the tables by the decision.
 use Rattle.std.proofs.Common.{append-nil, cond, Err, List, None, Ok, Option, Result, Some, [], ap, inr, refl, subst, sym, ℕ, ◌∙◌, ◌∷◌, ◌≡◌}
 use Rattle.std.specs.Prelude.{is_some, option_map}
 use Rattle.std.specs.Result.{IsErrAnd}
@@ -69,7 +69,7 @@ module _ {scheme : Scheme} {tables : Tables} {input : Input} {to : Status → Tr
       → (xs : List Transition) × (verdict_by_rules scheme tables input ≡ recorded_if_room scheme (past scheme tables) xs) × (ms ≡ messages_of xs) × AreEffects input xs effect
   moves_so effect {new} {ms} h sent e = (to new ∷ [], by.verdict_is ∙ ap (verdict_of scheme (past scheme tables) to) h, sent ∙ sym (append-nil (to new).messages), e)
 
--- ---- what the tables say of a transaction is what its newest transition says
+-- ---- the tables' entry of a transaction is that of its newest transition
 
 known_of : (o : Option Transition) → known_transfer_state (option_map of_transition o) ≡ decide.known o
 known_of None = refl
@@ -102,7 +102,7 @@ module _ {scheme : Scheme} {tables : Tables} (kept : IsKept scheme tables) where
   pub row_moves : {d : Result Decision Refusal} {new : Status} (t : TransactionId) (col : RowInput) → IsDecided t col d → d ≡ Ok (Moves new) → row_at t col ≡ rows.Move new
   row_moves {d} {new} t col is h = moves_by (row_at t col) new (sym (decides t col is) ∙ h)
 
-  -- ---- a message that isn't refused for what it is
+  -- ---- a message that isn't refused before the table is consulted
 
   abbrev pub IsWelcome : Message → Type 0
   IsWelcome m = first_of (log_refusals scheme (past scheme tables) m) ≡ None
@@ -180,6 +180,6 @@ module _ {scheme : Scheme} {tables : Tables} (kept : IsKept scheme tables) where
             ap (verdict_by_rules scheme tables) given ∙ answered (message.request r) moment welcome ∙ decided_so scheme (past scheme tables) (to_withdraw r moment) [] (row_at r.id column.Request) d (decides r.id column.Request is);
       }
 
-  -- what is sent after either, by the content that the tables have
+  -- the messages that are sent after either, by the content that the tables have
   pub sent_of : {k : Option Content} {ms : List Message} (t : TransactionId) (codes : List ℕ) (col : RowInput) → k ≡ transfer_state_content (transfer_state_in tables t) → ms ≡ log_sends t k codes col → ms ≡ log_sends t (content_in (last t)) codes col
   sent_of {k} {ms} t codes col is sent = sent ∙ ap (λ c. log_sends t c codes col) (is ∙ content_so t)

@@ -1,4 +1,4 @@
--- What a message by which a transaction moves asks for.
+-- The effect that a message asks for where its transaction moves.
 use Rattle.std.proofs.Common.{None, Option, Some, [], ap, inl, inr, refl, subst, sym, ℕ, List, true, is_some, ◌∙◌, ◌∷◌, ◌≡◌}
 use Rattle.std.specs.List.{AllByRecursion}
 use Rattle.std.specs.Prelude.{option_map}

@@ -1,7 +1,8 @@
--- The tables say of the longer history what they said of the shorter one: after one record more, once its effect is
--- carried out. `IsEffect` says nothing of what was known before. Where a request cancels a transaction that stands
--- Checked, it holds of `Begin` with the content too, and where a request cancels one that wasn't known, it holds of
--- `Cancel` too. Carried out, neither of these keeps the tables, so that `kept_moved` asks for `IsOfKnown` besides.
+-- The tables are readings of the longer history as they were of the shorter one: after one record more, once its effect
+-- is carried out. `IsEffect` says nothing about the transactions that were known before. Where a request cancels a
+-- transaction that stands Checked, it holds of `Begin` with the content too, and where a request cancels one that
+-- wasn't known, it holds of `Cancel` too. Neither of these, carried out, keeps the tables: `kept_moved` asks for
+-- `IsOfKnown` besides.
 use Rattle.std.specs.FinMap as finite
 use Rattle.std.specs.BTreeMap as tree
 use Rattle.std.specs.BTreeSet.{contains}

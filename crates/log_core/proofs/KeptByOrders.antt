@@ -1,5 +1,5 @@
--- The tables say of the longer history what they said of the shorter one: after an order on a registry's eligibility,
--- after an acknowledgement, and after any effect.
+-- The tables are readings of the longer history as they were of the shorter one: after an order on a registry's
+-- eligibility, after an acknowledgement, and after any effect.
 use Rattle.std.specs.FinMap as finite
 use Rattle.std.specs.BTreeMap as tree
 use Rattle.std.specs.BTreeSet.{contains}

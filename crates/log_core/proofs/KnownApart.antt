@@ -1,5 +1,5 @@
--- No unit is twice in a transfer that was Checked, so that the blocks of one that begins Checked, or that stands
--- Checked or Accepted, share no unit.
+-- No unit is twice in a transfer that was Checked: the blocks of one that begins Checked, or that stands Checked or
+-- Accepted, share no unit.
 use Rattle.std.proofs.Common.{List, Option, Some, [], ap, false, inl, inr, refl, subst, sym, ℕ, ◌++◌, ◌∙◌, ◌∷◌, ◌≡◌}
 use Rattle.units.specs.Apart.{AllApart}
 use Rattle.units.specs.declared.block.Block.{Block}

@@ -1,4 +1,4 @@
--- What the transitions of a record are, by its effect: to which statuses, and of which transactions.
+-- The transitions of a record, by its effect: their statuses and their transactions.
 use Rattle.std.proofs.Common.{List, Some, [], ap, false, inl, inr, map, refl, subst, sym, true, ℕ, ◌∙◌, ◌∷◌, ◌≡◌}
 use Rattle.std.specs.List.{AllByRecursion}
 use Rattle.status.proofs.Ids.{id_of_same, same_id-refl}
@@ -60,7 +60,7 @@ advanced_known scheme es input x (passes n moment q k new was content member rig
 advanced_known scheme es input x (cancels given moment t q k why was content stood) h = absurd h
 advanced_known scheme es input x (forestalls r moment f member none) h = absurd h
 
--- ---- of which transactions the transitions are
+-- ---- the transactions of the transitions
 
 pub all_in : {X : Type 0} (P : X → Type 0) (xs : List X) (x : X) → AllByRecursion P xs → In x xs → P x
 all_in P [] x h i = absurd i

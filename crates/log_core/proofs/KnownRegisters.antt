@@ -1,4 +1,4 @@
--- What the log keeps of units and registries says what its checks ask of its history.
+-- The log's register of units and registries gives the facts that its checks need about its history.
 use Rattle.std.proofs.Common.{Bool, List, None, Option, Some, [], ap, false, inl, inr, refl, subst, sym, true, unwrap_or, ◌&&◌, ◌++◌, ◌∙◌, ◌∷◌, ◌≡◌}
 use Rattle.std.specs.Prelude.{is_some, option_map}
 use Rattle.std.specs.Option.{option_or}

@@ -72,7 +72,7 @@ module _ (scheme : Scheme) (es : List Entry) (made : Made scheme Itl es) (s : Se
       let one : u.0.id ≡ t = (in_book scheme s es made).one u.0.id t (under_way_busy u.0 u.1) b in
       u.1 ∙ (λ i. Some (record { id = one i }))
 
-  -- what says of the unit which transfer is under way with it says which transfer the unit is in
+  -- a label that gives the transfer under way with the unit gives the transfer that the unit is in
   pub under_way_is : (o : Option UnderWay) → ((t : TransactionId) → Busy s (transitions_of es) t → o ≡ Some (record { id = t })) → ((u : UnderWay) → o ≡ Some u → Busy s (transitions_of es) u.id)
       → under_way (transitions_of es) s ≡ o
   under_way_is None to from = go (under_way (transitions_of es) s) refl

@@ -1,4 +1,4 @@
--- What the log's tables say before any record.
+-- The log's tables before any record.
 use Rattle.std.specs.BTreeMap as tree
 use Rattle.std.specs.BTreeMap.{is_at}
 use Rattle.std.specs.BTreeSet.{IsEmpty}

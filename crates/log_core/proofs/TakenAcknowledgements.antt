@@ -1,4 +1,4 @@
--- What tables have done with an acknowledgement, which the records take.
+-- The change of tables by an acknowledgement, which the records take.
 use Rattle.std.proofs.Common.{◌≡◌, Ok, Err, subst}
 use Rattle.std.specs.Prelude.{Result}
 use Rattle.units.specs.declared.code.Node.TheVariants.{Itl}

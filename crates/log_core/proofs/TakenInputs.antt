@@ -1,4 +1,4 @@
--- What tables have done with an input: nothing, where it is refused or was acted on before, or one record more.
+-- The change of tables by an input: none, where it is refused or was acted on before, or one record more.
 use Rattle.std.proofs.Common.{◌≡◌, ℕ, Ok, Err, inr, refl, sym, ap, subst, ◌∙◌}
 use Rattle.std.specs.BTreeMap as tree
 use Rattle.std.specs.FinMap as map
@@ -74,7 +74,7 @@ module _ (scheme : Scheme) where
   pub takes_refused : (tables tables' : Tables) (input : Input) (r : Refusal) → IsKept scheme tables → AreSame tables tables' → GivenUp tables input r.code → Takes scheme tables tables' input (Err r)
   takes_refused tables tables' input r h same why = takes_same tables tables' input (Err r) h same (records.refused_into scheme Itl tables.records tables'.records input r h.records same.records why)
 
-  -- as `?` gives an error on
+  -- as `?` returns an error
   pub takes_err : (tables tables' : Tables) (input : Input) (result : Result Stepped Refusal) (P : Refusal → Type 0) → IsKept scheme tables → AreSame tables tables' → IsErrAnd result P → ((r : Refusal) → P r → GivenUp tables input r.code)
       → Takes scheme tables tables' input result
   takes_err tables tables' input result P h same e why = takes_same tables tables' input result h same (records.err_into scheme Itl tables.records tables'.records input result P h.records same.records e why)

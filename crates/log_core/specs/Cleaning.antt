@@ -5,11 +5,11 @@ use Rattle.units.specs.Limits.{clean_up_age}
 use Rattle.status.specs.declared.id.TransactionId.{TransactionId}
 use Rattle.log_core.specs.declared.waiting.Waiting.{Waiting}
 
--- it has stood so for a day at that moment
+-- it has stood Checked for a day at that moment
 abbrev pub IsAged : ℕ → Waiting → Type 0
 IsAged moment w = w.since.seconds + clean_up_age ≤ moment
 
--- they are the transactions of the front, up to the first one that hasn't stood so for a day
+-- these are the transactions at the front, up to the first one that hasn't stood Checked for a day
 pub record AreAged (moment : ℕ) (keys : List Waiting) (ids : List TransactionId) : Type 0 where
   pub front : List Waiting
   pub rest : List Waiting

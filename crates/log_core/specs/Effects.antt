@@ -1,4 +1,4 @@
--- What the log's tables do for transitions. No public contract cites it.
+-- The effects of transitions on the log's tables. No public contract cites it.
 use Rattle.std.specs.Prelude.{◌≡◌, ℕ, ◌==◌, ◌&&◌, ◌||◌, not, Bool, List, [], ◌∷◌, map, Option, Some, None, option_map, if◌then◌else◌}
 use Rattle.std.specs.BTreeMap as tree
 use Rattle.std.specs.BTreeSet.{contains}
@@ -34,7 +34,7 @@ use Rattle.log_core.specs.declared.waiting.Waiting.{Waiting}
 abbrev pub is_among : List TransactionId → TransactionId → Bool
 is_among ids t = list_any (λ u. same_id u t) ids
 
--- ---- what the transitions of a record ask for
+-- ---- the effects that the transitions of a record ask for
 
 abbrev pub IsCancelledAt : ℕ → Transition → Type 0
 IsCancelledAt moment x = (x.new ≡ Cancelled) × (x.moment ≡ moment)
@@ -46,24 +46,24 @@ IsAdvanced Rejected = Unit {0}
 IsAdvanced Completed = Unit {0}
 IsAdvanced _ = ⊥
 
--- the effect, at that second, is what the transitions ask for
+-- the transitions ask for this effect, at that second
 abbrev pub IsEffect : List Transition → ℕ → TransferEffect → Type 0
 IsEffect xs moment (Begin id new content) =
     (x : Transition) × (xs ≡ x ∷ []) × (x.id ≡ id) × (x.new ≡ new) × (x.content ≡ content) × (x.moment ≡ moment) × (IsAdvanced new → ⊥)
 IsEffect xs moment (Advance id new) = (x : Transition) × (xs ≡ x ∷ []) × (x.id ≡ id) × (x.new ≡ new) × (x.moment ≡ moment) × IsAdvanced new
 IsEffect xs moment (Cancel ids) = (map (λ x. x.id) xs ≡ ids.items) × AllByRecursion (IsCancelledAt moment) xs
 
--- the effect is what a record of that input with these transitions asks for
+-- a record of that input with these transitions asks for this effect
 abbrev pub AreEffects : Input → List Transition → LogEffect → Type 0
 AreEffects input xs (Transfers effect moment) = IsMessageOrCleanUp input × IsEffect xs moment.seconds effect
 AreEffects input xs (Eligible registry may) = (input ≡ inputs.Eligible registry may) × (xs ≡ [])
 
--- ---- what an effect leaves
+-- ---- the tables after an effect
 
 abbrev pub transfer_state_in : Tables → TransactionId → Option TransferState
 transfer_state_in tables t = option_map of_transfer (tree.get id_cmp tables.transfers t)
 
--- a transaction came to that status then
+-- the state of a transaction after it moved to that status at that second
 abbrev pub came_to : Status → ℕ → TransferState → TransferState
 came_to new moment x = record x { status = new; since = moment }
 
@@ -88,7 +88,7 @@ under_way_after (Begin id new content) s old = if same_status new Checked && has
 under_way_after (Advance id new) s old = if same_status new Accepted then old else labels_that (λ u. not (same_id u.id id)) old
 under_way_after (Cancel ids) s old = labels_that (λ u. not (is_among ids.items u.id)) old
 
--- who owns each unit
+-- the owner of each unit
 abbrev pub owner_after : TransferEffect → (TransactionId → Option TransferState) → Serial → Option BookEntry → Option BookEntry
 owner_after (Advance id new) transfer_state s old = if same_status new Completed then handed_over (transfer_state_content (transfer_state id)) s old else old
 owner_after _ transfer_state s old = old

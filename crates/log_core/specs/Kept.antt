@@ -1,4 +1,4 @@
--- What the log's tables say of its history. No public contract cites it.
+-- The log's tables as readings of its history. No public contract cites it.
 use Rattle.std.specs.Prelude.{◌≡◌, List, option_map}
 use Rattle.std.specs.BTreeMap as tree
 use Rattle.std.specs.BTreeSet.{contains}
@@ -33,7 +33,7 @@ pub record AreKept (scheme : Scheme) (es : List Entry) (tables : Tables) : Type 
   pub transfers : (t : TransactionId) → option_map of_transfer (tree.get id_cmp tables.transfers t) ≡ option_map of_transition (newest (transitions_of es) t)
   pub checked : (w : Waiting) → contains waiting_cmp tables.checked w ≡ is_checked_since (transitions_of es) w.since.seconds w.id
 
--- of the history of its records
+-- the tables are readings of the history of their records
 pub record IsKept (scheme : Scheme) (tables : Tables) : Type 0 where
   pub records : AreRecordsOf scheme Itl tables.records.inputs tables.records
   pub kept : AreKept scheme (history scheme Itl tables.records.inputs) tables

@@ -1,5 +1,5 @@
--- What the log's tables are to say of its history: where transactions stand, who owns a unit, which transfer has it,
--- and which registries may take part.
+-- The contents that the log's tables have to have, by its history: where transactions stand, who owns a unit, which
+-- transfer has it, and which registries may take part.
 use Rattle.std.specs.Prelude.{ℕ, ◌==◌, ◌&&◌, ◌||◌, Bool, false, List, [], ◌∷◌, find, Option, None, option_map}
 use Rattle.std.specs.Option.{option_map_or, option_or}
 use Rattle.units.specs.declared.block.Unit.{Unit as Serial}
@@ -24,7 +24,7 @@ owner scheme xs s = option_map (λ c. record { registry = c }) (book_owner schem
 
 -- ---- what the code follows; no public contract cites what stands below
 
--- its status, its content where that is known, and since when it stands so, in seconds
+-- its status, its content where that is known, and since when it has that status, in seconds
 pub record TransferState : Type 0 where
   pub status : Status
   pub content : Option Content

@@ -1,4 +1,4 @@
--- What the log's tables do with an input. No public contract cites it.
+-- How the log's tables take an input. No public contract cites it.
 use Rattle.std.specs.Prelude.{◌≡◌, None, Result}
 use Rattle.units.specs.declared.code.Node.TheVariants.{Itl}
 use Rattle.units.specs.declared.refusal.Refusal.{Refusal}
@@ -19,14 +19,14 @@ use Rattle.log_core.specs.declared.tables.Tables.{Tables}
 abbrev pub verdict_by_rules : Scheme → Tables → Input → Verdict
 verdict_by_rules scheme tables input = verdict scheme Itl (history scheme Itl tables.records.inputs) input
 
--- an input that may make transitions: an acknowledgement and an order on eligibility make none, and each other one is
--- refused
+-- an input that may make transitions: an acknowledgement and an order on eligibility make none, and all other inputs
+-- are refused
 abbrev pub IsMessageOrCleanUp : Input → Type 0
 IsMessageOrCleanUp (Received m moment) = Unit {0}
 IsMessageOrCleanUp (CleanUp moment) = Unit {0}
 IsMessageOrCleanUp _ = ⊥
 
--- the message isn't refused for what it is
+-- the message isn't refused before the table is consulted
 abbrev pub IsWelcome : Tables → Message → Type 0
 IsWelcome tables m = first_of (log_refusals tables.scheme (history tables.scheme Itl tables.records.inputs) m) ≡ None
 

@@ -1,4 +1,4 @@
--- What the log's tables say of transactions, and how the tables fit together. No public contract cites it.
+-- The log's tables of transactions, and how the tables fit together. No public contract cites it.
 use Rattle.std.specs.Prelude.{◌≡◌, ℕ, ◌==◌, ◌&&◌, Bool, true, false, List, [], ◌∷◌, Option, Some, None, option_map, is_some}
 use Rattle.std.specs.BTreeMap as tree
 use Rattle.std.specs.BTreeMap.{BTreeMap}
@@ -37,11 +37,11 @@ use Rattle.log_core.specs.declared.waiting.Waiting.{Waiting}
 abbrev pub transfer_state_of : BTreeMap TransactionId LoggedTransfer → TransactionId → Option TransferState
 transfer_state_of transfers t = option_map of_transfer (tree.get id_cmp transfers t)
 
--- the transaction came to that status then
+-- the transaction with that status, since that moment
 abbrev pub came_at : Status → Moment → LoggedTransfer → LoggedTransfer
 came_at new moment x = record x { status = new; since = moment }
 
--- what the status table asks of a transaction
+-- the recorded status of a transaction, as the status table takes it
 abbrev pub known_transfer_state : Option TransferState → RecordedStatus
 known_transfer_state x = option_map_or (λ y. option_map_or (λ k. Stands y.status) y.content Bare) x Unknown
 
@@ -61,7 +61,7 @@ AreWaiting transfers checked = (w : Waiting) → contains waiting_cmp checked w 
 abbrev pub AreLabelled : BTreeMap TransactionId LoggedTransfer → finite.FinMap unit_cmp UnderWay → Type 0
 AreLabelled transfers under_way = (s : Serial) (u : UnderWay) → finite.get under_way s ≡ Some u → has_serial (transfer_state_content (transfer_state_of transfers u.id)) s ≡ true
 
--- ---- what an effect may be carried out on
+-- ---- the tables that an effect may be carried out on
 
 -- a transaction that begins wasn't known, and those that are cancelled were
 abbrev pub IsOfKnown : (TransactionId → Option TransferState) → TransferEffect → Type 0
@@ -69,12 +69,13 @@ IsOfKnown old (Begin id new content) = old id ≡ None
 IsOfKnown old (Advance id new) = Unit {0}
 IsOfKnown old (Cancel ids) = AllByRecursion (λ t. is_some (old t) ≡ true) ids.items
 
--- what the log knows allows the effect
+-- the known transactions allow the effect
 abbrev pub IsAllowed : (TransactionId → Option TransferState) → LogEffect → Type 0
 IsAllowed old (Transfers effect moment) = IsOfKnown old effect
 IsAllowed old (Eligible registry may) = Unit {0}
 
--- what takes a transaction back: one that is known is cancelled, and one that isn't begins Cancelled without a content
+-- the effect that takes a transaction back: one that is known is cancelled, and one that isn't begins Cancelled without
+-- a content
 abbrev pub IsWithdrawal : TransactionId → Option TransferState → TransferEffect → Type 0
 IsWithdrawal t None effect = effect ≡ Begin t Cancelled None
 IsWithdrawal t (Some x) (Cancel ids) = ids.items ≡ t ∷ []
@@ -90,12 +91,12 @@ AreApart old (Begin id new content) = same_status new Checked ≡ true → IsApa
 AreApart old (Advance id new) = (same_status new Checked ≡ false) × (same_status new Completed ≡ true → IsApart (transfer_state_content (old id)))
 AreApart old (Cancel ids) = Unit {0}
 
--- what an effect may be carried out on
+-- the tables that an effect may be carried out on
 abbrev pub MayCarry : (TransactionId → Option TransferState) → LogEffect → Type 0
 MayCarry old (Transfers effect moment) = IsOfKnown old effect × AreApart old effect
 MayCarry old (Eligible registry may) = Unit {0}
 
--- tables that say the same
+-- tables with the same contents
 pub record AreSame (tables tables' : Tables) : Type 0 where
   pub scheme : tables'.scheme ≡ tables.scheme
   pub records : tables'.records ≡ tables.records

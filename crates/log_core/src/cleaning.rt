@@ -27,8 +27,8 @@ use units::limits::CLEAN_UP_AGE;
 use units::{Items, NoMemory, Refusal};
 use wire::{Input, Message};
 
-/// The transactions that have stood Checked for a day at that moment, by age. It looks at no transaction after the
-/// first one that hasn't. Or `NoMemory`.
+/// The transactions that have stood Checked for a day at that moment, by age. Looks at no transaction after the first
+/// one that hasn't. Fails with `NoMemory` where memory runs out.
 fn aged(
     alloc: Global,
     checked: &BTreeSet<Waiting>,
@@ -63,7 +63,7 @@ fn expired(
     Ok(ids)
 }
 
-/// What follows the cancellation of each of the transactions, in their order; or `NoMemory`.
+/// The messages after the cancellation of each of the transactions, in their order; or `NoMemory`.
 fn cancellations(
     alloc: Global,
     transfers: &BTreeMap<TransactionId, LoggedTransfer>,
@@ -80,7 +80,7 @@ fn cancellations(
 }
 
 impl Tables {
-    /// Takes a clean-up of that moment: one record for all transactions that have expired, and a repeat where none is.
+    /// Takes a clean-up of that moment: one record for all transactions that have expired, and a repeat where none has.
     pub(crate) fn clean_up(&mut self, input: &Input, moment: Moment) -> Result<Stepped, Refusal>
         requires kept { IsKept self.old.scheme self.old }
         requires input { input.now ≡ inputs.CleanUp moment }

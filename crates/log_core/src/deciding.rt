@@ -1,4 +1,4 @@
-//! What the log's table says to a message that isn't refused for what it is.
+//! The decisions of the log's table on messages that `message_refusal` doesn't refuse.
 ghost use Rattle.std.specs.Prelude.{◌≡◌, [], is_some, if◌then◌else◌, IfOk};
 ghost use Rattle.status.specs.Rows.{log_row};
 ghost use Rattle.protocol.specs.Checks.{Ledger, log_findings};
@@ -17,7 +17,7 @@ use status::{Content, Role, RowInput, TransactionId, row};
 use units::{NoMemory, Refusal};
 use wire::LogCodes;
 
-/// The codes of what was found.
+/// The codes of the findings.
 fn codes_in(found: &Option<LogCodes>) -> &[u16]
     ensures { result.now ≡ codes_in found.now }
 {
@@ -28,16 +28,16 @@ fn codes_in(found: &Option<LogCodes>) -> &[u16]
 }
 
 impl Tables {
-    /// What the table says to an input of that column about the transaction. Fails with `NO_ROW` where it has no such
-    /// row.
+    /// The table's decision on an input of that column about the transaction. Fails with `NO_ROW` where the table has
+    /// no such row.
     pub(crate) fn decide(&self, id: TransactionId, column: RowInput) -> Result<Decision, Refusal>
         ensures { result ≡ decided (log_row (known_transfer_state (transfer_state_in self.now id)) column) }
     {
         Decision::by_row(row(Role::Itl, known(&self.transfers, id), column))
     }
 
-    /// What is found in the proposal of a transaction whose content isn't recorded, and nothing in any other. Or
-    /// `NoMemory`.
+    /// The findings in a proposal where no content of its transaction is recorded, and none in any other. Fails with
+    /// `NoMemory` where memory runs out.
     pub(crate) fn findings(
         &self,
         id: TransactionId,
@@ -54,8 +54,8 @@ impl Tables {
         log_findings(self.alloc, &self.scheme, &self.register, id.code, proposed)
     }
 
-    /// The column of a proposal in which that was found. Where a content is recorded for the transaction, it is equal to
-    /// that.
+    /// The column of a proposal with these findings. Where a content is recorded for the transaction, the proposal's
+    /// content is equal to it.
     pub(crate) fn column_of_proposal(&self, id: TransactionId, found: &Option<LogCodes>) -> RowInput
         ensures { result ≡ column_of_proposal (transfer_state_content (transfer_state_in self.now id))
             (codes_in found.now) }

@@ -1,4 +1,4 @@
-//! What a record does to the log's tables.
+//! The effect of a record on the log's tables.
 ghost use Rattle.std.specs.Prelude.{◌≡◌, IfErr, OnErr, OnOk};
 ghost use Rattle.units.specs.RefusalCodes.{out_of_memory};
 ghost use Rattle.log_core.specs.Effects.{Carried, CarriedOut, transfer_state_in};
@@ -11,17 +11,18 @@ use crate::transfer::LoggedTransfer;
 use status::{Content, Moment, Status, TransactionId};
 use units::{Code, Refusal};
 
-/// What a record does to the log's transactions.
+/// The effect of a record on the log's transactions.
 #[derive(Debug, Drop)]
 pub(crate) enum TransferEffect {
-    /// A transaction that wasn't known has that status: Checked, and its units are under way, or Terminated, or
-    /// Cancelled without a content.
+    /// A transaction that wasn't known has that status: Checked, with its units under way; Terminated; or Cancelled
+    /// without a content.
     Begin {
         id: TransactionId,
         new: Status,
         content: Option<Content>,
     },
-    /// A transaction has come to that status: Accepted, or Rejected, or Completed, and its units are the acquirer's.
+    /// A known transaction moves to that status: Accepted, Rejected, or Completed, where its units are then the
+    /// acquirer's.
     Advance {
         id: TransactionId,
         new: Status,
@@ -30,10 +31,10 @@ pub(crate) enum TransferEffect {
     Cancel(Vec<TransactionId>),
 }
 
-/// What a record does to the log's tables.
+/// The effect of a record on the log's tables.
 #[derive(Debug, Drop)]
 pub(crate) enum LogEffect {
-    /// Transactions come to a status, at that moment.
+    /// Transactions move to a status, at that moment.
     Transfers {
         effect: TransferEffect,
         moment: Moment,
@@ -46,8 +47,8 @@ pub(crate) enum LogEffect {
 }
 
 impl Tables {
-    /// Moves transactions, at that moment. After `OUT_OF_MEMORY`, with which alone it fails, the tables say what they
-    /// said.
+    /// Moves transactions, at that moment. Fails with `OUT_OF_MEMORY` alone; then the contents of the tables are as
+    /// they were.
     fn move_transfers(&mut self, effect: TransferEffect, moment: Moment) -> Result<(), Refusal>
         requires known { IsOfKnown (transfer_state_in self.old) effect }
         requires apart { AreApart (transfer_state_in self.old) effect }
@@ -81,7 +82,7 @@ impl Tables {
         Ok(())
     }
 
-    /// Carries the effect out. After `OUT_OF_MEMORY`, with which alone it fails, the tables say what they said.
+    /// Carries the effect out. Fails with `OUT_OF_MEMORY` alone; then the contents of the tables are as they were.
     pub(crate) fn carry_out(&mut self, effect: LogEffect) -> Result<(), Refusal>
         requires may { MayCarry (transfer_state_in self.old) effect }
         requires waiting { AreWaiting self.old.transfers self.old.checked }

@@ -23,7 +23,7 @@ use std::marker::Model;
 use units::{Code, NoMemory, Node, Refusal, Span, Unit};
 use wire::Input;
 
-/// The log of a scheme: the journal of the inputs that it recorded, and beside it what the journal says of units and
+/// The log of a scheme: the journal of the inputs that it recorded, and tables, read off the journal, of units and
 /// registries, of transactions, and of its messages. In contracts it is its scheme and its journal.
 #[derive(Debug)]
 pub struct LogCore {
@@ -54,7 +54,7 @@ impl Model for LogCore {
 }
 
 impl LogCore {
-    /// The log of that scheme, which has recorded nothing yet. Fails with `NoMemory`.
+    /// The log of that scheme, which has recorded nothing yet. Fails with `NoMemory` where memory runs out.
     pub fn new(alloc: Global, scheme: &Scheme) -> Result<LogCore, NoMemory>
         ensures { IfOk result (λ l. l ≡ record { scheme = scheme.now; journal = [] }) }
     {
@@ -62,8 +62,8 @@ impl LogCore {
         Ok(LogCore { tables })
     }
 
-    /// The registry that owns the unit: the acquirer of the transfer with the unit that was Completed last, else the
-    /// registry that it is allotted to. Or `None`, where it isn't allotted.
+    /// The registry that owns the unit: the acquirer of the transfer with the unit that was Completed last, or else the
+    /// registry that the unit is allotted to. Returns `None` where the unit isn't allotted.
     pub fn book_owner(&self, unit: &Unit) -> Option<Code>
         ensures { result ≡ history.book_owner self.now.scheme (moves self.now) unit.now }
     {
@@ -71,8 +71,8 @@ impl LogCore {
         Some(owner.registry)
     }
 
-    /// Who owns which units, as intervals by their first units: none shares a unit with another, and neighbours with
-    /// one owner are one.
+    /// The owners of units, as intervals keyed by their first units. No two intervals share a unit, and neighbours with
+    /// one owner are joined.
     pub fn pieces(&self) -> &BTreeMap<Unit, Span<BookEntry>>
         ensures kept { AreKept (intervals_of result.now.entries) }
         ensures joined { AreCanonical (λ _. 0) (intervals_of result.now.entries) }
@@ -82,8 +82,8 @@ impl LogCore {
         self.tables.register.book.pieces()
     }
 
-    /// The transfer that the unit is in: the one transfer with the unit that stands Checked or Accepted. So no two
-    /// such transfers share a unit, whatever messages came. Or `None`, where there is no such transfer.
+    /// The transfer that the unit is in: the one transfer with the unit that stands Checked or Accepted. No two such
+    /// transfers share a unit, for all messages that came. Returns `None` where there is no such transfer.
     pub fn transfer_of(&self, unit: &Unit) -> Option<TransactionId>
         ensures some { IfSome result (IsUnderWayWith self.now unit.now) }
         ensures only { (t : declared_id.TransactionId) → IsUnderWayWith self.now unit.now t → result ≡ Some t }
@@ -121,9 +121,9 @@ impl NodeCore for LogCore {
         &self.tables.records
     }
 
-    /// As `NodeCore::step`. And whatever messages came: where the input is recorded, and completes a transfer, the
-    /// initiator owned each of its units before; and a transaction that was Rejected, Terminated, Cancelled or
-    /// Completed is so after.
+    /// As `NodeCore::step`. Moreover, for all messages that came: where the input is recorded and completes a transfer,
+    /// the initiator owned each of its units before; and a transaction that was Rejected, Terminated, Cancelled or
+    /// Completed keeps its status.
     fn step(&mut self, input: &Input) -> Result<Stepped, Refusal>
         ensures answer { IsExpectedOrNoMemory result (answer self.old.scheme Itl self.old.journal input.now) }
         ensures journal { self.new.journal ≡ after self.old.journal input.now result }

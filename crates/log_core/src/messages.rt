@@ -1,4 +1,4 @@
-//! What the log sends.
+//! The messages that the log sends.
 ghost use Rattle.std.specs.Prelude.{◌≡◌, [], ◌∷◌, ◌++◌, Some, None, IfOk, OnOk, option_copied};
 ghost use Rattle.checks.specs.Finding.{codes_in};
 ghost use Rattle.protocol.specs.Deciding.{column_of_proposal};
@@ -25,8 +25,8 @@ fn notification(registry: Code, id: TransactionId, notified: NotifiedStatus) -> 
     }
 }
 
-/// What follows a proposal, by what was found in it: the proposal as Checked to the acquirer, or Terminated with the
-/// codes to the initiator.
+/// The message after a proposal, by its findings: the proposal as Checked to the acquirer, or Terminated with the codes
+/// to the initiator.
 pub(crate) fn on_proposal(
     alloc: Global,
     id: TransactionId,
@@ -55,7 +55,7 @@ pub(crate) fn on_proposal(
     one_message(alloc, message)
 }
 
-/// What follows a notification: Accepted and Rejected go to the initiator, and Completed to the acquirer.
+/// The message after a notification: Accepted and Rejected go to the initiator, and Completed to the acquirer.
 pub(crate) fn on_notified(
     alloc: Global,
     id: TransactionId,
@@ -82,7 +82,7 @@ pub(crate) fn on_notified(
     }
 }
 
-/// Adds what follows a cancellation: Cancelled to the initiator, and then to the acquirer, where that is known.
+/// Adds the messages after a cancellation: Cancelled to the initiator, and then to the acquirer, where that is known.
 pub(crate) fn push_cancelled(
     messages: &mut Vec<Message>,
     id: TransactionId,
@@ -98,7 +98,7 @@ pub(crate) fn push_cancelled(
     Ok(())
 }
 
-/// What follows a request: as after a cancellation.
+/// The messages after a request: the same as after a cancellation.
 pub(crate) fn on_request(
     alloc: Global,
     id: TransactionId,

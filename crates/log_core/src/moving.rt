@@ -1,16 +1,16 @@
-//! Transactions that come to a status, in all tables that say so.
+//! Moves of transactions to a status, in all tables that depend on it.
 //!
-//! Where a transaction stands is said in four tables, and no call may leave two of them at odds, also not where memory
+//! Four tables depend on the status of a transaction, and no call may leave two of them inconsistent, even where memory
 //! runs out between two of its changes:
 //!
 //! - `transfers` has each transaction with its status, its content, and the moment of that status;
-//! - `checked` has just those that stand Checked, the oldest first, so that a clean-up finds them without a walk;
+//! - `checked` has those that stand Checked alone, the oldest first: a clean-up finds them without a walk over all;
 //! - `under_way` has for a unit the transaction that it is in, which stands Checked or Accepted; a unit is in one at
 //!   most, since a proposal of a unit under way is refused;
-//! - `book` has the owner of each unit, which changes where a transaction comes to Completed, and nowhere else.
+//! - `book` has the owner of each unit, which changes only where a transaction moves to Completed.
 //!
 //! Each call first makes the changes that may need memory (an entry of `checked`, spans of `under_way` or of `book`),
-//! undoes them where the next one finds none, and ends with the changes that take none.
+//! undoes them where the next one runs out of memory, and ends with the changes that take none.
 ghost use Rattle.std.specs.BTreeMap as tree;
 ghost use Rattle.std.specs.BTreeSet.{contains};
 ghost use Rattle.std.specs.FinMap as map;
@@ -37,7 +37,7 @@ use status::{Content, Moment, Status, TransactionId};
 use std::collections::{BTreeMap, BTreeSet};
 use units::{NoMemory, UnitMap};
 
-/// A transfer with that content stands Checked since that moment. After `NoMemory` nothing has changed.
+/// Adds a transfer with that content, Checked since that moment. After `NoMemory` nothing has changed.
 fn start(
     under_way: &mut UnitMap<UnderWay>,
     checked: &mut BTreeSet<Waiting>,
@@ -64,8 +64,8 @@ fn start(
     Ok(())
 }
 
-/// A transaction of which nothing was known. Where it stands Checked its units are under way. After `NoMemory`
-/// nothing has changed.
+/// Adds a transaction that wasn't known. Where it is Checked its units are then under way. After `NoMemory` nothing has
+/// changed.
 pub(crate) fn begin(
     under_way: &mut UnitMap<UnderWay>,
     transfers: &mut BTreeMap<TransactionId, LoggedTransfer>,
@@ -104,7 +104,7 @@ pub(crate) fn begin(
     Ok(())
 }
 
-/// The entry of the transaction among those that stand Checked isn't there any more.
+/// Removes the transaction's entry from those that stand Checked.
 fn stop_waiting(
     transfers: &BTreeMap<TransactionId, LoggedTransfer>,
     checked: &mut BTreeSet<Waiting>,
@@ -120,7 +120,7 @@ fn stop_waiting(
     }
 }
 
-/// The transaction comes to that status, which isn't Checked. Takes no memory.
+/// Moves the transaction to that status, which isn't Checked. Takes no memory.
 fn leave(
     transfers: &mut BTreeMap<TransactionId, LoggedTransfer>,
     checked: &mut BTreeSet<Waiting>,
@@ -142,7 +142,7 @@ fn leave(
     set_status(transfers, id, new, moment);
 }
 
-/// The transaction comes to that status, which isn't Checked, and its units aren't under way any more. Takes no memory.
+/// Moves the transaction to that status, which isn't Checked. Its units aren't under way any more. Takes no memory.
 fn finish(
     under_way: &mut UnitMap<UnderWay>,
     transfers: &mut BTreeMap<TransactionId, LoggedTransfer>,
@@ -169,8 +169,8 @@ fn finish(
     leave(transfers, checked, id, new, moment);
 }
 
-/// A transaction that is known comes to that status, which isn't Checked. Its units are the acquirer's where it is
-/// Completed, and aren't under way any more but where it is Accepted. After `NoMemory` nothing has changed.
+/// Moves a known transaction to that status, which isn't Checked. Its units become the acquirer's where the status is
+/// Completed, and aren't under way any more except where it is Accepted. After `NoMemory` nothing has changed.
 pub(crate) fn advance(
     book: &mut UnitMap<BookEntry>,
     under_way: &mut UnitMap<UnderWay>,
@@ -212,7 +212,7 @@ pub(crate) fn advance(
     Ok(())
 }
 
-/// Each of the transactions is Cancelled, and its units aren't under way any more. Takes no memory.
+/// Cancels each of the transactions. Their units aren't under way any more. Takes no memory.
 pub(crate) fn cancel(
     under_way: &mut UnitMap<UnderWay>,
     transfers: &mut BTreeMap<TransactionId, LoggedTransfer>,

@@ -48,7 +48,7 @@ fn opening_book(alloc: Global, allotments: &UnitMap<Holder>) -> Result<UnitMap<B
     Ok(book)
 }
 
-/// What the log knows of units and registries at the start; or `NoMemory`.
+/// The log's register of units and registries at the start; or `NoMemory`.
 fn opening_register(alloc: Global, scheme: &Scheme) -> Result<Register, NoMemory>
     ensures allotments { IfOk result (λ r. (s : Serial) → map.get r.allotments s ≡ allotted scheme.now s) }
     ensures book { IfOk result (λ r. (s : Serial) → map.get r.book s ≡ owner scheme.now [] s) }

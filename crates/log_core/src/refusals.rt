@@ -1,4 +1,4 @@
-//! Why the log refuses a message, before its table is asked.
+//! Refusals of messages by the log, before its table is consulted.
 ghost use Rattle.std.specs.Prelude.{◌≡◌, List, option_copied, option_map};
 ghost use Rattle.status.specs.declared.id.TransactionId.{TransactionId as Id};
 ghost use Rattle.wire.specs.declared.message.Body.TheVariants as body;
@@ -90,7 +90,8 @@ fn is_from_another(from: Node, id: TransactionId, content: Option<&Content>, tol
     }
 }
 
-/// Why the log refuses a proposal of that transaction from a registry, before its table is asked; or `None`.
+/// The code with which the log refuses that proposal from a registry before its table is consulted; `None` where it
+/// doesn't.
 fn proposal_refusal(
     transfers: &BTreeMap<TransactionId, LoggedTransfer>,
     from: Node,
@@ -113,7 +114,8 @@ fn proposal_refusal(
     None
 }
 
-/// Why the log refuses a notification about that transaction from a registry, before its table is asked; or `None`.
+/// The code with which the log refuses that notification from a registry before its table is consulted; `None` where it
+/// doesn't.
 fn notification_refusal(
     transfers: &BTreeMap<TransactionId, LoggedTransfer>,
     from: Node,
@@ -133,7 +135,8 @@ fn notification_refusal(
     None
 }
 
-/// Why the log refuses a request about that transaction from a registry, before its table is asked; or `None`.
+/// The code with which the log refuses a request about that transaction from a registry before its table is consulted;
+/// `None` where it doesn't.
 fn request_refusal(from: Node, id: TransactionId) -> Option<u16>
     ensures { (es : List Entry) → result ≡ first_of (log_body_refusals es from id body.Request) }
 {
@@ -144,7 +147,7 @@ fn request_refusal(from: Node, id: TransactionId) -> Option<u16>
     }
 }
 
-/// Why the log refuses a message, before its table is asked; or `None`.
+/// The code with which the log refuses a message before its table is consulted; `None` where it doesn't.
 pub(crate) fn message_refusal(
     scheme: &Scheme,
     transfers: &BTreeMap<TransactionId, LoggedTransfer>,

@@ -1,4 +1,4 @@
-//! What the log's register says after a transaction has come to a status.
+//! The changes of the log's register where a transaction moves to a status.
 ghost use Rattle.std.specs.Prelude.{◌≡◌, not, true, Some, OnErr, OnOk, option_copied, if◌then◌else◌};
 ghost use Rattle.std.specs.FinMap as map;
 ghost use Rattle.units.specs.Intervals.{labels_that};
@@ -13,7 +13,7 @@ use checks::{BookEntry, UnderWay};
 use status::{Content, TransactionId};
 use units::{NoMemory, UnitMap};
 
-/// The content's units are under way in that transfer. After `NoMemory` nothing has changed.
+/// Marks the content's units as under way in that transfer. After `NoMemory` nothing has changed.
 pub(crate) fn begin(
     under_way: &mut UnitMap<UnderWay>,
     content: Option<&Content>,
@@ -31,7 +31,7 @@ pub(crate) fn begin(
     }
 }
 
-/// The transfer's units, which are those of the content alone, aren't under way any more. Takes no memory.
+/// Marks the transfer's units as no longer under way. These are units of the content alone. Takes no memory.
 pub(crate) fn end(under_way: &mut UnitMap<UnderWay>, content: Option<&Content>, id: TransactionId)
     requires { (s : Serial) (u : declared.UnderWay) → map.get under_way.old s ≡ Some u → same_id u.id id ≡ true
         → has_serial (option_copied content) s ≡ true }
@@ -48,7 +48,7 @@ pub(crate) fn end(under_way: &mut UnitMap<UnderWay>, content: Option<&Content>, 
     }
 }
 
-/// The content's units are the acquirer's. After `NoMemory` nothing has changed.
+/// Makes the acquirer the owner of the content's units. After `NoMemory` nothing has changed.
 pub(crate) fn hand_over(
     book: &mut UnitMap<BookEntry>,
     content: Option<&Content>,

@@ -1,4 +1,5 @@
-//! What the log goes by of registries: which the scheme has, and the last orders on which may take part in transfers.
+//! The registries as the log knows them: which ones the scheme has, and the last orders on which may take part in
+//! transfers.
 ghost use Rattle.std.specs.BTreeMap as tree;
 ghost use Rattle.std.specs.Prelude.{◌≡◌, OnOk, OnErr, Some, if◌then◌else◌};
 ghost use Rattle.units.specs.Code.{same_code};
@@ -17,7 +18,7 @@ pub(crate) fn is_member(scheme: &Scheme, code: Code) -> bool
     scheme.member(code).is_some()
 }
 
-/// The last order for the registry is that one. After `NoMemory` nothing has changed.
+/// Makes that order the last one for the registry. After `NoMemory` nothing has changed.
 pub(crate) fn order(
     orders: &mut BTreeMap<Code, bool>,
     code: Code,

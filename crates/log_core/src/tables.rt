@@ -25,8 +25,8 @@ use units::refusal_code::UNKNOWN_REGISTRY;
 use units::{Code, Items, Refusal};
 use wire::{Input, Message, Number};
 
-/// The log of a scheme with its journal, and what is read off its history: what it knows of units and registries, its
-/// transactions, and those of them that stand Checked by age.
+/// The log of a scheme with its journal, and the tables read off its history: its register of units and registries, its
+/// transactions, and those of them that stand Checked, by age.
 #[derive(Debug, Drop)]
 pub(crate) struct Tables {
     pub alloc: Global,

@@ -1,4 +1,4 @@
-//! What the log's tables do with inputs, and with each kind of message.
+//! How the log's tables take inputs, and each kind of message.
 ghost use Rattle.std.specs.Prelude.{◌≡◌, IfOk};
 ghost use Rattle.wire.specs.declared.input.Input.TheVariants as inputs;
 ghost use Rattle.wire.specs.declared.message.Body.TheVariants as bodies;
@@ -59,7 +59,7 @@ impl Tables {
         }
     }
 
-    /// Takes a proposal that isn't refused for what it is.
+    /// Takes a proposal that `message_refusal` doesn't refuse.
     fn check(
         &mut self,
         input: &Input,
@@ -87,7 +87,7 @@ impl Tables {
         }
     }
 
-    /// Takes a notification that isn't refused for what it is.
+    /// Takes a notification that `message_refusal` doesn't refuse.
     fn take_notification(
         &mut self,
         input: &Input,
@@ -114,7 +114,7 @@ impl Tables {
         }
     }
 
-    /// Takes a request that isn't refused for what it is.
+    /// Takes a request that `message_refusal` doesn't refuse.
     fn withdraw(
         &mut self,
         input: &Input,
@@ -139,7 +139,7 @@ impl Tables {
         }
     }
 
-    /// What a request by which a transaction moves does; or `NoMemory`.
+    /// The effect of a request that moves a transaction; or `NoMemory`.
     fn withdrawal(&self, id: TransactionId) -> Result<TransferEffect, NoMemory>
         ensures { IfOk result (IsWithdrawal id (transfer_state_in self.now id)) }
     {

@@ -1,4 +1,4 @@
-//! What the log keeps of a transaction.
+//! A transaction in the log's tables.
 ghost use Rattle.std.specs.Prelude.{◌≡◌, Some};
 ghost use Rattle.log_core.specs.Readings.{of_transfer};
 ghost use Rattle.log_core.specs.Transfers as transfers;
@@ -14,7 +14,7 @@ pub(crate) struct LoggedTransfer {
 }
 
 impl LoggedTransfer {
-    /// What the status table asks of it.
+    /// Its recorded status, as the status table takes it.
     pub(crate) fn known(&self) -> RecordedStatus
         ensures { result ≡ transfers.known_transfer_state (Some (of_transfer self.now)) }
     {

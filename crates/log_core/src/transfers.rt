@@ -11,7 +11,7 @@ use crate::transfer::LoggedTransfer;
 use status::{Content, Moment, RecordedStatus, Status, TransactionId};
 use std::collections::BTreeMap;
 
-/// The transaction has that status since that moment.
+/// Sets the transaction's status, since that moment.
 pub(crate) fn set_status(
     transfers: &mut BTreeMap<TransactionId, LoggedTransfer>,
     id: TransactionId,
@@ -29,7 +29,7 @@ pub(crate) fn set_status(
     }
 }
 
-/// What the status table asks of the transaction.
+/// The transaction's recorded status, as the status table takes it.
 pub(crate) fn known(
     transfers: &BTreeMap<TransactionId, LoggedTransfer>,
     id: TransactionId,

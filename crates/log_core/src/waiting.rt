@@ -16,7 +16,7 @@ pub(crate) struct Waiting {
     pub id: TransactionId,
 }
 
-/// The entry is there. After `NoMemory` nothing has changed.
+/// Adds the entry. After `NoMemory` nothing has changed.
 pub(crate) fn remember(checked: &mut BTreeSet<Waiting>, entry: Waiting) -> Result<(), NoMemory>
     ensures ok { OnOk result ((w : declared.Waiting)
         → contains waiting_cmp checked.new w ≡ (contains waiting_cmp checked.old w || is_waiting_entry w entry)) }
@@ -27,7 +27,7 @@ pub(crate) fn remember(checked: &mut BTreeSet<Waiting>, entry: Waiting) -> Resul
     Ok(())
 }
 
-/// The entry isn't there any more.
+/// Removes the entry.
 pub(crate) fn forget(checked: &mut BTreeSet<Waiting>, entry: Waiting)
     ensures { (w : declared.Waiting)
         → contains waiting_cmp checked.new w ≡ (contains waiting_cmp checked.old w && not (is_waiting_entry w entry)) }

@@ -1,4 +1,4 @@
--- The peers that a node's words name, and why they don't.
+-- The peers that a node's words name, and the faults of such words.
 use Rattle.std.specs.Prelude.{◌≡◌, ◌≢◌, ◌⊎◌, ℕ, Bool, true, false, All, List, [], ◌∷◌, ◌++◌, None, Some, slice_get, take}
 use Rattle.std.specs.List.{AllZip}
 use Rattle.std.specs.declared.net.socket_addr.SocketAddr.{SocketAddr}
@@ -29,23 +29,23 @@ Allows Keys address = Unit {0}
 Allows Loopback address = LeadsBack address
 
 module _ (scheme : Scheme) (node : Node) where
-  -- each node to which this one sends has an address
+  -- each node that this one sends to has an address
   abbrev pub HasAll : List NodeAddress → Type 0
   HasAll peers = All (λ (n : Node). is_peer scheme node n ≡ true → address_of peers n ≡ None → ⊥) (nodes scheme)
 
   module _ (guard : Guard) where
-    -- the word is of the peer, to which this node sends, at an address that it may have
+    -- the word names the peer, which this node sends to, at an address that it may have
     pub record WritesPeer (word : List ℕ) (peer : NodeAddress) : Type 0 where
       pub named : IsPeerWord word peer
       pub sends : is_peer scheme node peer.0 ≡ true
       pub allowed : Allows guard peer.1
 
-    -- each word is of the peer at its place, and no two are of one node
+    -- each word names the peer at its place, and no two name the same node
     pub record ArePeers (words : List (List ℕ)) (peers : List NodeAddress) : Type 0 where
       pub each : AllZip WritesPeer words peers
       pub once : Pairwise (λ p q. p.0 ≢ q.0) peers
 
-    -- why a word is of no further peer
+    -- why a word names no further peer
     abbrev pub FailsToAdd : List NodeAddress → List ℕ → OpFault → Type 0
     FailsToAdd old word (Setup Peer) = (peer : NodeAddress) → IsPeerWord word peer → ⊥
     FailsToAdd old word (Setup (Stranger n)) = (address : SocketAddr) × IsPeerWord word (n, address) × (is_peer scheme node n ≡ false)
@@ -54,7 +54,7 @@ module _ (scheme : Scheme) (node : Node) where
     FailsToAdd old word NoMemory = Unit {0}
     FailsToAdd old word _ = ⊥
 
-    -- the first words are of these peers, and the next one is of none
+    -- the first words name these peers, and the next one names none
     pub record HasWrongPeer (words : List (List ℕ)) (fault : OpFault) : Type 0 where
       pub at : ℕ
       pub word : List ℕ
@@ -63,19 +63,19 @@ module _ (scheme : Scheme) (node : Node) where
       pub before : ArePeers (take at words) peers
       pub fails : FailsToAdd peers word fault
 
-  -- a node to which this one sends has no address
+  -- a node that this one sends to has no address
   abbrev pub FailsToFind : List NodeAddress → OpFault → Type 0
   FailsToFind peers (Setup (Missing n)) = (is_peer scheme node n ≡ true) × (address_of peers n ≡ None)
   FailsToFind peers NoMemory = Unit {0}
   FailsToFind peers _ = ⊥
 
-  -- the first word that is of no further peer; or all are, and a node is missing
+  -- the first word that names no further peer; or all do, and a node is missing
   abbrev pub FailsToLink : Guard → List (List ℕ) → OpFault → Type 0
   FailsToLink guard words fault = HasWrongPeer guard words fault ⊎ ((peers : List NodeAddress) × ArePeers guard words peers × FailsToFind peers fault)
 
 -- ---- what the code follows; no public contract cites what stands below
 
--- the word is of a peer, which those before it don't have, and it was added to them
+-- the word names a peer, which those before it don't, and it was added to them
 module _ (scheme : Scheme) (node : Node) (guard : Guard) where
   pub record AddsPeer (old : List NodeAddress) (word : List ℕ) (new : List NodeAddress) : Type 0 where
     pub peer : NodeAddress

@@ -1,4 +1,4 @@
--- How a node is to stand alone, by its words, and why it can't.
+-- The setup of a node that stands alone, from its words, and the faults of such words.
 use Rattle.std.specs.Prelude.{◌≡◌, ◌⊎◌, ℕ, true, List, Option, Some, None, map, string_bytes}
 use Rattle.std.specs.Net.Grammar.{IsSocketText}
 use Rattle.std.specs.declared.alloc.Global.{Global}
@@ -41,7 +41,7 @@ FailsToListen guard word _ = ⊥
 
 -- ---- how often its clock orders a clean-up
 
--- a clean-up is the log's, and none is ordered where no word says how often
+-- a clean-up is an order of the log, and none is ordered if no word says how often
 abbrev pub IsTimed : Node → Option (String Global) → Option ℕ → Type 0
 IsTimed node None every = every ≡ None
 IsTimed node (Some word) every = (node ≡ Itl) × ((seconds : ℕ) × IsSeconds (string_bytes word) seconds × (every ≡ Some seconds))

@@ -1,5 +1,5 @@
-//! What the words of the command `node` say: which node it is, where it listens, its peers with their addresses, and how
-//! often its clock orders a clean-up; and the sum of a scheme.
+//! The meaning of the words of the command `node`: which node it is, where it listens, its peers with their addresses,
+//! and how often its clock orders a clean-up; and the sum of a scheme.
 #![tactic(auto)]
 
 mod peers;

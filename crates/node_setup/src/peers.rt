@@ -16,7 +16,7 @@ use units::Node;
 pub enum Guard {
     /// They have.
     Keys,
-    /// They have none, so that no address may be one beyond the loopback interface.
+    /// They have none: every address must be of the loopback interface.
     Loopback,
 }
 
@@ -52,7 +52,7 @@ fn is_peer(scheme: &Scheme, node: Node, peer: Node) -> bool
 ///
 /// # Errors
 ///
-/// Fails with `Peer`, `Stranger`, `Exposed` or `Twice`, the first of these that the word has, and with `NoMemory` where
+/// Fails with `Peer`, `Stranger`, `Exposed` or `Twice`, the first of these that the word has, and with `NoMemory` if
 /// memory ran out. The peers are as they were.
 fn add_peer<R: Net>(
     ports: &mut Ports<R>,
@@ -80,8 +80,8 @@ fn add_peer<R: Net>(
     Ok(())
 }
 
-/// Fails with `Missing` where a node to which this one sends has no address, of the first such one in the scheme's order, and
-/// with `NoMemory` where memory ran out.
+/// Fails with `Missing` for the first node in the scheme's order that this one sends to and that has no address, and
+/// with `NoMemory` if memory ran out.
 fn find_all<R: Net>(
     alloc: Global,
     ports: &Ports<R>,
@@ -105,7 +105,7 @@ fn find_all<R: Net>(
 ///
 /// # Errors
 ///
-/// Fails with the first fault of a word, then with `Missing`, and with `NoMemory` where memory ran out.
+/// Fails with the first fault of a word, then with `Missing`, and with `NoMemory` if memory ran out.
 pub(crate) fn read_peers<R: Net + Drop>(
     net: R,
     alloc: Global,

@@ -1,4 +1,4 @@
-//! What the words of the command `node` say.
+//! The setup of a node, from the words of the command `node`.
 ghost use Rattle.std.specs.Prelude.{◌≡◌, IfErr, IfOk};
 ghost use Rattle.node_setup.specs.Setups.{FailsToListen, FailsToSetUp, FailsToTime, IsListenWord, IsSetup, IsTimed, guard_of};
 
@@ -12,7 +12,7 @@ use std::alloc::Global;
 use std::net::{Net, SocketAddr};
 use units::Node;
 
-/// How a node is to stand alone.
+/// The setup of a node that stands alone.
 #[derive(Drop)]
 pub struct Setup<R: Drop> {
     /// The node, which is one of the scheme.
@@ -39,7 +39,7 @@ fn guard_of(words: &NodeWords) -> Guard
 ///
 /// # Errors
 ///
-/// Fails with `Listen` where the word writes none, and with `Exposed` where the node may not have it.
+/// Fails with `Listen` if the word is no address, and with `Exposed` if the node may not have that address.
 fn read_listen(guard: Guard, word: &str) -> Result<SocketAddr, SetupFault>
     ensures ok { IfOk result (IsListenWord guard word.now) }
     ensures err { IfErr result (FailsToListen guard word.now) }
@@ -54,11 +54,11 @@ fn read_listen(guard: Guard, word: &str) -> Result<SocketAddr, SetupFault>
     }
 }
 
-/// How many seconds lie between two clean-ups of the node, if a word says.
+/// How many seconds lie between two clean-ups of the node, if a word says so.
 ///
 /// # Errors
 ///
-/// Fails with `CleanUp` where the word is no number of seconds, and with `NotTheLog` where the node is a registry.
+/// Fails with `CleanUp` if the word is no number of seconds, and with `NotTheLog` if the node is a registry.
 fn read_clean_up(node: Node, word: &Option<String>) -> Result<Option<u64>, SetupFault>
     ensures ok { IfOk result (IsTimed node word.now) }
     ensures err { IfErr result (FailsToTime node word.now) }
@@ -75,20 +75,21 @@ fn read_clean_up(node: Node, word: &Option<String>) -> Result<Option<u64>, Setup
     }
 }
 
-/// What the words say under a scheme: of the node, its address, its peers and its clean-ups, in this order.
+/// The setup that the words describe under a scheme. They are read in this order: the node, its address, its peers, its
+/// clean-ups.
 ///
 /// # Errors
 ///
-/// Fails with `NoMemory` where memory ran out, and else with `Setup` of the first fault:
+/// Fails with `NoMemory` if memory ran out, and otherwise with `Setup` of the first fault:
 ///
-/// - `Unknown`: the node is none of the scheme.
-/// - `Listen`: its address is none.
-/// - `Peer`, `Stranger`, `Twice`: a peer is no node with an address, none to which the node sends, or one that an earlier
-///   word has.
+/// - `Unknown`: the node isn't one of the scheme.
+/// - `Listen`: its address isn't one.
+/// - `Peer`, `Stranger`, `Twice`: a peer isn't a node with an address, isn't one that the node sends to, or is one that
+///   an earlier word names.
 /// - `Exposed`: there are no keys, and the address of the node or of a peer is not of the loopback interface.
-/// - `Missing`: a node to which this one sends is no peer.
+/// - `Missing`: a node that this one sends to is no peer.
 /// - `CleanUp`: the time between clean-ups is no number of seconds.
-/// - `NotTheLog`: there is one, and the node is a registry.
+/// - `NotTheLog`: there is such a time, and the node is a registry.
 pub fn read_setup<R: Net + Drop>(
     net: R,
     alloc: Global,

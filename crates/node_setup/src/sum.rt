@@ -12,7 +12,7 @@ use units::NoMemory;
 ///
 /// # Errors
 ///
-/// Fails with `NoMemory` where memory ran out.
+/// Fails with `NoMemory` if memory ran out.
 pub fn sum_of(alloc: Global, scheme: &Scheme) -> Result<String, NoMemory>
     ensures { IfOk result (λ text. string_bytes text ≡ sum_text scheme.now) }
 {

@@ -62,7 +62,7 @@ ordered_append p (x ∷ xs) ys =
     one false all first more same = same
 
 module _ (scheme : Scheme) (n : Node) (tells : Moment → Type 0) (Takes : Input → Type 0) (Holds : List ℕ → List Input → Type 0) where
-  -- whatever more the journal has
+  -- the same holds of every longer journal
   carried_more : (b c more : List Input) → c ≡ b ++ more → (line : List ℕ) (count : ℕ) → IsCarried Holds b line count → IsCarried Holds c line count
   carried_more b c more is line count carried = record {
     path = carried.path;

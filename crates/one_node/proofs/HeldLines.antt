@@ -1,4 +1,4 @@
--- What is held of a line that is read byte by byte.
+-- The bytes that are held of a line, which is read byte by byte.
 use Rattle.std.proofs.Common.{◌≡◌, ◌≢◌, ◌<◌, ◌≤◌, ◌+◌, ℕ, zero, suc, List, [], ◌∷◌, ◌++◌, Option, length, take, refl, sym, ap, ◌∙◌, subst, arith, append-nil, append_assoc}
 use Rattle.std.proofs.KnownBytes.{Consumes-nil, Consumes-trans}
 use Rattle.std.proofs.lemmas.List.{take_all, length-append, take-append-le}
@@ -35,7 +35,7 @@ held_short xs low = short_front longest_line xs low
 pub held_long : (xs : List ℕ) → longest_line < length (held_of xs) → longest_line < length xs
 held_long xs long = let low = long_front (longest_line + 1) xs in omega (arith, low, long)
 
--- one byte more than what was held before
+-- one byte more than was held before
 pub held_more : (held : List ℕ) (b : ℕ) → length held ≤ longest_line + 1 → longest_line < length held → held ≡ held_of (held ++ b ∷ [])
 held_more held b low long = sym (take-append-le (longest_line + 1) held (b ∷ []) (omega (arith, long)) ∙ take_all (longest_line + 1) held low)
 

@@ -47,7 +47,7 @@ module _ {R W S : Type 0} (leads : Node → R → W → Type 0) (remaining : R �
     };
   }
 
-  -- whatever more is known of the desks
+  -- the same with more known of the desks
   pub of_thread : (input : Input) → IsOfThread leads remaining contents g F tells input → IsOfThread leads remaining contents g G tells input
   of_thread (Propose o) is = is
   of_thread (Request t) is = is
@@ -119,7 +119,7 @@ module _ (scheme : Scheme) (n : Node) (tells : Moment → Type 0) (Takes : Input
     };
   }
 
-  -- a line asked for an export, and was answered
+  -- a line asked for an export, and its result was written
   one_turn : (journal : List Input) (line : List ℕ) (t : Turn) (r v w : Option (List ℕ)) (count counted : ℕ) → raw_lines (t ∷ []) ≡ line ∷ [] → lines_of (t ∷ []) ≡ [] → answers_of (t ∷ []) ≡ []
       → IsTurn scheme n (IsBorne scheme n journal) tells (IsCarried Holds journal) t → IsAnswered count v w (t ∷ []) counted → IsShift scheme n tells Takes Holds journal journal (line ++ 10 ∷ []) r r v w count counted []
   one_turn journal line t r v w count counted raw asks told is answered = record {
@@ -160,7 +160,7 @@ module _ (scheme : Scheme) (n : Node) (tells : Moment → Type 0) (Takes : Input
     goes = shift.goes;
   }
 
--- where nothing was exported, whatever is known of files
+-- if nothing was exported, the same holds with anything known of files
 pub shift_as : (scheme : Scheme) (n : Node) (tells : Moment → Type 0) (Takes : Input → Type 0) (Holds : List ℕ → List Input → Type 0) (first last : List Input) (begun : List ℕ) (r s v w : Option (List ℕ)) (count counted : ℕ) (left : List ℕ)
     → IsShift scheme n tells Takes held_nowhere first last begun r s v w count counted left → IsShift scheme n tells Takes Holds first last begun r s v w count counted left
 shift_as scheme n tells Takes Holds first last begun r s v w count counted left shift = record {
@@ -176,7 +176,7 @@ shift_as scheme n tells Takes Holds first last begun r s v w count counted left 
   };
 }
 
--- whatever more moments are told and inputs taken
+-- the same with more moments that the clock gave and more inputs that were taken
 module _ (scheme : Scheme) (n : Node) (tells also_tells : Moment → Type 0) (more : (m : Moment) → tells m → also_tells m) where
   told_turn : (Backs : Asked → Told → Type 0) (Carries : List ℕ → ℕ → Type 0) (t : Turn) → IsTurn scheme n Backs tells Carries t → IsTurn scheme n Backs also_tells Carries t
   told_turn Backs Carries (Line raw l a) is = is
@@ -204,7 +204,7 @@ module _ (scheme : Scheme) (n : Node) (tells also_tells : Moment → Type 0) (mo
     };
   }
 
--- the records of a node all of whose journal was there at its opening
+-- the export of a node whose whole journal was there at its opening
 pub export_on : (scheme : Scheme) (n : Node) (Holds : List ℕ → List Input → Type 0) (state : StateView) (journal : List Input) → state ≡ opened_with scheme n journal → (records : List Input) → records ≡ committed_records state
     → (line : List ℕ) (v w : Option (List ℕ)) (count counted : ℕ) → AnswersExport Holds records line v w count counted → AnswersExport Holds journal line v w count counted
 export_on scheme n Holds state journal is records are line v w count counted answers =

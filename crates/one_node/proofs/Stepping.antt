@@ -1,4 +1,4 @@
--- What one step of an operator's comes to.
+-- The result of one step of an operator.
 use Rattle.std.proofs.Common.{◌≡◌, ◌∙◌, ◌<◌, ◌≤◌, ◌+◌, ℕ, List, [], ◌∷◌, ◌++◌, Option, Some, None, codes, length, Result, Ok, Err, IfOk, OnOk, refl, sym, ap, subst, inl, inr, arith, append-nil, append_assoc, length-append, zero, suc, take}
 use Rattle.std.proofs.KnownBytes.{Appends-nil, Consumes-nil}
 use Rattle.std.specs.Io.KnownBytes.{Appends, Consumes, IsAtEnd, Keeps}
@@ -26,7 +26,7 @@ use Rattle.one_node.specs.declared.operator.Next.TheVariants.{On, Export, End}
 use Rattle.one_node.proofs.HeldLines.{held_again, held_short, held_whole}
 use Rattle.one_node.proofs.Turning.{hears_none, hears_one}
 
--- of a result, what follows from two things that hold of it
+-- what follows for a result from two properties of it
 pub ok_both : {X E : Type 0} (P Q R : X → Type 0) (r : Result X E) → ((x : X) → P x → Q x → R x) → IfOk r P → IfOk r Q → IfOk r R
 ok_both P Q R (Ok x) follows p q = follows x p q
 ok_both P Q R (Err e) follows p q = tt
@@ -56,7 +56,7 @@ pub begins : (held : List ℕ) → held ≡ [] → IsBegun held []
 begins held is = record { held_is = is; none = tt }
 
 module _ (scheme : Scheme) (n : Node) (tells : Moment → Type 0) where
-  -- ---- the answer to a line
+  -- ---- the result of a line
 
   pub line_answered : (held after text : List ℕ) (v w : Option (List ℕ)) (count counted : ℕ) (old new : SeatView) (l : ScriptLine) (a : ScriptAnswer)
       → Asks n held l → IsAnswer scheme n (HasHeard new) l a → Grows old new

@@ -72,7 +72,7 @@ as_many (Unread raw fault ∷ ts) = as_many ts
 as_many (Exported raw count ∷ ts) = as_many ts
 as_many (Timed m told ∷ ts) = omega (arith, as_many ts)
 
--- ---- what was read
+-- ---- the lines that were read
 
 pub read_on : (begun left last : List ℕ) (r s t : Option (List ℕ)) (ts us : List Turn) → IsRead begun r s ts left → IsRead left s t us last → IsRead begun r t (ts ++ us) last
 read_on begun left last r s t ts us a b = record {
@@ -82,7 +82,7 @@ read_on begun left last r s t ts us a b = record {
       ∙ (ap (stream_of (raw_lines ts)) b.lines ∙ (sym (stream_join (raw_lines ts) (raw_lines us) last) ∙ ap (λ (ls : List (List ℕ)). stream_of ls last) (sym (raws_append ts us))))));
 }
 
--- ---- what was answered
+-- ---- the results that were written
 
 pub answered_on : (k m n : ℕ) (v w x : Option (List ℕ)) (ts us : List Turn) → IsAnswered k v w ts m → IsAnswered m w x us n → IsAnswered k v x (ts ++ us) n
 answered_on k m n v w x ts us a b =
@@ -93,14 +93,14 @@ answered_on k m n v w x ts us a b =
       counts = omega (arith, a.counts, b.counts, both);
     }
 
--- ---- what was heard
+-- ---- the results that the seat noted
 
 module _ (scheme : Scheme) (n : Node) (tells : Moment → Type 0) where
   answer_as : (F G : Asked → Told → Type 0) → ((asked : Asked) (told : Told) → F asked told → G asked told) → (l : ScriptLine) (a : ScriptAnswer) → IsAnswer scheme n F l a → IsAnswer scheme n G l a
   answer_as F G more l NotPossible is = is
   answer_as F G more l (Answered told) is = (is.0, is.1, more _ told is.2)
 
-  -- whatever stands behind a turn
+  -- the same with more known behind each turn
   module _ (F G : Asked → Told → Type 0) (more : (asked : Asked) (told : Told) → F asked told → G asked told) (C D : List ℕ → ℕ → Type 0) (carry : (raw : List ℕ) (count : ℕ) → C raw count → D raw count) where
     turn_as : (t : Turn) → IsTurn scheme n F tells C t → IsTurn scheme n G tells D t
     turn_as (Line raw l a) is = (is.0, answer_as F G more l a is.1)
@@ -119,7 +119,7 @@ module _ (scheme : Scheme) (n : Node) (tells : Moment → Type 0) where
   pub hears_on : (a b c : SeatView) (ts us : List Turn) → Hears scheme n tells a ts b → Hears scheme n tells b us c → Hears scheme n tells a (ts ++ us) c
   hears_on a b c ts us f g turns has = subst (λ (all : List Turn). HasTurns scheme n tells all c) (append_assoc turns ts us) (g (turns ++ ts) (f turns has))
 
-  -- one turn more
+  -- one more turn
   pub hears_one : (old new : SeatView) (t : Turn) → ((asked : Asked) (told : Told) → HasHeard old asked told → HasHeard new asked told) → IsTurn scheme n (HasHeard new) tells never t
       → ((ls : List ScriptLine) (given : List ScriptAnswer) → length given ≡ length ls → HasOrders n ls given old → HasOrders n (ls ++ lines_of (t ∷ [])) (given ++ answers_of (t ∷ [])) new)
       → Hears scheme n tells old (t ∷ []) new

@@ -27,6 +27,6 @@ named_after n (b ∷ bs) others free =
     ap (λ (xs : List ℕ). b ∷ xs) (named_after n bs others free.1)
     ∙ sym (ap (λ (t : Bool). if t then 32 ∷ node_text n ++ 32 ∷ (bs ++ 32 ∷ others) else b ∷ with_node n (bs ++ 32 ∷ others)) (ne_eqb b 32 free.0))
 
--- what was added to nothing
+-- bytes that were added to none
 pub added_to_none : (old new more : List ℕ) → new ≡ old ++ more → old ≡ [] → new ≡ more
 added_to_none old new more is none = is ∙ ap (λ (xs : List ℕ). xs ++ more) none

@@ -1,4 +1,4 @@
--- What the lines of a node's operator ask for.
+-- How the lines of a node's operator are read.
 use Rattle.std.specs.Prelude.{◌≡◌, ◌⊎◌, ℕ, ◌==◌, List, [], ◌∷◌, ◌++◌, codes, if◌then◌else◌}
 use Rattle.std.specs.Str.{IsUtf8}
 use Rattle.units.specs.Code.{node_text}
@@ -16,10 +16,10 @@ abbrev pub first_word : List ℕ → List ℕ
 first_word [] = []
 first_word (b ∷ bs) = if b == 32 then [] else b ∷ first_word bs
 
--- an order of the log, which is written without the log's name in a script too
+-- an order of the log, which has no node's name in a script either
 abbrev pub IsLogOrder : List ℕ → Type 0
 IsLogOrder line = (first_word line ≡ codes "clean-up") ⊎ (first_word line ≡ codes "eligible")
 
--- at that node the line, which is UTF-8, asks for it, as the line of a script does that names the node
+-- the line is UTF-8 and asks that node for this: a script's line that names the node would ask for the same
 abbrev pub Asks : Node → List ℕ → ScriptLine → Type 0
 Asks n line l = IsUtf8 line × ((IsLogOrder line × IsScriptLine line l) ⊎ ((IsLogOrder line → ⊥) × IsScriptLine (with_node n line) l))

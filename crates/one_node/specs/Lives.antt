@@ -21,7 +21,7 @@ use Rattle.one_node.specs.declared.operator.Next.TheVariants.{On, Export, End}
 
 -- which records a file at a path has
 module _ (Holds : List ℕ → List Input → Type 0) where
-  -- as many records were written into a file at the path of the line, and the journal begins with them
+  -- that many records were written into a file at the path of the line, and the journal begins with them
   pub record IsCarried (journal : List Input) (line : List ℕ) (count : ℕ) : Type 0 where
     pub path : List ℕ
     pub asks : IsExportLine line path
@@ -31,11 +31,11 @@ module _ (Holds : List ℕ → List Input → Type 0) where
     pub first : journal ≡ records ++ rest
     pub counts : count ≡ length records
 
--- a node under a scheme, the moments that its clock told, what its threads may have recorded, and which records a file at a
--- path has
+-- a node under a scheme, the moments that its clock gave, the inputs that its threads may have recorded, and which
+-- records a file at a path has
 module _ (scheme : Scheme) (n : Node) (tells : Moment → Type 0) (Takes : Input → Type 0) (Holds : List ℕ → List Input → Type 0) where
-  -- a journal goes on, by the orders of these turns, each once and in their order, and by what threads had recorded; and
-  -- the journal bears what was told
+  -- a journal goes on, by the orders of these turns, each once and in their order, and by inputs that threads had
+  -- recorded; and the journal bears out the result of each turn
   pub record GoesOn (first last : List Input) (turns : List Turn) : Type 0 where
     pub more : List Input
     pub goes : last ≡ first ++ more
@@ -43,7 +43,7 @@ module _ (scheme : Scheme) (n : Node) (tells : Moment → Type 0) (Takes : Input
     pub orders : AreOrders n (lines_of turns) (answers_of turns) (ordered_from (length first) more)
     pub others : All (λ input. was_ordered input ≡ false → Takes input) more
 
--- of the desks of one node: they go by the scheme, and what they open with begins with these records
+-- the desks of one node: they have the scheme, and the journal that they open with begins with these records
 abbrev pub begins_with : Scheme → Node → List Input → Scheme → Node → List Input → ℕ → Type 0
 begins_with scheme n first its_scheme m journal faults = (its_scheme ≡ scheme) × (m ≡ n) × ((more : List Input) × (journal ≡ first ++ more))
 
@@ -52,8 +52,8 @@ abbrev pub records_line : ℕ → List ℕ
 records_line count = codes "records " ++ decimal count ++ codes "\n"
 
 module _ (scheme : Scheme) (n : Node) (tells : Moment → Type 0) (Takes : Input → Type 0) (Holds : List ℕ → List Input → Type 0) where
-  -- lines were read until one asked for the end, or until there were no more; each was answered, and the number of
-  -- records was written last
+  -- lines were read until one asked for the end, or until there were no more; the result of each was written, and the
+  -- number of records was written last
   pub record IsLife (first last : List Input) (r s v w : Option (List ℕ)) : Type 0 where
     pub turns : List Turn
     pub left : List ℕ
@@ -64,12 +64,12 @@ module _ (scheme : Scheme) (n : Node) (tells : Moment → Type 0) (Takes : Input
 
 -- ---- what the code follows; no public contract cites what stands below
 
--- of the desks of one shift: they go by the scheme, and open with that journal
+-- the desks of one shift: they have the scheme, and open with that journal
 abbrev pub opens_with : Scheme → Node → List Input → Scheme → Node → List Input → ℕ → Type 0
 opens_with scheme n journal its_scheme m its_journal faults = (its_scheme ≡ scheme) × (m ≡ n) × (its_journal ≡ journal)
 
--- of the node's threads and its operator in one shift: the desk left this state with its store, no fault stopped the
--- store, and what all of them were told is what one thread alone would have been told
+-- the node's threads and its operator in one shift: the desk left this state with its store, no fault stopped the
+-- store, and all their notes are those that a single thread would have made
 module _ {S : Type 0} (g : Ghosts S) (opened : Scheme → Node → List Input → ℕ → Type 0) (scheme : Scheme) (n : Node) (Takes : Input → Type 0) where
   pub record EndsShift (kept : StoredView S) (seat : SeatView) : Type 0 where
     pub keeps : IsKept g kept
@@ -80,8 +80,8 @@ module _ {S : Type 0} (g : Ghosts S) (opened : Scheme → Node → List Input �
     pub took : All (HasOnly Takes) threads
     pub settled : IsSettled scheme n kept.state (threads ++ seat ∷ [])
 
--- the node goes on with that journal, all of which was there at the opening; or it has ended, and these are its committed
--- records
+-- the node goes on with that journal, all of which was there at the opening; or it has ended, and these are its
+-- committed records
 abbrev pub LeavesJournal : Scheme → Node → StateView → List Input → Next → Type 0
 LeavesJournal scheme n held journal On = held ≡ opened_with scheme n journal
 LeavesJournal scheme n held journal Export = held ≡ opened_with scheme n journal
@@ -91,7 +91,7 @@ LeavesJournal scheme n held journal End = journal ≡ committed_records held
 abbrev pub held_nowhere : List ℕ → List Input → Type 0
 held_nowhere path records = ⊥
 
--- a line that asks for an export was answered, at that journal: the records were exported, or they weren't
+-- the result of a line that asks for an export was written, at that journal: the records were exported, or they weren't
 abbrev pub AnswersExport : (Holds : List ℕ → List Input → Type 0) → List Input → List ℕ → (v w : Option (List ℕ)) (count counted : ℕ) → Type 0
 AnswersExport Holds journal line v w count counted =
     ((exported : ℕ) × IsCarried Holds journal line exported × IsAnswered count v w (Exported line exported ∷ []) counted)
@@ -105,8 +105,8 @@ module _ (scheme : Scheme) (n : Node) (tells : Moment → Type 0) (Takes : Input
     pub answered : IsAnswered count v w turns counted
     pub goes : GoesOn scheme n tells Takes Holds first last turns
 
--- before a shift: what came of the shifts before it, from these records; the state is one that opened with its journal; and
--- some of a line may have been read
+-- before a shift: how the shifts before it led on from these records; the state is one that opened with its journal;
+-- and a part of a line may have been read
 module _ (scheme : Scheme) (n : Node) (tells : Moment → Type 0) (Takes : Input → Type 0) (Holds : List ℕ → List Input → Type 0) where
   pub record Stands (first : List Input) (held : StateView) (line : List ℕ) (r s v w : Option (List ℕ)) (count : ℕ) : Type 0 where
     pub left : List ℕ
@@ -114,7 +114,7 @@ module _ (scheme : Scheme) (n : Node) (tells : Moment → Type 0) (Takes : Input
     pub begun : IsBegun line left
     pub opened : held ≡ opened_with scheme n held.journal
 
--- a shift with no export, from a journal to a state, what followed, and what is held of a line then
+-- a shift with no export, from a journal to a state, what comes next, and the part of a line that is held then
 abbrev pub WorksOn : Scheme → Node → (tells : Moment → Type 0) (Takes : Input → Type 0) → List Input → StateView → (begun line : List ℕ) (r s v w : Option (List ℕ)) (count counted : ℕ) → Next → Type 0
 WorksOn scheme n tells Takes first held begun line r s v w count counted next =
     (last : List Input) × (left : List ℕ)

@@ -1,4 +1,4 @@
--- What a step of reading takes. No public contract cites it.
+-- The results of a step of reading. No public contract cites it.
 use Rattle.std.specs.Prelude.{◌≡◌, ℕ, ◌+◌, ◌<◌, ◌≤◌, List, [], ◌∷◌, ◌++◌, Option, length, take}
 use Rattle.std.specs.Io.KnownBytes.{Consumes, IsAtEnd, Keeps}
 use Rattle.units.specs.Limits.{longest_line}
@@ -9,11 +9,11 @@ use Rattle.one_node.specs.declared.reading.Byte.TheVariants.{Read}
 use Rattle.one_node.specs.declared.reading.Step.{Step}
 use Rattle.one_node.specs.declared.reading.Step.TheVariants.{Line, TooLong, Quiet, Ended, Failed}
 
--- of a line that was begun, what is held: all of it, or as much as shows that it is too long
+-- the part that is held of a line that was begun: all of it, or enough of it to show that it is too long
 abbrev pub held_of : List ℕ → List ℕ
 held_of bytes = take (longest_line + 1) bytes
 
--- what is held before and after, what the reader had left before and after, and what came of a step
+-- the bytes held before and after, those that the reader had left before and after, and the result of a step
 module _ (old new : List ℕ) (before after : Option (List ℕ)) where
   -- these bytes were read, which end no line
   pub record ReadsOn (bytes : List ℕ) : Type 0 where

@@ -1,4 +1,4 @@
--- What an operator was told while a node's threads ran, and what the operator's seat has kept of it.
+-- The results that an operator got while a node's threads ran, and those that the operator's seat has kept.
 use Rattle.std.specs.Prelude.{◌≡◌, ◌⊎◌, ◌+◌, ℕ, All, List, [], ◌∷◌, ◌++◌, Option, None, Result, IfOk, codes, length}
 use Rattle.std.specs.Io.KnownBytes.{Appends, Consumes, IsAtEnd, Keeps}
 use Rattle.streams.specs.Lines.{HasNoNewline, stream_of}
@@ -15,8 +15,8 @@ use Rattle.one_node.specs.Turns.{AsksExport, IsTurn, Turn, Exported, Unread, ans
 use Rattle.one_node.specs.declared.operator.Next.{Next}
 use Rattle.one_node.specs.declared.operator.Next.TheVariants.{On, Export, End}
 
--- bytes that were read before and are no line yet; the bytes that were read, by what the reader had left before and after;
--- and the bytes that were read and are no line yet, or ask for an end
+-- bytes that were read before and are no whole line yet; the bytes that were read, as the reader's contents before and
+-- after show; and the bytes that were read and are no whole line yet, or ask for an end
 pub record IsRead (begun : List ℕ) (before after : Option (List ℕ)) (turns : List Turn) (left : List ℕ) : Type 0 where
   pub read : List ℕ
   pub consumed : Consumes before after read
@@ -28,7 +28,7 @@ AsksToEnd after left = (left ≡ codes "stop" ++ 10 ∷ []) ⊎ (IsAtEnd after �
 
 -- ---- what the code follows; no public contract cites what stands below
 
--- the answers were written, and each line counted, those before them too
+-- the results were written, and each line was counted, including those before them
 pub record IsAnswered (count : ℕ) (before after : Option (List ℕ)) (turns : List Turn) (counted : ℕ) : Type 0 where
   pub written : Appends before after (answers_text (count + 1) turns)
   pub counts : counted ≡ count + length (raw_lines turns)
@@ -37,51 +37,52 @@ pub record IsAnswered (count : ℕ) (before after : Option (List ℕ)) (turns : 
 abbrev pub never : List ℕ → ℕ → Type 0
 never raw count = ⊥
 
--- a node under a scheme, and the moments that its clock told
+-- a node under a scheme, and the moments that its clock gave
 module _ (scheme : Scheme) (n : Node) (tells : Moment → Type 0) where
-  -- the seat has heard what was told, and its records are the orders in their order. Nothing was exported
+  -- the seat has noted the results, and its records are the orders in their order. Nothing was exported
   pub record HasTurns (turns : List Turn) (seat : SeatView) : Type 0 where
     pub heard : All (IsTurn scheme n (HasHeard seat) tells never) turns
     pub orders : HasOrders n (lines_of turns) (answers_of turns) seat
 
-  -- whatever turns the seat had, it has these too
+  -- the seat has these turns in addition to those that it had
   abbrev pub Hears : SeatView → List Turn → SeatView → Type 0
   Hears old more new = (turns : List Turn) → HasTurns turns old → HasTurns (turns ++ more) new
 
-  -- what the reader and the writer had before and after, how many lines were counted, and the seat: turns were read,
-  -- answered and heard. Of the bytes that were read some are left, which are no turn
+  -- the contents of the reader and of the writer before and after, the number of lines counted, and the seat: turns
+  -- were read, their results were written, and the seat noted them. Some of the bytes that were read are left; they are
+  -- no turn
   pub record Talks (begun : List ℕ) (r s v w : Option (List ℕ)) (count counted : ℕ) (old new : SeatView) (left : List ℕ) : Type 0 where
     pub turns : List Turn
     pub read : IsRead begun r s turns left
     pub answered : IsAnswered count v w turns counted
     pub hears : Hears old turns new
 
--- a seat that was told nothing
+-- a seat without notes
 abbrev pub empty_seat : SeatView
 empty_seat = record { tickets = []; notes = []; seen = 0; lengths = Grew; confirmed = 0; prepared = None }
 
--- turns of the clock alone: no line was read for them, and nothing written
+-- turns of the clock alone: no line was read for them, and nothing was written
 abbrev pub AreSilent : List Turn → Type 0
 AreSilent turns = (raw_lines turns ≡ []) × ((number : ℕ) → answers_text number turns ≡ [])
 
--- the seat has heard such turns
+-- the seat has noted the results of such turns
 pub record IsTimed (scheme : Scheme) (n : Node) (tells : Moment → Type 0) (old new : SeatView) : Type 0 where
   pub turns : List Turn
   pub silent : AreSilent turns
   pub hears : Hears scheme n tells old turns new
 
--- what is held of a line that was begun
+-- the part that is held of a line that was begun
 pub record IsBegun (held begun : List ℕ) : Type 0 where
   pub held_is : held ≡ held_of begun
   pub none : HasNoNewline begun
 
--- what follows: another step, the export that the line that is held asks for, or the node's end
+-- what comes next: another step, the export that the held line asks for, or the node's end
 abbrev pub IsNext : List ℕ → Option (List ℕ) → List ℕ → Next → Type 0
 IsNext held after left On = IsBegun held left
 IsNext held after left Export = (left ≡ held ++ 10 ∷ []) × AsksExport held
 IsNext held after left End = AsksToEnd after left
 
--- a line was answered that was read to its newline; or it asks for an export, or an end
+-- the result was written of a line that was read to its newline; or the line asks for an export, or for an end
 module _ (scheme : Scheme) (n : Node) (tells : Moment → Type 0) (line : List ℕ) (v w : Option (List ℕ)) (count counted : ℕ) (old new : SeatView) (held : List ℕ) where
   pub record AnswersLine : Type 0 where
     pub turn : Turn
@@ -96,7 +97,7 @@ module _ (scheme : Scheme) (n : Node) (tells : Moment → Type 0) (line : List �
     pub uncounted : counted ≡ count
     pub same : new ≡ old
 
-  -- it is to be answered later, and is held
+  -- its result is to be written later, and it is held
   pub record AwaitsExport : Type 0 where
     pub asks : AsksExport line
     pub unwritten : Keeps v w
@@ -109,7 +110,7 @@ module _ (scheme : Scheme) (n : Node) (tells : Moment → Type 0) (line : List �
   TakesLine Export = AwaitsExport
   TakesLine End = EndsThere
 
--- lines were read and answered for a while, and where that went well, this follows
+-- lines were read and their results written for a while, and if that succeeded, this comes next
 module _ (scheme : Scheme) (n : Node) (tells : Moment → Type 0) where
   pub record Operates (held last : List ℕ) (r s v w : Option (List ℕ)) (count counted : ℕ) (old new : SeatView) (result : Result Next OpFault) : Type 0 where
     pub talks : (begun : List ℕ) → IsBegun held begun → IfOk result (λ next. (left : List ℕ) × Talks scheme n tells begun r s v w count counted old new left × IsNext last s left next)

@@ -1,4 +1,4 @@
--- What a node's operator asked, and its clock, one after another, and what came of it.
+-- The questions of a node's operator and of its clock, one after another, each with its result.
 use Rattle.std.specs.Prelude.{◌≡◌, ◌≢◌, ◌⊎◌, ◌<◌, ◌+◌, ℕ, Bool, true, false, All, List, [], ◌∷◌, ◌++◌, codes, decimal, length}
 use Rattle.units.specs.Limits.{longest_line}
 use Rattle.units.specs.declared.code.Node.{Node}
@@ -19,16 +19,16 @@ use Rattle.one_node.specs.declared.answering.LineFault.{LineFault}
 use Rattle.one_node.specs.declared.answering.LineFault.TheVariants as faults
 
 pub data Turn : Type 0 where
-  -- a line, the order or question that it writes, and the answer
+  -- a line, the order or question that it writes, and its result
   Line : List ℕ → ScriptLine → ScriptAnswer → Turn
   -- a line that asks for nothing, or for an export that failed, and why
   Unread : List ℕ → LineFault → Turn
   -- a line that asks for an export, and how many records were exported
   Exported : List ℕ → ℕ → Turn
-  -- a clean-up that the clock ordered at that moment, and what the node told of it
+  -- a clean-up that the clock ordered at that moment, and the node's result
   Timed : Moment → Told → Turn
 
--- ---- what was read and written
+-- ---- the lines, and the results that were written
 
 -- the lines, without their newlines
 abbrev pub raw_lines : List Turn → List (List ℕ)
@@ -43,15 +43,15 @@ fault_word faults.Order = codes "order"
 fault_word faults.TooLong = codes "too-long"
 fault_word faults.Export = codes "export"
 
--- the line with that number is none that a node is asked by
+-- the result of the line with that number, which asks for nothing, or for an export that failed
 abbrev pub fault_line : ℕ → LineFault → List ℕ
 fault_line number fault = decimal number ++ codes " fault " ++ fault_word fault ++ codes "\n"
 
--- as many records were exported for the line with that number
+-- the result of the line with that number, for which that many records were exported
 abbrev pub export_line : ℕ → ℕ → List ℕ
 export_line number count = decimal number ++ codes " exported " ++ decimal count ++ codes "\n"
 
--- the answers to the lines, the first of which has that number
+-- the results of the lines, the first with that number
 abbrev pub answers_text : ℕ → List Turn → List ℕ
 answers_text number [] = []
 answers_text number (Line raw l answer ∷ turns) = answer_line number answer ++ answers_text (number + 1) turns
@@ -59,7 +59,7 @@ answers_text number (Unread raw fault ∷ turns) = fault_line number fault ++ an
 answers_text number (Exported raw count ∷ turns) = export_line number count ++ answers_text (number + 1) turns
 answers_text number (Timed moment told ∷ turns) = answers_text number turns
 
--- ---- what was asked
+-- ---- the questions
 
 -- the orders and questions, those of the clock too
 abbrev pub lines_of : List Turn → List ScriptLine
@@ -69,7 +69,7 @@ lines_of (Unread raw fault ∷ turns) = lines_of turns
 lines_of (Exported raw count ∷ turns) = lines_of turns
 lines_of (Timed moment told ∷ turns) = Order Itl (CleanUp moment) ∷ lines_of turns
 
--- and what came of each
+-- the result of each
 abbrev pub answers_of : List Turn → List ScriptAnswer
 answers_of [] = []
 answers_of (Line raw l answer ∷ turns) = answer ∷ answers_of turns
@@ -84,14 +84,14 @@ IsExportLine line path = line ≡ codes "export " ++ path
 abbrev pub AsksExport : List ℕ → Type 0
 AsksExport line = (path : List ℕ) × IsExportLine line path
 
--- the node under the scheme, and what stands behind what was told of something asked
+-- the node under the scheme, and what holds for each question and its result
 module _ (scheme : Scheme) (n : Node) (Backs : Asked → Told → Type 0) where
   -- the node takes no such order, or it was asked
   abbrev pub IsAnswer : ScriptLine → ScriptAnswer → Type 0
   IsAnswer l NotPossible = (node_of l ≢ n) ⊎ (is_possible scheme l ≡ false)
   IsAnswer l (Answered told) = (node_of l ≡ n) × (is_possible scheme l ≡ true) × Backs (asked_by l) told
 
-  -- the same; the moments that the node's clock told; and what stands behind an export
+  -- the same; the moments that the node's clock gave; and what holds for an export
   module _ (tells : Moment → Type 0) (Carries : List ℕ → ℕ → Type 0) where
     abbrev pub IsTurn : Turn → Type 0
     IsTurn (Line raw l answer) = Asks n raw l × IsAnswer l answer

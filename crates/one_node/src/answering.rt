@@ -1,4 +1,4 @@
-//! What a node's operator is answered.
+//! The results of lines, as they are written for a node's operator.
 ghost use Rattle.std.specs.Prelude.{◌≡◌, ◌++◌, IfOk, OnOk, string_bytes};
 ghost use Rattle.one_node.specs.Turns.{export_line, fault_line, fault_word};
 
@@ -30,8 +30,7 @@ impl LineFault {
     }
 }
 
-/// Adds the answer to the line with that number, which has that fault. The text may have a part of it after
-/// `NoMemory`.
+/// Adds the result of the line with that number, which has that fault. After `NoMemory` the text may have a part of it.
 pub(crate) fn push_fault(text: &mut String, number: u64, fault: LineFault) -> Result<(), NoMemory>
     ensures { OnOk result (string_bytes text.new ≡ string_bytes text.old ++ fault_line number fault) }
 {
@@ -40,8 +39,8 @@ pub(crate) fn push_fault(text: &mut String, number: u64, fault: LineFault) -> Re
     Ok(())
 }
 
-/// Adds the answer to the line with that number, for which as many records were exported. The text may have a part of it
-/// after `NoMemory`.
+/// Adds the result of the line with that number, for which that many records were exported. After `NoMemory` the text
+/// may have a part of it.
 pub(crate) fn push_export(text: &mut String, number: u64, count: usize) -> Result<(), NoMemory>
     ensures { OnOk result (string_bytes text.new ≡ string_bytes text.old ++ export_line number count) }
 {

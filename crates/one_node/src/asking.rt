@@ -19,7 +19,7 @@ fn first_word(line: &str) -> &str
     }
 }
 
-/// Whether the line begins as an order of the log does, which is written without the log's name in a script too.
+/// Whether the line begins as an order of the log does, which has no node's name in a script either.
 fn is_log_order(line: &str) -> bool
     ensures { MatchBool result (IsLogOrder line.now) (IsLogOrder line.now → ⊥) }
 {
@@ -27,7 +27,7 @@ fn is_log_order(line: &str) -> bool
     word == "clean-up" || word == "eligible"
 }
 
-/// The line with the node's name after its first word. Fails with `NoMemory` where memory ran out.
+/// The line with the node's name after its first word. Fails with `NoMemory` if memory ran out.
 fn with_node(alloc: Global, node: Node, line: &str) -> Result<String, NoMemory>
     ensures { IfOk result (λ s. string_bytes s ≡ with_node node line.now) }
 {
@@ -39,11 +39,11 @@ fn with_node(alloc: Global, node: Node, line: &str) -> Result<String, NoMemory>
     Ok(named)
 }
 
-/// What a line of that node's operator asks for, without its newline.
+/// The order or question that a line of that node's operator writes. The line has no newline.
 ///
 /// # Errors
 ///
-/// Fails with `Order` where the line asks for nothing, and with `NoMemory` where memory ran out.
+/// Fails with `Order` if the line asks for nothing, and with `NoMemory` if memory ran out.
 pub(crate) fn asked_by(alloc: Global, node: Node, line: &[u8]) -> Result<ScriptLine, WordsFault>
     ensures ok { IfOk result (Asks node line.now) }
     ensures order { result ≡ Err WordsFault.Order → (l : ALine) → Asks node line.now l → ⊥ }

@@ -17,7 +17,7 @@ use wire::Input;
 #[derive(Clone, Copy, Debug, PartialEq, Eq)]
 pub struct NotExported;
 
-/// What writes records into new files.
+/// Writes records into new files.
 pub trait Exporter {
     /// The file at that path is a store of that node, and has these records.
     ghost holds: { Self → List ℕ → ANode → List AnInput → Type 0 };
@@ -26,7 +26,7 @@ pub trait Exporter {
     ///
     /// # Errors
     ///
-    /// Fails with `NotExported` where there is a file at the path, and where the store failed.
+    /// Fails with `NotExported` if there is a file at the path, or if the store failed.
     fn export(&self, path: &str, node: Node, records: &[Input]) -> Result<(), NotExported>
         ensures { OnOk result (holds self.now path.now node records.now) };
 }
@@ -39,7 +39,7 @@ pub(crate) fn export_path(line: &[u8]) -> Option<&[u8]>
     line.strip_prefix(b"export ".as_slice())
 }
 
-/// Exports the records, all of the node, to the path of the line.
+/// Exports the records, which are all of the node's, to the path of the line.
 fn export_to<E: Exporter>(
     exporter: &E,
     node: Node,
@@ -55,7 +55,7 @@ fn export_to<E: Exporter>(
 }
 
 impl Operator {
-    /// Exports the records, all of the node, to the path of the line that is held, and answers it.
+    /// Exports the records, which are all of the node's, to the path of the held line, and writes the result.
     pub(crate) fn answer_export<E: Exporter, W: Write>(
         &mut self,
         exporter: &E,

@@ -34,7 +34,7 @@ use std::time::Duration;
 use units::{NoMemory, Node};
 use world::Core;
 
-/// What a node that stands alone is run with: the scheme, the nodes that it sends to, how it meets them, and how often its
+/// How a node that stands alone is run: the scheme, the nodes that it sends to, how it meets them, and how often its
 /// clock orders a clean-up, if it does.
 #[derive(Drop)]
 pub struct Setting<'a, N: NodeTypes> {
@@ -44,7 +44,7 @@ pub struct Setting<'a, N: NodeTypes> {
     pub clean_up: Option<Duration>,
 }
 
-/// That station alone. Fails with `NoMemory` where memory ran out: then its store is closed.
+/// The one station of the node. Fails with `NoMemory` if memory ran out: then its store is closed.
 fn one_station<O: Opening, N: NodeTypes>(
     alloc: Global,
     station: Station<O, Core, N>,
@@ -56,7 +56,7 @@ fn one_station<O: Opening, N: NodeTypes>(
     Ok(stations)
 }
 
-/// Runs that node at its station, and no other, for a shift, while the operator's lines are answered.
+/// Runs the node at its one station for a shift, and writes the results of the operator's lines.
 fn run_station<O, N, I, W, R>(
     rt: &R,
     alloc: Global,
@@ -99,7 +99,7 @@ where
     )
 }
 
-/// The seats of the node's threads, and the operator's after them. Fails with `NoMemory` where memory ran out.
+/// The seats of the node's threads, and the operator's after them. Fails with `NoMemory` if memory ran out.
 fn all_seats(threads: Vec<Seat>, seat: Seat) -> Result<Vec<Seat>, NoMemory>
     ensures { IfOk result (λ v. v.items ≡ threads.items ++ seat ∷ []) }
 {
@@ -113,7 +113,7 @@ fn all_seats(threads: Vec<Seat>, seat: Seat) -> Result<Vec<Seat>, NoMemory>
     Ok(seats)
 }
 
-/// Takes the node's desk apart, which no thread shares any more, and settles what was told at it.
+/// Takes the node's desk apart, which no thread shares any more, and settles the notes made at it.
 fn end_shift<O: Opening, L: Life, N: NodeTypes>(
     alloc: Global,
     scheme: &Scheme,
@@ -149,8 +149,8 @@ fn end_shift<O: Opening, L: Life, N: NodeTypes>(
     Ok((LoadedNode { stored, listener }, next))
 }
 
-/// Makes a desk of the node's state, and runs the node at it for a shift, while the operator's lines are answered. Then
-/// what was told is settled.
+/// Makes a desk of the node's state, and runs the node at it for a shift, while the results of the operator's lines are
+/// written. Then the notes are settled.
 fn work_shift<O, L, N, I, W, R>(
     rt: &R,
     alloc: Global,
@@ -205,7 +205,7 @@ where
     }
 }
 
-/// The node with a state that runs, and whose whole journal is that of its opening.
+/// The node with a state that runs, and whose whole journal counts as that of its opening.
 ///
 /// # Errors
 ///
@@ -227,8 +227,8 @@ fn reopen_node<N: NodeTypes>(left: LoadedNode<N>) -> Result<LoadedNode<N>, OpFau
     }
 }
 
-/// Runs the node for a shift. Afterwards its state runs, with its whole journal as that of its opening, where it is to go
-/// on; and it has stopped, where it is to end.
+/// Runs the node for a shift. If it is to go on, its state runs afterwards, with its whole journal as that of its
+/// opening; if it is to end, the state has stopped.
 fn next_shift<L, N, I, W, R>(
     rt: &R,
     alloc: Global,
@@ -293,7 +293,7 @@ fn write_end<C: NodeCore, S: NodeStore, W: Write>(
     write_out(writer, text.as_str())
 }
 
-/// As `run_alone`, of a life of which that is known.
+/// As `run_alone`, with `L` for what is known of the node's life.
 fn live<L, N, E, I, W, R>(
     rt: &R,
     alloc: Global,
@@ -357,27 +357,27 @@ where
     unreachable!()
 }
 
-/// Runs one node of a scheme in threads, while its operator's lines are answered, each at once when it is committed:
-/// orders and questions as a script has them, without the node's name, and `export PATH`, for which the threads rest until
-/// the records are in a new store at the path. At the line `stop`, or at the end of the lines,
-/// the node stops, its threads end, and the number of its committed records is written as the last line. The reader may
-/// fail with `WouldBlock`, `TimedOut` or `Interrupted` where no line has come yet, and must do so now and then: what the
-/// threads and the operator were told is settled between two reads, once much of it has gathered.
+/// Runs one node of a scheme in threads, and writes the result of each line of its operator as soon as it is committed.
+/// The lines are orders and questions as a script has them, without the node's name, and `export PATH`, for which the
+/// threads rest until the records are in a new store at the path. At the line `stop`, or at the end of the lines, the
+/// node stops, its threads end, and the number of its committed records is written as the last line. The reader may
+/// fail with `WouldBlock`, `TimedOut` or `Interrupted` while no line has come yet, and must do so now and then: the
+/// notes of the threads and the operator are settled between two reads, once there are many of them.
 ///
-/// Returns the state with its store. The journal begins with the records that it was loaded with, and bears each answer;
-/// it begins with the records of each export too.
-/// Since then it has the operator's orders that were answered as recorded, in their order, each once, and the clean-ups
-/// that the clock ordered. What else it has is a message, at a moment that the clock told, or the acknowledgement of a
-/// message that the store had as a committed record's, and that its peer replied over a connection that it received.
+/// Returns the state with its store. The journal begins with the records that it was loaded with, and with the records
+/// of each export, and bears out each written result. After the records that it was loaded with it has the operator's
+/// orders whose result was that they are recorded, in their order, each once, and the clean-ups that the clock ordered.
+/// Every other record is a message, at a moment that the clock gave, or the acknowledgement of a message that the store
+/// had as a committed record's, and whose peer replied, over a connection, that it was received.
 ///
 /// # Errors
 ///
-/// The store is closed then, and its records are there all the same. Fails with
+/// The store is closed then, and its records are still there. Fails with
 ///
-/// - `Store`: the store failed, which has stopped the node.
-/// - `Unsettled`: the threads or the operator were told something else than one thread alone would have been told.
+/// - `Store`: the store failed, and this has stopped the node.
+/// - `Unsettled`: the notes of the threads and the operator aren't those that a single thread would have made.
 /// - `Read`: the reader failed.
-/// - `Write`: the output failed, after the number of bytes of a line that the fault tells.
+/// - `Write`: the output failed, after the number of bytes of a line that the fault has.
 /// - `NoMemory`: memory ran out, or the system had too few threads.
 pub fn run_alone<N, E, I, W, R>(
     rt: &R,

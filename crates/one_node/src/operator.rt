@@ -1,4 +1,4 @@
-//! The operator of a node, who writes lines and is answered each of them.
+//! The operator of a node, who writes lines and reads the result of each.
 ghost use Rattle.std.specs.Prelude.{◌≡◌, ◌<◌, ◌+◌, ◌++◌, ◌∷◌, [], true, List, ℕ, IfOk, OnOk, length};
 ghost use Rattle.std.specs.Io.KnownBytes.{Appends};
 ghost use Rattle.units.specs.declared.code.Node.{Node as ANode};
@@ -32,36 +32,37 @@ use units::{NoMemory, Node};
 use wire::Input;
 use world::Core;
 
-/// How long the operator's thread sleeps where there is nothing to read, in milliseconds.
+/// How long the operator's thread sleeps if there is nothing to read, in milliseconds.
 const QUIET_PAUSE: u64 = 10;
 
-/// How many notes are kept at least before they are settled. The C library keeps for each thread the most memory that its
-/// notes have taken, so that a larger number makes a node larger for good.
+/// How many notes are kept at least before they are settled. The C library keeps for each thread the most memory that
+/// its notes have taken, so a larger number makes a node larger for good.
 const LEAST_NOTES: usize = 512;
 
-/// Settling goes through the journal once, so that more notes are kept where it is long: one for so many records.
+/// Settling goes through the journal once, so more notes are kept if the journal is long: one for this number of
+/// records.
 const RECORDS_A_NOTE: usize = 64;
 
-/// How many bytes an answer has at most.
+/// How many bytes the result of a line has at most.
 const LONGEST_ANSWER: usize = 64;
 
-/// What comes after a step of the operator's.
+/// What comes after a step of the operator.
 #[derive(Clone, Copy, Debug, PartialEq, Eq)]
 pub(crate) enum Next {
     /// Another step.
     On,
-    /// The records' export, which the line that is held asks for.
+    /// The export of the records, which the held line asks for.
     Export,
     /// The node's end: the operator asked for it, or the lines ended.
     End,
 }
 
-/// Where orders and questions go: a node at its station, under its scheme.
+/// The node that gets the orders and questions: at its station, under its scheme.
 #[derive(Drop)]
 pub(crate) struct Counter<'a, O: Opening, N: NodeTypes> {
     pub(crate) scheme: &'a Scheme,
     pub(crate) node: Node,
-    /// The node's station, and no other.
+    /// The node's one station.
     pub(crate) stations: &'a [Station<O, Core, N>],
     pub(crate) network: &'a Network<N>,
 }
@@ -78,7 +79,7 @@ fn is_possible(node: Node, line: &ScriptLine) -> bool
 }
 
 impl<'a, O: Opening, N: NodeTypes> Counter<'a, O, N> {
-    /// What the node tells of an order or a question, where it is possible.
+    /// The node's result for an order or a question, if the line is possible.
     fn answer<R: Wait + SystemClock>(
         &self,
         rt: &R,
@@ -100,7 +101,7 @@ impl<'a, O: Opening, N: NodeTypes> Counter<'a, O, N> {
         }
     }
 
-    /// Whether the desk has stopped, or so much was noted there that it is to be settled.
+    /// Whether the desk has stopped, or so many notes were made there that they are to be settled.
     fn is_to_settle<R: Wait>(&self, rt: &R, seat: &Seat) -> bool {
         let Some(station) = self.stations.first() else {
             return true;
@@ -115,7 +116,7 @@ impl<'a, O: Opening, N: NodeTypes> Counter<'a, O, N> {
         notes >= LEAST_NOTES.max(station.desk.committed_count(rt) / RECORDS_A_NOTE)
     }
 
-    /// Orders a clean-up at the clock's moment, where the node is the log.
+    /// Orders a clean-up at the clock's moment, if the node is the log.
     fn clean_up<R: Wait + SystemClock>(&self, rt: &R, seat: &mut Seat)
         requires member { is_node self.now.scheme.now self.now.node ≡ true }
         requires station { 0 < length self.now.stations.now }
@@ -145,7 +146,7 @@ impl<'a, O: Opening, N: NodeTypes> Counter<'a, O, N> {
     }
 }
 
-/// An operator: what was read of the next line, and how many lines were answered.
+/// An operator: the part of the next line that was read, and how many lines have had their result written.
 #[derive(Drop)]
 pub(crate) struct Operator {
     pub(crate) alloc: Global,
@@ -154,7 +155,7 @@ pub(crate) struct Operator {
 }
 
 impl Operator {
-    /// An operator of whom no line was read. Fails with `NoMemory` where memory ran out.
+    /// An operator with no line read. Fails with `NoMemory` if memory ran out.
     pub(crate) fn new(alloc: Global) -> Result<Operator, NoMemory>
         ensures line { IfOk result (λ o. o.line.held.items ≡ []) }
         ensures count { IfOk result (λ o. o.count ≡ 0) }
@@ -167,7 +168,7 @@ impl Operator {
         })
     }
 
-    /// The number of the line that is held. Fails with `NoMemory` after the last number that there is.
+    /// The number of the held line. Fails with `NoMemory` after the greatest number.
     pub(crate) fn number(&self) -> Result<u64, NoMemory>
         ensures { IfOk result (λ number. number ≡ self.now.count + 1) }
     {
@@ -177,7 +178,7 @@ impl Operator {
         }
     }
 
-    /// Writes the answer to the line that is held, which has that number, and begins the next one.
+    /// Writes the result of the held line, which has that number, and begins the next line.
     pub(crate) fn write_answer<W: Write>(
         &mut self,
         writer: &mut W,
@@ -194,7 +195,7 @@ impl Operator {
         Ok(())
     }
 
-    /// Answers the line that is held, which has that fault.
+    /// Writes the result of the held line, which has that fault, and begins the next line.
     pub(crate) fn refuse<W: Write>(
         &mut self,
         writer: &mut W,
@@ -211,8 +212,8 @@ impl Operator {
         self.write_answer(writer, text.as_str(), number)
     }
 
-    /// Asks the node what the line that is held asks for, and answers it. `Export` where it asks for an export, which isn't
-    /// answered yet, and `End` where it asks for the node's end.
+    /// Asks the node for what the held line says, and writes the result. Returns `Export` if the line asks for an
+    /// export, whose result isn't written yet, and `End` if it asks for the node's end.
     fn take_line<O: Opening, N: NodeTypes, W: Write, R: Wait + SystemClock>(
         &mut self,
         rt: &R,
@@ -233,7 +234,7 @@ impl Operator {
             return Ok(Next::Export);
         }
         let number = self.number()?;
-        // Before anything is asked, so that memory for the answer can't run out after it.
+        // Before anything is asked, so that memory for the result can't run out afterwards.
         let Ok(mut text) = String::with_capacity(self.alloc, LONGEST_ANSWER) else {
             return Err(OpFault::NoMemory);
         };
@@ -252,7 +253,8 @@ impl Operator {
         }
     }
 
-    /// Orders the clean-up that is due, or reads on, and answers the line where one is read to its end.
+    /// Orders the clean-up if one is due. Otherwise reads on, and if a line has been read to its end takes it and
+    /// writes its result.
     fn step<O: Opening, N: NodeTypes, I: Read, W: Write, R: Wait + SystemClock>(
         &mut self,
         rt: &R,
@@ -289,8 +291,9 @@ impl Operator {
         }
     }
 
-    /// Answers lines until the operator asks for an export, which is `Export`, or for the node's end, which is `End`; or
-    /// until the desk has stopped, or so much was noted at it that the notes are to be settled, which is `On`.
+    /// Reads lines and writes their results until the operator asks for an export, which returns `Export`, or for the
+    /// node's end, which returns `End`; or until the desk has stopped or has enough notes to settle, which returns
+    /// `On`.
     pub(crate) fn operate<O: Opening, N: NodeTypes, I: Read, W: Write, R: Wait + SystemClock>(
         &mut self,
         rt: &R,

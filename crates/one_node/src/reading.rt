@@ -1,4 +1,4 @@
-//! Lines that come when they are written.
+//! Lines that are read as they are written.
 ghost use Rattle.std.specs.Prelude.{◌≡◌, ◌≤◌, ◌+◌, ◌++◌, ◌∷◌, [], IfOk, vec_capacity, vec_len};
 ghost use Rattle.units.specs.Limits.{longest_line};
 ghost use Rattle.one_node.specs.Reading.{ReadsByte, Steps, held_of};
@@ -8,25 +8,25 @@ use std::io::{ErrorKind, Read};
 use units::NoMemory;
 use units::limits::LONGEST_LINE;
 
-/// How many bytes one step reads at most, so that a stream without newlines doesn't keep it.
+/// How many bytes one step reads at most, so that a stream without newlines doesn't hold it up.
 const MOST_BYTES: u32 = 65_536;
 
-/// What a step of reading came to.
+/// The result of a step of reading.
 #[derive(Clone, Copy, Debug, PartialEq, Eq)]
 pub(crate) enum Step {
-    /// A line was read to its newline. It is what is held.
+    /// A line was read to its newline. It is held.
     Line,
     /// A line was read to its newline, and is over the limit.
     TooLong,
     /// The line isn't whole yet.
     Quiet,
-    /// The stream ended. What is held has no newline.
+    /// The stream ended. The held bytes have no newline.
     Ended,
     /// The reader failed.
     Failed,
 }
 
-/// What reading a byte came to.
+/// The result of reading a byte.
 #[derive(Clone, Copy, Debug, PartialEq, Eq)]
 pub(crate) enum Byte {
     /// That byte.
@@ -39,18 +39,18 @@ pub(crate) enum Byte {
     Failed,
 }
 
-/// What was read of a line that comes when it is written. The reader fails with `WouldBlock`, `TimedOut` or `Interrupted`
-/// where there is nothing to read now.
+/// The part that was read of a line that is still being written. The reader fails with `WouldBlock`, `TimedOut` or
+/// `Interrupted` if there is nothing to read now.
 #[derive(Drop)]
 pub(crate) struct LineBuffer {
-    /// What was read of the line, or as much of it as shows that it is too long.
+    /// The part of the line that was read, or enough of it to show that the line is too long.
     held: Vec<u8>,
     ghost room: { longest_line + 1 ≤ vec_capacity held },
     ghost within: { vec_len held ≤ longest_line + 1 },
 }
 
 impl LineBuffer {
-    /// Nothing of a line was read. Fails with `NoMemory` where memory ran out.
+    /// Nothing of a line was read. Fails with `NoMemory` if memory ran out.
     pub(crate) fn new(alloc: Global) -> Result<LineBuffer, NoMemory>
         ensures { IfOk result (λ r. r.held.items ≡ []) }
     {
@@ -58,7 +58,7 @@ impl LineBuffer {
         Ok(LineBuffer { held })
     }
 
-    /// What was read of the line.
+    /// The part of the line that was read.
     pub(crate) fn held(&self) -> &[u8]
         ensures { result.now ≡ self.now.held.items }
     {
@@ -72,7 +72,7 @@ impl LineBuffer {
         self.held.clear();
     }
 
-    /// Holds a further byte, while there are no more than shows that the line is too long.
+    /// Holds a further byte, unless the held bytes already show that the line is too long.
     fn hold(&mut self, byte: u8)
         ensures { self.new.held.items ≡ held_of (self.old.held.items ++ byte ∷ []) }
     {

@@ -1,5 +1,5 @@
-//! A shift of a node: its threads run at a desk, and its operator is answered, until the node is to end or to settle what
-//! was told.
+//! A shift of a node: its threads run at a desk, and the results of its operator's lines are written, until the node is
+//! to end or the notes are to be settled.
 ghost use Rattle.std.specs.Prelude.{◌≡◌, ◌<◌, [], true, ℕ, List, All, IfOk, Ok, length};
 ghost use Rattle.std.specs.Thread.{IsSync};
 ghost use Rattle.desk.specs.Keeping.{IsAtDesk, IsKept};
@@ -25,7 +25,7 @@ use std::time::Duration;
 use units::NoMemory;
 use world::Core;
 
-/// What a shift leaves: what each thread of the node was told, and the operator, and what follows.
+/// The remains of a shift: the notes of each thread of the node and of the operator, and what comes next.
 #[derive(Drop)]
 pub(crate) struct Shift {
     pub(crate) threads: Vec<Seat>,
@@ -34,7 +34,7 @@ pub(crate) struct Shift {
 }
 
 impl<O: Opening, N: NodeTypes> Counter<'_, O, N> {
-    /// Stops the node's desk, at which its threads end.
+    /// Stops the node's desk, so that its threads end.
     fn stop<R: Wait>(&self, rt: &R) {
         for station in self.stations {
             station.desk.stop(rt);
@@ -43,8 +43,8 @@ impl<O: Opening, N: NodeTypes> Counter<'_, O, N> {
 }
 
 impl Operator {
-    /// Answers lines as `operate` does, once that many threads have reported at that muster, and then stops the desk. Fails
-    /// with `NoMemory` where a thread is missing: then no line was read.
+    /// Reads lines as `operate` does, once that many threads have reported at that muster, and then stops the desk.
+    /// Fails with `NoMemory` if a thread is missing: then no line was read.
     fn operate_and_stop<O: Opening, N: NodeTypes, I: Read, W: Write, R: Wait + SystemClock>(
         &mut self,
         rt: &R,
@@ -72,7 +72,7 @@ impl Operator {
         next
     }
 
-    /// Runs the node's threads while this operator's lines are answered, until all of them have ended.
+    /// Runs the node's threads and this operator's lines, until all threads have ended.
     pub(crate) fn run_shift<O, N, I, W, R>(
         &mut self,
         rt: &R,

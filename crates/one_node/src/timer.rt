@@ -1,4 +1,4 @@
-//! When a log's clock orders a clean-up.
+//! The timer by which a log's clock orders clean-ups.
 
 use std::rt::Clock as SystemClock;
 use std::time::{Duration, Instant};
@@ -7,7 +7,7 @@ use std::time::{Duration, Instant};
 #[derive(Clone, Copy, Debug)]
 pub(crate) struct Timer {
     every: Option<Duration>,
-    /// When the last one was ordered, or the timer began. `None` where that time couldn't be known.
+    /// When the last one was ordered, or the timer began. `None` if that time couldn't be read.
     last: Option<Instant>,
 }
 
@@ -20,7 +20,7 @@ impl Timer {
         }
     }
 
-    /// Whether a clean-up is due. If so, the next one is due after as long again.
+    /// Whether a clean-up is due. If so, the next one is due after the same time again.
     pub(crate) fn is_due<R: SystemClock>(&mut self, rt: &R) -> bool {
         let Some(every) = self.every else {
             return false;

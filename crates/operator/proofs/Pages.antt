@@ -1,4 +1,4 @@
--- Pages of a store, one after another: what was read of them, and the fault that ended it.
+-- Pages of a store, one after another: the records that were read, and the fault that ended the reading.
 use Rattle.std.proofs.Common.{◌≡◌, ◌≤◌, ◌<◌, ◌+◌, ◌-◌, ℕ, zero, suc, Bool, false, true≢false, List, [], ◌∷◌, ◌++◌, Some, None, Result, Ok, Err, IfErr, Vec, Global, IsTrue, min, length, take, drop, refl, sym, ap, subst, ◌∙◌, arith, length-append}
 use Rattle.std.specs.Result.{IsErrAnd}
 use Rattle.std.proofs.Math.Seq.{take-add}
@@ -102,7 +102,7 @@ module _ {S : Type 0} (g : Ghosts S) where
             (next.0 ∙ first.0, ap (λ l. l ++ page) first.1 ∙ next.1);
       }
 
-  -- the reading itself went well, and a fault that is no device's came then
+  -- the reading itself succeeded, and then a fault came that is not the device's
   pub stops-here : (old new : S) (from : ℕ) (inputs : List Input) (fault : StoreFault) → Read old new from inputs → (IsTrue (g.must_reopen old) → ⊥) → IsReadFault fault → count_after (g.faults old) fault ≡ g.faults old → Ends old new fault
   stops-here old new from inputs fault p running read uncounted = record {
     honest = p.honest;
@@ -172,7 +172,7 @@ module _ {S : Type 0} (g : Ghosts S) where
         all-places old mid new inputs page from n many p loads counted few short,
       )
 
-  -- a page of which a record is damaged
+  -- a page with a damaged record
   pub damaged-later : (old mid new : S) (inputs : List Input) (from : ℕ) (fault : StoreFault) → length inputs ≡ from → Read old mid 0 inputs
       → LoadsPage mid new from (Err fault) → g.is_honest new → (p : ℕ) → fault ≡ Damaged p → IsDamagedAt p (g.content old)
   damaged-later old mid new inputs from fault many q loads h p e =
@@ -183,7 +183,7 @@ module _ {S : Type 0} (g : Ghosts S) where
       let front : AreRecords (take from places) inputs = subst (λ k. AreRecords (take k places) inputs) many (q.are (loads.honest h)) in
       damaged-page from 256 p places inputs front told.0 here
 
-  -- all records were read, and as many again
+  -- all records were read, and then the same number again
   pub read-twice : (old mid new : S) (all inputs : List Input) → Read old mid 0 all → (g.is_honest mid → AreRecords (g.content old) all) → Read mid new 0 inputs → length inputs ≡ length all
       → g.is_honest new → AreRecords (g.content old) inputs
   read-twice old mid new all inputs p are q many h =

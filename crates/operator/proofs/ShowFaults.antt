@@ -1,4 +1,4 @@
--- What `show` tells of a fault, by where it came.
+-- The fault that `show` returns, by where it came from.
 use Rattle.std.proofs.Common.{◌≡◌, ℕ, List, [], Option, IsTrue, true≢false, length, take, codes, refl, sym, subst, inr, arith}
 use Rattle.std.specs.Io.KnownBytes.{Appends, Keeps}
 use Rattle.std.proofs.KnownBytes.{Appends-kept, Appends-nil}
@@ -15,7 +15,7 @@ use Rattle.operator.specs.Show.{record_lines, FailsToShow}
 use Rattle.report.specs.ReportLines.{end_line}
 use Rattle.operator.proofs.ShownPages.{cut-off, end-cut, end-some}
 
--- a page was not written, or in part
+-- a page was not written, or only in part
 pub fails-writing : (form : Form) (e : OpFault) (node : Node) (records written : ℕ) (honest : Type 0) (places : Places) (text : List ℕ) (v x w : Option (List ℕ)) → FailsWithin e written text x w
     → ((count : ℕ) → IsWithin count written text x w → IsBegun form count honest places v w) → (Keeps x w → IsBegun form written honest places v w) → FailsToWrite form e node records honest places v w
 fails-writing form (op_fault.Write count) node records written honest places text v x w f more here = more count f
@@ -27,7 +27,7 @@ fails-writing form (op_fault.Stuck at place) node records written honest places 
 fails-writing form (op_fault.Unsettled at) node records written honest places text v x w f more here = f
 fails-writing form (op_fault.Setup told) node records written honest places text v x w f more here = f
 
--- a fault of the second reading, where the first one found the records at all places
+-- a fault of the second reading, where the first one found a record at each place
 again : (form : Form) (count : ℕ) (honest : Type 0) (mid places : Places) (v w : Option (List ℕ)) → (honest → mid ≡ places) → IsBegun form count honest mid v w → IsBegun form count honest places v w
 again form count honest mid places v w same b =
     record { inputs = b.inputs; are = λ h. subst (λ ps. AreRecords (take (length b.inputs) ps) b.inputs) (same h) (b.are h); within = b.within; written = b.written }
@@ -47,7 +47,7 @@ fails-second form (op_fault.Stuck at place) node records honest mid places v w a
 fails-second form (op_fault.Unsettled at) node records honest mid places v w all f same are many = f
 fails-second form (op_fault.Setup told) node records honest mid places v w all f same are many = f
 
--- the last line was not written, or in part
+-- the last line was not written, or only in part
 pub fails-last : (form : Form) (e : OpFault) (node : Node) (written : ℕ) (honest : Type 0) (places : Places) (v x w : Option (List ℕ)) (all : List Input) → FailsWithin e written (end_line form) x w
     → (honest → AreRecords places all) → written ≡ length (record_lines form 0 all) → Appends v x (record_lines form 0 all) → FailsToShow form e node honest places v w
 fails-last form (op_fault.Write count) node written honest places v x w all f are size lines = end-cut form count written honest places v x w all are size lines f

@@ -1,4 +1,4 @@
--- What the words of a subcommand name, by its matches.
+-- The values of a subcommand's words, by its matches.
 use Rattle.std.proofs.Common.{◌≡◌, ℕ, List, Option, Some, None, IfSome, sym, ap, ◌∙◌, option_map, option_and_then}
 use Rattle.clap.specs.Words.{Row, rows_of, all_of, first_of, first_value, found_of, subcommand_name_of, subcommand_rows_of}
 use Rattle.clap.specs.declared.parser.matches.ArgMatches.{ArgMatches}

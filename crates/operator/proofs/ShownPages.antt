@@ -1,4 +1,4 @@
--- What was written when the lines of pages were, page by page.
+-- The text that was written when the lines of pages were written, page by page.
 use Rattle.std.proofs.Common.{◌≡◌, ◌≤◌, ◌<◌, ◌+◌, ℕ, List, [], ◌∷◌, ◌++◌, Option, length, take, drop, codes, refl, sym, ap, subst, ◌∙◌, arith, length-append, append_assoc}
 use Rattle.std.specs.Io.KnownBytes.{Appends, Keeps}
 use Rattle.std.proofs.KnownBytes.{Appends-trans, Appends-kept}
@@ -40,14 +40,14 @@ pub end-some : (form : Form) → 0 < length (end_line form)
 end-some Lines = omega arith
 end-some Json = omega arith
 
--- the lines come before more of what is shown
+-- the lines are the first part of the text that is shown
 shown-after : (form : Form) (some more : List Input) → (rest : List ℕ) × (shown form (some ++ more) ≡ record_lines form 0 some ++ rest) × (0 < length rest)
 shown-after form some more =
     let others = record_lines form (0 + length some) more in
     let last = end-some form in
     (others ++ end_line form, ap (λ (l : List ℕ). l ++ end_line form) (lines-append form 0 some more) ∙ append_assoc (record_lines form 0 some) others (end_line form), omega (arith, length-append others (end_line form), last))
 
--- what was begun is cut off, where all places have records
+-- the text that was begun is cut off, where all places have records
 pub cut-off : (form : Form) (count : ℕ) (honest : Type 0) (places : Places) (v w : Option (List ℕ)) (all : List Input) → IsBegun form count honest places v w → (honest → AreRecords places all) → IsCutOff form count honest places v w
 cut-off form count honest places v w all b are =
     let more = drop (length b.inputs) all in

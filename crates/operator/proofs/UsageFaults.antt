@@ -1,4 +1,4 @@
--- Which fault words have, by the error that clap gives of them.
+-- The fault of the words, by the error that clap returns for them.
 use Rattle.std.proofs.Common.{◌≡◌, ◌∙◌, ℕ, List, [], true, refl, sym, ap, subst, inl, inr}
 use Rattle.clap.specs.Words.{App, HasKind, IsAmong, fault_of, is_simple_and_free, kind_of}
 use Rattle.clap.specs.declared.error.Error.{Error}
@@ -12,7 +12,7 @@ is_free : is_simple_and_free kyoto_link ≡ true
 unfolding clap_on_literals
 is_free = refl
 
--- what clap says of its own command is said of the program
+-- a clause about clap's own command holds for the program
 pub has_kind : (a : App) (words : List (List ℕ)) (error : Error) → a ≡ kyoto_link
     → (is_simple_and_free a ≡ true → HasKind (fault_of a words) error) → HasKind (faults_in words) error
 has_kind a words error same told = subst (λ b. HasKind (fault_of b words) error) same (told (ap is_simple_and_free same ∙ is_free))

@@ -1,4 +1,4 @@
--- The words that show a store, and words that ask for help or are wrong, computed from the definitions alone.
+-- Words that show a store, and words that ask for help or are wrong, computed from the definitions alone.
 use Rattle.std.proofs.Common.{◌≡◌, ℕ, List, [], ◌∷◌, Option, Some, None, true, refl, ◌++◌, codes, option_and_then}
 use Rattle.clap.specs.declared.error.kind.ErrorKind.TheVariants.{ArgumentConflict, DisplayHelp, DisplayVersion, InvalidSubcommand, InvalidValue, MissingRequiredArgument, MissingSubcommand, UnknownArgument}
 use Rattle.clap.specs.Words.{all_of, first_of, is_simple, subcommand_of, takes}
@@ -146,7 +146,7 @@ node_front = codes "kyoto-link" ∷ codes "node" ∷ codes "s.json" ∷ codes "d
 abbrev listens : List (List ℕ)
 listens = codes "--listen" ∷ codes "127.0.0.1:70" ∷ []
 
--- two peers, of which the second one comes first by name, and one of them after `=`
+-- two peers, the second of which comes first by name; one of them is written after `=`
 abbrev has_peers : List (List ℕ)
 has_peers = codes "--peer" ∷ codes "NZ=[::1]:71" ∷ codes "--peer=JP=[::1]:72" ∷ []
 

@@ -1,5 +1,5 @@
--- Going over a store by pages: what reading them leaves, and what writing their lines does. No public contract cites
--- it.
+-- Going over a store by pages: the state of the store after reading them, and the text after writing their lines. No
+-- public contract cites it.
 use Rattle.std.specs.Prelude.{◌≡◌, ◌≢◌, ◌≤◌, ◌<◌, ◌+◌, ℕ, false, List, [], length, take, drop, Option, IsTrue}
 use Rattle.std.specs.Io.KnownBytes.{Appends, Keeps}
 use Rattle.units.specs.declared.code.Node.{Node}
@@ -14,8 +14,7 @@ use Rattle.command_faults.specs.declared.fault.OpFault.TheVariants as op_fault
 use Rattle.report.specs.declared.form.Form.{Form}
 use Rattle.operator.specs.Show.{record_lines}
 
--- ---- the store: it is honest; what each place has; a fault waits for a reopening;
--- how many calls of its device have failed
+-- ---- the store
 
 module _ {S : Type 0} (g : Ghosts S) where
   -- these are the records from that place on
@@ -35,7 +34,7 @@ module _ {S : Type 0} (g : Ghosts S) where
     pub named : g.must_reopen old ≡ false → IsReadFault fault
     pub reopen : IsTrue (g.must_reopen old) → (fault ≡ Reopen) × (new ≡ old)
 
-  -- that many records were read from the front, and their lines written, of that many bytes
+  -- that number of records was read from the front, and their lines, of that number of bytes, were written
   pub record Shows (form : Form) (old new : S) (before after : Option (List ℕ)) (records bytes : ℕ) : Type 0 where
     pub inputs : List Input
     pub many : length inputs ≡ records
@@ -45,34 +44,34 @@ module _ {S : Type 0} (g : Ghosts S) where
 
 -- ---- the writer
 
--- that many bytes were written: the first ones of the lines of the first records
+-- that number of bytes was written: the first ones of the lines of the first records
 pub record IsBegun (form : Form) (count : ℕ) (honest : Type 0) (places : Places) (before after : Option (List ℕ)) : Type 0 where
   pub inputs : List Input
   pub are : honest → AreRecords (take (length inputs) places) inputs
   pub within : count ≤ length (record_lines form 0 inputs)
   pub written : Appends before after (take count (record_lines form 0 inputs))
 
--- the fault is that of the node's store, and not that memory ran out; where all places had records, the device failed
+-- the fault is that of the node's store, other than lack of memory; where all places had records, the device failed
 pub record FailsAgain (node told : Node) (fault : StoreFault) (records : ℕ) (honest : Type 0) (places : Places) : Type 0 where
   pub whose : told ≡ node
   pub named : fault ≢ OutOfMemory
   pub device : honest → (all : List Input) → AreRecords places all → records ≤ length all → IsTrue (is_device_fault fault)
 
--- the lines of that many records were to be written, and a fault came before the last byte
+-- the lines of that number of records were to be written, and a fault came before the last byte
 abbrev pub FailsToWrite : Form → OpFault → Node → ℕ → (honest : Type 0) → Places → (before after : Option (List ℕ)) → Type 0
 FailsToWrite form (op_fault.Store told fault) node records honest places v w = FailsAgain node told fault records honest places × ((count : ℕ) × IsBegun form count honest places v w)
 FailsToWrite form op_fault.NoMemory node records honest places v w = (count : ℕ) × IsBegun form count honest places v w
 FailsToWrite form (op_fault.Write count) node records honest places v w = IsBegun form count honest places v w
 FailsToWrite form _ node records honest places v w = ⊥
 
--- of a text that comes after `written` bytes, the bytes up to that count were written, and not all
+-- of a text that comes after `written` bytes, the bytes up to that count were written, but not all
 pub record IsWithin (count written : ℕ) (text : List ℕ) (before after : Option (List ℕ)) : Type 0 where
   pub more : ℕ
   pub sum : count ≡ written + more
   pub fewer : more < length text
   pub appended : Appends before after (take more text)
 
--- nothing of the text, which comes after `written` bytes, was written, or not all
+-- of a text that comes after `written` bytes, nothing or only a part was written
 abbrev pub FailsWithin : OpFault → (written : ℕ) → (text : List ℕ) → (before after : Option (List ℕ)) → Type 0
 FailsWithin (op_fault.Write count) written text v w = IsWithin count written text v w
 FailsWithin op_fault.NoMemory written text v w = Keeps v w

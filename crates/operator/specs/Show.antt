@@ -1,4 +1,4 @@
--- What `show` writes of a store, and why it doesn't.
+-- The text that `show` writes of a store, and why it fails.
 use Rattle.std.specs.Prelude.{◌≡◌, ◌≢◌, ◌<◌, ◌+◌, ◌++◌, ℕ, List, [], ◌∷◌, length, take, codes, decimal, Option, ◌⊎◌, IsTrue}
 use Rattle.std.specs.Io.KnownBytes.{Appends, Keeps}
 use Rattle.units.specs.declared.code.Node.{Node}
@@ -28,25 +28,26 @@ record_lines form place (input ∷ inputs) = record_line form place input ++ rec
 abbrev pub shown : Form → List Input → List ℕ
 shown form inputs = record_lines form 0 inputs ++ end_line form
 
--- the fault is that of the node's store, and not that memory ran out. Where the store is honest, a place that is
--- told as damaged is
+-- the fault is that of the node's store, other than lack of memory. Where the store is honest and the fault is
+-- `Damaged`, the place that it names is damaged
 pub record IsToldFault (node told : Node) (fault : StoreFault) (honest : Type 0) (places : Places) : Type 0 where
   pub whose : told ≡ node
   pub named : fault ≢ OutOfMemory
   pub damaged : honest → (p : ℕ) → fault ≡ Damaged p → IsDamagedAt p places
 
--- the first bytes of what is shown were written, and not all. Where the store is honest, its records are shown
+-- the first bytes of the text were written, but not all. Where the store is honest, the text shows its records
 pub record IsCutOff (form : Form) (count : ℕ) (honest : Type 0) (places : Places) (old new : Option (List ℕ)) : Type 0 where
   pub inputs : List Input
   pub are : honest → AreRecords places inputs
   pub fewer : count < length (shown form inputs)
   pub written : Appends old new (take count (shown form inputs))
 
--- some of the first bytes of what is shown were written, and not all
+-- some of the first bytes of the text were written, but not all
 abbrev pub IsPartlyShown : Form → (honest : Type 0) → Places → (old new : Option (List ℕ)) → Type 0
 IsPartlyShown form honest places v w = (count : ℕ) × IsCutOff form count honest places v w
 
--- a fault of the store comes before anything is written; where the store is honest, only its device's comes later too
+-- a fault of the store comes before anything is written; where the store is honest, only a fault of its device may come
+-- later too
 abbrev pub FailsToShow : Form → OpFault → Node → (honest : Type 0) → Places → (old new : Option (List ℕ)) → Type 0
 FailsToShow form (op_fault.Store told fault) node honest places v w =
     IsToldFault node told fault honest places × (Keeps v w ⊎ ((honest → IsTrue (is_device_fault fault)) × IsPartlyShown form honest places v w))

@@ -1,4 +1,4 @@
--- What the words of a command line name, by the matches that clap gives of them.
+-- The values that the words of a command line give, by the matches that clap returns for them.
 use Rattle.std.specs.Prelude.{◌≡◌, ◌≢◌, ◌⊎◌, ℕ, Bool, List, [], ◌∷◌, Option, Some, true, false, codes, map, option_and_then, option_map, string_bytes}
 use Rattle.clap.specs.Words.{App, IsAmong, Kinds, Rule, Shape, fault_of, kind_of, new_app, new_rule, with_subcommand, shape_of, subcommand_name_of, subcommand_rows_of, all_of, first_of, app_of, first_value, matched_of, raw_values}
 use Rattle.clap.specs.declared.builder.action.ArgAction.{ArgAction}
@@ -69,7 +69,7 @@ with_auditors = with_subcommand (with_subcommand (with_subcommand (with_subcomma
 abbrev pub kyoto_link : App
 kyoto_link = with_subcommand (with_subcommand (with_subcommand with_auditors explain_shape) run_shape) node_shape
 
--- the kinds of fault of which clap finds one in the words; none where it takes them
+-- the kinds of fault, one of which clap finds in the words; there is none where it accepts them
 abbrev pub faults_in : List (List ℕ) → Kinds
 faults_in words = fault_of kyoto_link words
 
@@ -77,7 +77,7 @@ faults_in words = fault_of kyoto_link words
 abbrev pub IsAskedFor : ErrorKind → Type 0
 IsAskedFor kind = (kind ≡ DisplayHelp) ⊎ (kind ≡ DisplayVersion)
 
--- help and the version come only of words that may ask for them, and wrong words have another fault
+-- help and the version come only from words that may ask for them, and wrong words have another fault
 abbrev pub IsUsageFault : List (List ℕ) → UsageFault → Type 0
 IsUsageFault words NoMemory = Unit {0}
 IsUsageFault words (Help e) = IsAskedFor (kind_of e) × IsAmong (kind_of e) (faults_in words)
@@ -135,7 +135,7 @@ NamesAction m a = (subcommand_name_of m ≡ Some (command_name a)) × HasValues 
 
 -- ---- what the code follows; no public contract cites what stands below
 
--- the fault is what the error of clap is to the program
+-- the fault is the program's for the error of clap
 abbrev pub IsFaultOf : Error → UsageFault → Type 0
 IsFaultOf error NoMemory = kind_of error ≡ OutOfMemory
 IsFaultOf error (Help e) = (e ≡ error) × IsAskedFor (kind_of error)
@@ -147,7 +147,7 @@ IsCommand a c = (app_of c ≡ a) × ((out-Command c).has_globals ≡ false)
 abbrev pub IsSubcommand : Shape → Command → Type 0
 IsSubcommand s c = (shape_of c ≡ s) × ((out-Command c).has_globals ≡ false)
 
--- all values that were found of an argument
+-- all values that were found for an argument
 abbrev pub all_values : Found → List ℕ → Option (List (List ℕ))
 all_values found name = option_map raw_values (matched_of found name)
 

@@ -7,16 +7,16 @@ use clap::ArgMatches;
 use report::Form;
 use std::alloc::{AllocError, Global};
 
-/// How many of the stores' records an audit's table is to explain.
+/// How many of the stores' records the table of an audit explains.
 #[derive(Clone, Copy, Debug, PartialEq, Eq)]
 pub enum Extent {
     /// All of them.
     Whole,
-    /// As many first ones as a run explains.
+    /// The first records, as far as a run explains them.
     Furthest,
 }
 
-/// What the words ask for.
+/// The action that the words ask for.
 #[derive(Debug, Drop)]
 pub enum Action {
     /// Run the events that standard input lists, and report.
@@ -31,16 +31,16 @@ pub enum Action {
         node: String,
         form: Form,
     },
-    /// Write the table of a run that leads to the records of the stores in the folder `folder`, to all of them or to as
-    /// many as a run explains. The file `scheme` has the scheme.
+    /// Write the table of a run that leads to the records of the stores in the folder `folder`: to all of them, or to
+    /// the first ones, as far as a run explains them. The file `scheme` has the scheme.
     Audit {
         scheme: String,
         folder: String,
         extent: Extent,
         form: Form,
     },
-    /// Write the scheme and the events of a run that leads to the records of the stores in the folder `folder`. The file
-    /// `scheme` has the scheme.
+    /// Write the scheme and the events of a run that leads to the records of the stores in the folder `folder`. The
+    /// file `scheme` has the scheme.
     Events {
         scheme: String,
         folder: String,
@@ -59,13 +59,13 @@ pub enum Action {
         topic: String,
     },
     /// Run the nodes of the scheme in threads, with their stores in the folder `folder`, while the lines of the file
-    /// `script` are ordered and asked, and report. The file `scheme` has the scheme.
+    /// `script` give orders and ask questions, and report. The file `scheme` has the scheme.
     Run {
         scheme: String,
         folder: String,
         script: String,
     },
-    /// Run one node of the scheme by itself, while standard input orders and asks.
+    /// Run one node of the scheme by itself, while standard input gives orders and asks questions.
     Node(NodeWords),
 }
 
@@ -84,11 +84,11 @@ pub struct NodeWords {
     pub peers: Vec<String>,
     /// The file with the keys of the links, or `None`, where the links have none.
     pub keys: Option<String>,
-    /// How many seconds lie between two clean-ups, or `None`, where the node does none of its own accord.
+    /// The number of seconds between two clean-ups, or `None`, where the node does none of its own accord.
     pub clean_up: Option<String>,
 }
 
-/// The value of an argument, or `None`, where there is none or memory was refused.
+/// The value of an argument, or `None`, where it has none or there is no memory.
 fn value_of(alloc: Global, matches: &ArgMatches, name: &str) -> Option<String>
     ensures { IfSome result (λ s. first_value (found_of matches.now) name.now ≡ Some (string_bytes s)) }
 {
@@ -96,7 +96,7 @@ fn value_of(alloc: Global, matches: &ArgMatches, name: &str) -> Option<String>
     String::from_str(alloc, value).ok()
 }
 
-/// The value of an argument that may be left out, or `None`, where it was.
+/// The value of an argument that may be left out, or `None`, where it was left out.
 fn optional_value(
     alloc: Global,
     matches: &ArgMatches,
@@ -121,7 +121,7 @@ fn copies_of(alloc: Global, texts: &[&str]) -> Result<Vec<String>, AllocError>
     Ok(copies)
 }
 
-/// In which form is to be written, by the flag `json`.
+/// The form in which to write, by the flag `json`.
 fn form_of(matches: &ArgMatches) -> Option<Form>
     ensures { IfSome result (λ f. first_value (found_of matches.now) (codes "json") ≡ Some (form_word f)) }
 {
@@ -150,7 +150,7 @@ fn show_action(alloc: Global, matches: &ArgMatches) -> Option<Action>
     })
 }
 
-/// How much is to be explained, by the flag `cut`.
+/// Which records to explain, by the flag `cut`.
 fn extent_of(matches: &ArgMatches) -> Option<Extent>
     ensures { IfSome result (λ e. first_value (found_of matches.now) (codes "cut") ≡ Some (extent_word e)) }
 {
@@ -248,7 +248,7 @@ fn node_action(alloc: Global, matches: &ArgMatches) -> Option<Action>
     }))
 }
 
-/// The action that the matches name. `None` only where memory was refused, if `clap` gave them.
+/// The action that the matches name. Returns `None` only for lack of memory, if `clap` returned the matches.
 pub(crate) fn action_of(alloc: Global, matches: &ArgMatches) -> Option<Action>
     ensures { IfSome result (NamesAction matches.now) }
 {

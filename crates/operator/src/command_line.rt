@@ -18,10 +18,10 @@ use clap::{Arg, ArgAction, Command, Error};
 use std::alloc::{AllocError, Global};
 use std::convert::AsStr;
 
-/// What `--version` writes after the program's name.
+/// The version that `--version` writes after the program's name.
 const VERSION: &str = "0.1.0";
 
-/// Why the words name no action. The texts are `clap`'s.
+/// Why the words name no action. The texts are those of `clap`.
 #[derive(Drop)]
 pub enum UsageFault {
     /// The words are wrong.
@@ -100,13 +100,13 @@ const TOPIC: Argument = Argument {
 
 const CUT: Argument = Argument {
     name: "cut",
-    help: "Write the table of the run that leads furthest, and which records are left",
+    help: "Write the table of the run with the most records, and which records are left",
     kind: ArgumentKind::Flag,
 };
 
 const JSON: Argument = Argument {
     name: "json",
-    help: "Write a JSON object a line",
+    help: "Write a JSON object per line",
     kind: ArgumentKind::Flag,
 };
 
@@ -126,13 +126,13 @@ const PEER: Argument = Argument {
 
 const KEYS: Argument = Argument {
     name: "keys",
-    help: "The file with the key of the link to each peer; without it, links have none",
+    help: "The file with the key of the link to each peer; without it, messages have no tags",
     kind: ArgumentKind::Optional { value: "FILE" },
 };
 
 const CLEAN_UP: Argument = Argument {
     name: "clean-up",
-    help: "How many seconds lie between two clean-ups; without it, only lines order one",
+    help: "The seconds between two clean-ups; without it, only the operator orders them",
     kind: ArgumentKind::Optional { value: "SECONDS" },
 };
 
@@ -140,7 +140,7 @@ const CLEAN_UP: Argument = Argument {
 const SUBCOMMANDS: &[Subcommand] = &[
     Subcommand {
         name: "rehearse",
-        about: "Run a scheme and its events, read from standard input, and write what each event came to and the table that they lead to",
+        about: "Run a scheme and its events, read from standard input, and write the outcome of each event and the table after the last one",
         notes: REHEARSE_NOTES,
         arguments: &[],
     },
@@ -158,7 +158,7 @@ const SUBCOMMANDS: &[Subcommand] = &[
     },
     Subcommand {
         name: "audit",
-        about: "Find a run that leads to the records of all stores, and write the table that it leads to",
+        about: "Find a run that leads to the records of all stores, and write its table",
         notes: AUDIT_NOTES,
         arguments: &[SCHEME, DIR, CUT, JSON],
     },
@@ -176,19 +176,19 @@ const SUBCOMMANDS: &[Subcommand] = &[
     },
     Subcommand {
         name: "explain",
-        about: "Write what the documents say about a code, a status, an outcome or a fault",
+        about: "Write the meaning of a code, a status, an outcome or a fault",
         notes: EXPLAIN_NOTES,
         arguments: &[TOPIC],
     },
     Subcommand {
         name: "run",
-        about: "Run all nodes with threads, sockets and stores, do what a script says, and write what each line came to and the table that the records lead to",
+        about: "Run all nodes with threads, sockets and stores, carry out the lines of a script, and write the outcome of each line and the table after the last one",
         notes: RUN_NOTES,
         arguments: &[SCHEME, DIR, SCRIPT],
     },
     Subcommand {
         name: "node",
-        about: "Run one node of a scheme on its own, and answer the lines of its operator, read from standard input",
+        about: "Run one node of a scheme on its own, carry out the lines of its operator, read from standard input, and write the outcome of each",
         notes: NODE_NOTES,
         arguments: &[SCHEME, DIR, NODE, LISTEN, PEER, KEYS, CLEAN_UP],
     },
@@ -211,7 +211,7 @@ fn flag<'a>(alloc: Global, name: &'a str, help: &'a str) -> Arg<'a>
         .help(help)
 }
 
-/// An option with a value, of which `value` is the name in the help.
+/// An option with a value. `value` is the value's name in the help.
 fn option<'a>(
     alloc: Global,
     name: &'a str,
@@ -300,7 +300,7 @@ fn command<'a>(alloc: Global) -> Result<Command<'a>, AllocError>
     Ok(program)
 }
 
-/// What an error of `clap` is to the program.
+/// The program's fault for an error of `clap`.
 fn fault_of(error: Error) -> UsageFault
     ensures memory { kind_of error ≡ OutOfMemory → result ≡ UsageFault.NoMemory }
     ensures kind { IsFaultOf error result }
@@ -312,10 +312,10 @@ fn fault_of(error: Error) -> UsageFault
     }
 }
 
-/// The action that the words name, the first word being the program's own name.
+/// The action that the words name. The first word is the program's own name.
 ///
-/// `Help`: the words ask for help or for the version. `Usage`: the words are wrong. `NoMemory`: out of memory; where
-/// `clap` takes the words, this is the only fault.
+/// Fails with `Help` where the words ask for help or for the version, with `Usage` where they are wrong, and with
+/// `NoMemory`. Where `clap` accepts the words, `NoMemory` is the only fault.
 pub fn parse_words<S: AsStr>(alloc: Global, words: &[S]) -> Result<Action, UsageFault>
     ensures ok { IfOk result (λ a. (m : ArgMatches) × HasMatchesOf kyoto_link (map S.text words.now) m
         × NamesAction m a) }

@@ -1,4 +1,4 @@
-//! The command `show`: the records of one node's store, read by pages, so that one page at a time is in memory.
+//! The command `show`: the records of one node's store, read by pages. One page at a time is in memory.
 ghost use Rattle.std.specs.Prelude.{◌≡◌, ◌≢◌, ◌≤◌, ◌<◌, ◌+◌, ◌-◌, ◌^◌, ◌++◌, ℕ, List, length, min, Err, IfOk, IfErr, IsTrue, OnOk, false, decimal};
 ghost use Rattle.std.specs.Io.KnownBytes.{Appends};
 ghost use Rattle.wire.specs.declared.input.Input.{Input};
@@ -72,7 +72,7 @@ fn lines_of(alloc: Global, form: Form, first: u64, inputs: &[Input]) -> Result<V
     Ok(text)
 }
 
-/// Reads all records by pages, keeps none, and returns how many there are.
+/// Reads all records by pages, keeps none, and returns their number.
 ///
 /// Fails as `NodeStore::load` does, and with `NoMemory` where there are `PLACE_LIMIT` records, which no
 /// honest store has.
@@ -99,11 +99,11 @@ fn count_records<S: NodeStore>(store: &mut S) -> Result<u64, StoreFault>
     Err(StoreFault::NoMemory)
 }
 
-/// The lines of the page that begins at `place`, of a store that had `count` records when they were counted.
-/// Records after those are left out.
+/// The lines of the page that begins at `place`, of a store that had `count` records when they were counted. Later
+/// records are left out.
 ///
-/// Fails as `NodeStore::load_page` does, and with `Damaged` at the first place that has no record any more,
-/// which comes only of a store that isn't honest.
+/// Fails as `NodeStore::load_page` does, and with `Damaged` at the first place that no longer has a record; only a
+/// store that isn't honest gives this fault.
 fn page_text<S: NodeStore>(
     alloc: Global,
     store: &mut S,
@@ -130,10 +130,10 @@ fn page_text<S: NodeStore>(
     Ok(text)
 }
 
-/// Writes the text, which comes after `written` bytes, and returns how many bytes that is in all.
+/// Writes the text, which comes after `written` bytes, and returns the number of bytes written in all.
 ///
-/// `Write`: the writer failed, after the number of bytes that the fault tells, the earlier ones included.
-/// `NoMemory`: the number of all bytes has more than 64 bits; nothing of the text is written.
+/// Fails with `Write` where the writer failed: the fault has the number of bytes written, the earlier ones included.
+/// Fails with `NoMemory` where the number of all bytes has more than 64 bits; nothing of the text is written.
 fn write_more<W: Write>(writer: &mut W, written: u64, text: &[u8]) -> Result<u64, OpFault>
     ensures ok { IfOk result (λ sum. (sum ≡ written + length text.now)
         × Appends (W.contents writer.old) (W.contents writer.new) text.now) }
@@ -148,11 +148,10 @@ fn write_more<W: Write>(writer: &mut W, written: u64, text: &[u8]) -> Result<u64
     }
 }
 
-/// Reads the records again, of which there are `count`, and writes the lines of each page. Returns how many
-/// bytes these are.
+/// Reads the `count` records again, and writes the lines of each page. Returns the number of bytes written.
 ///
-/// `Store`: a page could not be read again. `Write`: the writer failed, after the number of bytes that the
-/// fault tells. `NoMemory`: memory was refused. After each of them some of the first bytes are written.
+/// Fails with `Store` where a page could not be read again, with `Write` where the writer failed, after the number of
+/// bytes in the fault, and with `NoMemory`. Some of the first bytes are then written.
 fn write_records<S: NodeStore, W: Write>(
     alloc: Global,
     node: Node,
@@ -186,14 +185,14 @@ fn write_records<S: NodeStore, W: Write>(
 /// Writes the records of the node's store, each as place, space and text, and then `end`. As JSON, each line is an
 /// object: of a record with `place` and `record`, and the last one `{"line":"end"}`.
 ///
-/// It goes over the store twice, and holds one page of records at a time: first it reads all of them, so that
-/// nothing is written of a store with a damaged record; then it reads them again and writes their lines.
+/// It goes over the store twice, and holds one page of records at a time. First it reads all of them: nothing is
+/// written of a store with a damaged record. Then it reads them again and writes their lines.
 ///
-/// `Store`: the store could not be read. Nothing is written, or the device failed in the second reading, and
-/// some of the first bytes are written; of a store that isn't honest, also one that had fewer records then.
-/// `Write`: the writer failed, after the number of bytes that the fault tells. `NoMemory`: memory was refused;
-/// nothing is written, or some of the first bytes. It is also told of more records or bytes than 64 bits
-/// count.
+/// Fails with `Store` where the store could not be read. Then nothing is written, or the device failed in the second
+/// reading, and some of the first bytes are written; a store that isn't honest may also have had fewer records in the
+/// second reading. Fails with `Write` where the writer failed, after the number of bytes in the fault. Fails with
+/// `NoMemory` for lack of memory, and where there are more records or bytes than 64 bits can count: nothing is written,
+/// or some of the first bytes.
 pub fn show<S: NodeStore, W: Write>(
     alloc: Global,
     node: Node,

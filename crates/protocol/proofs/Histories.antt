@@ -1,4 +1,4 @@
--- Histories of journals that get longer: one record more, many more, and what the first records say.
+-- Histories of journals that get longer: one record more, many more, and the first records.
 use Rattle.std.proofs.Common.{◌≡◌, ℕ, ◌+◌, Bool, true, false, ◌||◌, List, [], ◌∷◌, ◌++◌, take, drop, length, refl, sym, ap, ◌∙◌, arith, append_assoc, append-nil, take-append-drop}
 use Rattle.std.specs.List.{list_any}
 use Rattle.std.proofs.lemmas.List.Sums.{fold-append}
@@ -31,7 +31,7 @@ length_from scheme n es (x ∷ xs) = let rest = length_from scheme n (extend sch
 pub length_history : (scheme : Scheme) (n : Node) (xs : List Input) → length (history scheme n xs) ≡ length xs
 length_history scheme n xs = let all = length_from scheme n [] xs in omega arith
 
--- ---- what is sent
+-- ---- the messages that are sent
 
 pub sends_snoc : (scheme : Scheme) (n : Node) (xs : List Input) (i : Input) → sends (history scheme n (xs ++ i ∷ [])) ≡ sends (history scheme n xs) ++ messages_of (transitions_made (verdict scheme n (history scheme n xs) i))
 sends_snoc scheme n xs i = ap sends (history_snoc scheme n xs i)
@@ -40,7 +40,7 @@ pub sends_recorded : (scheme : Scheme) (n : Node) (xs : List Input) (i : Input) 
     → sends (history scheme n (xs ++ i ∷ [])) ≡ sends (history scheme n xs) ++ messages_of ts
 sends_recorded scheme n xs i ts enters = ap sends (history_recorded scheme n xs i ts enters)
 
--- what more records send stands after what was sent
+-- the messages of more records stand after those that were sent
 pub sends_from : (scheme : Scheme) (n : Node) (es : List Entry) (xs : List Input) → (more : List Message) × (sends (history_from scheme n es xs) ≡ sends es ++ more)
 sends_from scheme n es [] = ([], sym (append-nil (sends es)))
 sends_from scheme n es (x ∷ xs) =
@@ -59,7 +59,7 @@ sends_take scheme n count xs =
     let r = sends_append scheme n (take count xs) (drop count xs) in
     (r.0, ap (λ (l : List Input). sends (history scheme n l)) (sym (take-append-drop count xs)) ∙ r.1)
 
--- ---- what is acknowledged
+-- ---- the messages that are acknowledged
 
 moved_behind : (a b c : Bool) → a || (b || c) ≡ (b || a) || c
 moved_behind true true c = refl

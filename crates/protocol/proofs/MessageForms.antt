@@ -1,4 +1,4 @@
--- Messages by what they say, each as one record with its sender, its receiver and its transaction.
+-- Messages by their content, each as one record with its sender, its receiver and its transaction.
 use Rattle.std.proofs.Common.{◌≡◌, Bool, true, false, true≢false, refl, sym, ap, subst, ◌∙◌}
 use Rattle.units.specs.declared.code.Node.{Node}
 use Rattle.status.specs.Content.{Content}
@@ -44,7 +44,7 @@ notification n = record { from = n.from; to = n.to; id = n.id; body = body.Notif
 abbrev pub request : RequestMessage → Message
 request r = record { from = r.from; to = r.to; id = r.id; body = body.Request }
 
--- a message with what its body says
+-- a message with the fields of its body
 abbrev pub proposal_with : Message → proposals.Proposal → ProposalMessage
 proposal_with m p = record { from = m.from; to = m.to; id = m.id; status = p.status; content = p.content }
 

@@ -39,14 +39,14 @@ node_there scheme (Registry c) =
 pub index_within : (scheme : Scheme) (n : Node) (at : ℕ) → index_of scheme n ≡ Some at → at < length (nodes scheme)
 index_within scheme n at e = index_below (λ m. same_node m n) (nodes scheme) at e
 
--- what stands at a node's index is the node
+-- the element at a node's index is the node
 pub node_of_index : (scheme : Scheme) (n : Node) (at : ℕ) → index_of scheme n ≡ Some at → slice_get (nodes scheme) at ≡ Some n
 node_of_index scheme n at e =
     let r = index_passes (λ m. same_node m n) 0 (nodes scheme) at e in
     let same : r.0 ≡ at = omega (arith, r.1) in
     subst (λ k. slice_get (nodes scheme) k ≡ Some n) same (r.2.1 ∙ ap Some (node_of_same r.2.0 n r.2.2))
 
--- ---- what stands at an index
+-- ---- the element at an index
 
 member_at : (c : Code) (ms : List SchemeRegistry) → is_some (member ms c) ≡ true → (k : ℕ) × (slice_get (map (λ m. Registry m.code) ms) k ≡ Some (Registry c))
 member_at c [] e = absurd (cc (e))

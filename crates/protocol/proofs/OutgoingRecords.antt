@@ -1,5 +1,5 @@
--- What is read off the records of a history by what they did: all messages, acknowledgements, and the first records;
--- and one record more.
+-- The messages, the acknowledgements and the first records of a history, by the effects of its records; and one record
+-- more.
 use Rattle.std.proofs.Common.{◌≡◌, inl, inr, ℕ, ◌||◌, Bool, true, false, cond, List, [], ◌∷◌, ◌++◌, take, drop, length, refl, sym, ap, ◌∙◌, arith, append_assoc, append-nil, length-append, take-append-drop}
 use Rattle.std.specs.Prelude.{nat_le}
 use Rattle.std.proofs.Math.Seq.{take-append_seam}
@@ -36,7 +36,7 @@ none_made scheme es key = go (nat_le (length (sends es)) key) (history.is_acknow
     go false false true = refl
     go false false false = refl
 
--- what an input did is what its transitions send
+-- the effect of an input is to send the messages of its transitions
 sent_by_input : (scheme : Scheme) (n : Node) (es : List Entry) (i : Input) → sent_by_one (did i (messages_of (transitions_made (verdict scheme n es i)))) ≡ messages_of (transitions_made (verdict scheme n es i))
 unfolding verdict
 sent_by_input scheme Itl es (Ack k) = sym (ap messages_of (none_made scheme es k.value))
@@ -76,7 +76,7 @@ or_comm true false = refl
 or_comm false true = refl
 or_comm false false = refl
 
--- what is acknowledged
+-- the messages that are acknowledged
 pub acknowledged_outgoing : (es : List Entry) (key : ℕ) → is_key_acknowledged (outgoing es) key ≡ history.is_acknowledged es key
 acknowledged_outgoing [] key = refl
 acknowledged_outgoing (e ∷ es) key =

@@ -1,4 +1,5 @@
--- What the records of a journal say of its history: its messages, which are acknowledged, and how many the first send.
+-- The records of a journal as readings of its history: its messages, which are acknowledged, and how many the first
+-- records send.
 use Rattle.std.proofs.Common.{◌≡◌, ℕ, Bool, Option, List, take, length, ap, subst, ◌∙◌}
 use Rattle.std.specs.Prelude.{slice_get}
 use Rattle.units.specs.declared.code.Node.{Node}

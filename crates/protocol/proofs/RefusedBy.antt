@@ -1,4 +1,4 @@
--- By which codes verdicts refuse: each cause's code passes a test, so each refusal's does.
+-- The codes with which verdicts refuse: each cause's code passes a test, and so does each refusal's.
 use Rattle.std.proofs.Common.{◌≡◌, ℕ, List, [], ◌∷◌, length, Bool, true, false, not, cond, ◌&&◌, Option, Some, None, ◌==◌, refl, subst}
 use Rattle.std.specs.Prelude.{nat_le, Contains}
 use Rattle.std.specs.List.{list_all, list_any}
@@ -30,7 +30,7 @@ use Rattle.protocol.specs.History.{Transition, Entry, is_acknowledged}
 use Rattle.protocol.specs.Refusing.{message_codes}
 use Rattle.protocol.specs.Verdict.{verdict}
 
--- a verdict that refuses only by codes that pass
+-- a verdict that refuses only with codes that pass
 abbrev pub Only : (ℕ → Bool) → Verdict → Type 0
 Only passes v = (code : ℕ) → v ≡ IsRefused code → passes code ≡ true
 
@@ -72,7 +72,7 @@ only_refuse passes (c ∷ cs) v p w =
     (only_refused passes c.1 (left (passes c.1) (list_all (λ d. passes d.1) cs) p))
     (only_refuse passes cs v (right (passes c.1) (list_all (λ d. passes d.1) cs) p) w)
 
--- codes of what is refused by tables, or for want of room
+-- codes of refusals by tables, or for lack of room
 pub record Rows (passes : ℕ → Bool) : Type 0 where
   pub row : passes no_row ≡ true
   pub full : passes journal_full ≡ true
@@ -106,7 +106,7 @@ pub log_message : (passes : ℕ → Bool) → Rows passes → (scheme : Scheme) 
     → Only passes (log.log_message scheme es moment m)
 log_message passes h scheme es moment m causes = only_refuse passes (log.log_refusals scheme es m) _ causes (log_answered passes h scheme es moment m.id m.body)
 
--- one of the codes by which messages are refused
+-- one of the codes with which messages are refused
 abbrev of_message : ℕ → Bool
 of_message code = list_any (λ d. code == d) message_codes
 
@@ -133,7 +133,7 @@ message_code scheme n es m moment code e = Contains-from_any {eq = ◌==◌} eqb
 
 -- ---- every input
 
--- neither of the two codes that come from what runs a node
+-- neither of the two codes that come from the program that runs a node
 abbrev of_verdict : ℕ → Bool
 of_verdict code = not (code == node_stopped) && not (code == out_of_memory)
 

@@ -89,7 +89,7 @@ not_recorded_more scheme n j rest k bad =
     let front : take k (j ++ rest) ≡ take k j = take-append-le k j rest short in
     record { input = bad.input; is = slice_get_append_left j rest k bad.input bad.is; refused = λ e. bad.refused (rw front at e); before = subst (Replays scheme n) (sym front) bad.before }
 
--- so a fault of the first ones is one of the whole
+-- a fault of the first records is one of the whole
 pub fault_more : (scheme : Scheme) (n : Node) (j rest : List Input) (fault : ReplayFault) → HasFault scheme n j fault → HasFault scheme n (j ++ rest) fault
 fault_more scheme n j rest (NotRecorded k) bad = not_recorded_more scheme n j rest k bad
 fault_more scheme n j rest NoMemory bad = tt

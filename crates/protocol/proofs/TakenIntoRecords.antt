@@ -1,5 +1,4 @@
--- What has become of an input at a node's records: nothing, where it is refused or was acted on before, or one record
--- more.
+-- The effect of an input on a node's records: none, where it is refused or was acted on before, or one record more.
 use Rattle.std.proofs.Common.{◌≡◌, ◌⊎◌, ◌++◌, ◌∷◌, [], ℕ, ◌<◌, ◌≤◌, List, length, Bool, true, false, cond, Ok, Err, inl, inr, refl, sym, ap, subst, ◌∙◌}
 use Rattle.std.specs.Prelude.{Result, nat_le}
 use Rattle.std.specs.Result.{IsErrAnd}
@@ -49,7 +48,7 @@ module _ (scheme : Scheme) (n : Node) where
         records = subst (λ (q : RecordsView). AreRecordsOf scheme n q.inputs q) (sym same) are;
       }
 
-  -- as `?` gives an error on
+  -- as `?` returns an error
   pub err_into : (old new : RecordsView) (input : Input) (result : Result Stepped Refusal) (P : Refusal → Type 0) → AreRecordsOf scheme n old.inputs old → new ≡ old → IsErrAnd result P
       → ((r : Refusal) → P r → GivenUp old.inputs input r.code) → TakesInto scheme n old new input result
   err_into old new input (Ok x) P are same e why = absurd e
@@ -65,7 +64,7 @@ module _ (scheme : Scheme) (n : Node) where
   stale_into old input stale.Repeat are is = repeat_into old input are is
   stale_into old input stale.Late are is = late_into old input are is
 
-  -- those of no record
+  -- the records of an empty journal
   pub no_records : AreRecordsOf scheme n [] (record { inputs = []; sent = [] })
   no_records = record { inputs = refl; sent = refl; replays = λ k input h. absurd (cc (h)) }
 

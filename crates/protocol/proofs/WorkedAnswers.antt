@@ -1,4 +1,4 @@
--- What the log and a registry answer to single messages.
+-- The verdicts of the log and of a registry on single messages.
 use Rattle.std.proofs.Common.{◌≡◌, ℕ, List, [], ◌∷◌, ◌++◌, Some, None, refl, lit≤}
 use Rattle.units.specs.Facts.{IsLetter}
 use Rattle.units.specs.declared.block.Kind.TheVariants.{Aau, Cer}

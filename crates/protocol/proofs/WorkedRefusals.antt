@@ -1,4 +1,4 @@
--- What is refused or fails: orders, transfers, accounts, acknowledgements, and a full journal.
+-- Refusals and failures: orders, transfers, accounts, acknowledgements, and a full journal.
 use Rattle.std.proofs.Common.{◌≡◌, true, false, List, [], ◌∷◌, ◌++◌, Some, None, refl, lit<}
 use Rattle.std.specs.Prelude.{◌+◌, ◌==◌, ◌&&◌, take}
 use Rattle.units.specs.declared.block.Kind.TheVariants.{Aau, Cer}

@@ -1,4 +1,4 @@
--- A registry asks for cancellation: before an answer, before its proposal comes, too late; and what is refused.
+-- A registry asks for cancellation: before an answer, before its proposal comes, too late; and the refusals.
 use Rattle.std.proofs.Common.{◌≡◌, List, [], ◌∷◌, ◌++◌, Some, None, refl}
 use Rattle.std.specs.Prelude.{take}
 use Rattle.units.specs.declared.code.Node.{Node}

@@ -1,4 +1,4 @@
--- A transfer back, two transfers cleaned up at once, and what the tables say of single events.
+-- A transfer back, two transfers cleaned up at once, and the tables for single events.
 use Rattle.std.proofs.Common.{◌≡◌, ℕ, true, false, List, [], ◌∷◌, ◌++◌, Some, refl, lit<}
 use Rattle.std.specs.Prelude.{take}
 use Rattle.units.specs.declared.block.Kind.TheVariants.{Rmu, Cer}
@@ -60,7 +60,7 @@ pub returned_held : (held_units returned_world nz ≡ 50) × (held_units returne
 unfolding step verdict
 returned_held = (refl, refl, refl, refl, refl, refl, refl, refl)
 
--- ---- two transfers, of which the second comes to the log first, are cancelled by one record
+-- ---- two transfers are cancelled by one record; the second of them comes to the log first
 
 abbrev two_expired_events : List WorldEvent
 two_expired_events = propose nz 1 jp 7 (block 1 10 ∷ []) ∷ propose nz 1 jp 7 (block 11 20 ∷ []) ∷ commit nz_node 2 ∷ post nz_node 1 ∷ post nz_node 0 ∷ deliver 0 ∷ deliver 1

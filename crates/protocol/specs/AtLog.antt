@@ -1,4 +1,4 @@
--- What the log returns for an input after a journal.
+-- The verdict of the log on an input after a journal.
 use Rattle.std.specs.Prelude.{ℕ, ◌+◌, not, cond, nat_le, Bool, true, false, List, [], ◌∷◌, filter, flat_map, Option, Some}
 use Rattle.std.specs.Option.{option_map_or}
 use Rattle.std.specs.Ordering.{is_lt}
@@ -32,7 +32,7 @@ use Rattle.protocol.specs.Checks.{Causes, Ledger, log_findings}
 use Rattle.protocol.specs.Effects.{log_sends}
 use Rattle.protocol.specs.Deciding.{Verdict, IsRepeat, IsRefused, refuse, recorded_if_room, known, content_in, column_of_proposal, moved, moved_by, by_row, has_other, acknowledge}
 
--- what the findings ask, read off a history
+-- the facts that the findings need, read off a history
 abbrev pub ledger : Scheme → List Entry → Ledger
 ledger scheme es = record {
   owner = book_owner scheme (transitions_of es);
@@ -61,7 +61,7 @@ is_from_another from t k Rejected = is_not_acquirer from k
 is_from_another from t k Completed = not (same_node from (Registry t.code))
 is_from_another from t k _ = false
 
--- of what it says about that transaction, from that sender
+-- refusals by the body, about that transaction, from that sender
 abbrev pub log_body_refusals : List Entry → Node → TransactionId → Body → Causes
 log_body_refusals es from t (body.Proposal p) =
     (not (same_node from (Registry t.code)), wrong_party)
@@ -80,7 +80,8 @@ log_refusals scheme es m =
     ∷ (is_no_registry scheme m.from, sender_not_allowed)
     ∷ log_body_refusals es m.from m.id m.body
 
--- by the log's table: the content is the one that is recorded from then on, and the codes are passed on or were found
+-- by the log's table: the content is the one that is recorded from then on, and the codes are those of the notification
+-- or of the findings
 abbrev pub at_log : Scheme → List Entry → TransactionId → Option Content → List ℕ → ℕ → RecordedStatus → RowInput → Verdict
 at_log scheme es t k codes moment old input = by_row scheme es (moved t k moment (log_sends t k codes input)) (log_row old input)
 
@@ -98,7 +99,8 @@ log_answer scheme es moment t body.Request = told scheme es t (newest (transitio
 abbrev pub log_message : Scheme → List Entry → ℕ → Message → Verdict
 log_message scheme es moment m = refuse (log_refusals scheme es m) (log_answer scheme es moment m.id m.body)
 
--- ---- clean-up: each transaction that has stood so for a day goes by its row, in ascending order of code and number
+-- ---- clean-up: each transaction with a newest transition that is a day old takes its row, in ascending order of code
+-- and number
 
 -- the newest transition of each transaction
 abbrev pub newest_of_each : List Transition → List Transition
@@ -139,7 +141,7 @@ eligible_refusals scheme c = (not (has_member scheme c), unknown_registry) ∷ [
 
 -- ---- the verdict
 
--- inputs of a registry are refused by `no_row`
+-- inputs of a registry are refused with `no_row`
 abbrev pub log_verdict : Scheme → List Entry → Input → Verdict
 log_verdict scheme es (CleanUp t) = clean_up scheme es (expired (transitions_of es) t.seconds)
 log_verdict scheme es (Eligible c may) = refuse (eligible_refusals scheme c) (cond (same_bool (is_eligible scheme es c) may) IsRepeat (recorded_if_room scheme es []))

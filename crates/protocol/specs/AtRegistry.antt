@@ -1,4 +1,4 @@
--- What a registry returns for an input after a journal.
+-- The verdict of a registry on an input after a journal.
 use Rattle.std.specs.Prelude.{ℕ, ◌+◌, ◌==◌, ◌&&◌, ◌||◌, not, cond, Bool, true, false, List, [], ◌∷◌, ◌++◌, flat_map, Option, Some, None}
 use Rattle.std.specs.List.{list_any}
 use Rattle.std.specs.Option.{option_map_or}
@@ -37,7 +37,7 @@ use Rattle.protocol.specs.Checks.{Causes, Holding, propose_refusals, acquirer_fi
 use Rattle.protocol.specs.Effects.{initiator_sends, acquirer_sends}
 use Rattle.protocol.specs.Deciding.{Verdict, IsRefused, refuse, recorded_if_room, known, content_in, column_of_proposal, moved, by_row, has_other, acknowledge}
 
--- ---- what the checks ask, read off a history
+-- ---- the facts that the checks need, read off a history
 
 abbrev pub is_position : Option Position → ℕ → Piece → Bool
 is_position q account p = option_map_or (λ at. (at.account == account) && same_kind at.kind p.kind) q false
@@ -74,7 +74,7 @@ arrival scheme c es t last k moment found =
 abbrev pub holds_some : Scheme → Code → List Transition → Option Content → Bool
 holds_some scheme c xs k = option_map_or (λ content. list_any (λ p. holds scheme c xs p.unit) (pieces content.units)) k false
 
--- the acquirer takes no unit in that it holds
+-- the acquirer doesn't take in a unit that it holds
 abbrev pub unless_held : Bool → Row → Row
 unless_held true (Move Completed) = Refused
 unless_held held row = row
@@ -106,7 +106,7 @@ abbrev pub is_checked : ProposalStatus → Bool
 is_checked proposal.Proposed = false
 is_checked proposal.Checked = true
 
--- of what it says about that transaction
+-- refusals by the body, about that transaction
 abbrev pub registry_body_refusals : Code → List Entry → TransactionId → Body → Causes
 registry_body_refusals c es t (body.Proposal p) =
     (not (same_code p.content.acquirer c) || (same_code t.code c || repeats (pieces p.content.units)), wrong_party)
@@ -134,7 +134,7 @@ registry_message scheme c es moment m = refuse (registry_refusals c es m) (regis
 abbrev pub open_refusals : Scheme → Code → List Entry → ℕ → Causes
 open_refusals scheme c es account = (not (has_account scheme c account), unknown_account) ∷ (not (is_closed es account), already_so) ∷ []
 
--- the units that were ever in play: those allotted, and those of transfers
+-- all units that were ever allotted or in a transfer
 abbrev pub seen : Scheme → List Transition → List Piece
 seen scheme xs = pieces (raws (all_blocks scheme.members)) ++ flat_map (λ x. option_map_or (λ k. pieces k.units) x.content []) xs
 
@@ -142,7 +142,7 @@ seen scheme xs = pieces (raws (all_blocks scheme.members)) ++ flat_map (λ x. op
 abbrev pub is_used : Scheme → Code → List Transition → ℕ → Bool
 is_used scheme c xs account = list_any (λ p. holds scheme c xs p.unit && option_map_or (λ q. q.account == account) (position scheme c xs p.unit) false) (seen scheme xs)
 
--- a transfer into the account stands Accepted
+-- a transfer into the account has the status Accepted
 abbrev pub is_awaited : Code → List Transition → ℕ → Bool
 is_awaited c xs account = list_any (λ x. not (same_code x.id.code c) && (stands_at xs x.id Accepted && option_map_or (λ k. k.to_account == account) x.content false)) xs
 
@@ -156,7 +156,7 @@ close_refusals scheme c es account =
 
 -- ---- the verdict
 
--- inputs of the log are refused by `no_row`
+-- inputs of the log are refused with `no_row`
 abbrev pub registry_verdict : Scheme → Code → List Entry → Input → Verdict
 registry_verdict scheme c es (Propose o) = propose scheme c es o
 registry_verdict scheme c es (Request t) = request scheme c es t

@@ -1,5 +1,5 @@
--- Numbered checks and findings. Each is given what it has to know of holdings, accounts and owners, so
--- that it may be asked of a history and of what a node keeps in memory alike.
+-- Numbered checks and findings. Each takes the facts that it needs about holdings, accounts and owners: it applies to a
+-- history as well as to the tables that a node keeps in memory.
 use Rattle.std.specs.Prelude.{ℕ, ◌==◌, ◌&&◌, ◌&&◌, ◌||◌, not, nat_lt, Bool, false, List, [], ◌∷◌, length, map, filter, Option, is_some, is_none}
 use Rattle.std.specs.List.{list_any}
 use Rattle.std.specs.Option.{option_map_or}
@@ -24,13 +24,13 @@ use Rattle.protocol.specs.Registries.{allotted, has_member, has_account, takes_k
 abbrev pub Causes : Type 0
 Causes = List (Bool × ℕ)
 
--- the codes whose causes stand
+-- the codes whose causes hold
 abbrev pub codes_of : Causes → List ℕ
 codes_of causes = map (λ c. c.1) (filter (λ c. c.0) causes)
 
 -- ---- at a registry
 
--- what a registry knows of its accounts and units
+-- the facts about a registry's accounts and units
 pub record Holding : Type 0 where
   -- the last order for the account is a close
   pub is_closed : ℕ → Bool
@@ -56,7 +56,7 @@ propose_refusals scheme c known o =
     ∷ ((o.to_account == 0) || nat_lt last_account o.to_account, account_out_of_range)
     ∷ []
 
--- what the acquirer finds
+-- the findings of the acquirer
 abbrev pub acquirer_causes : Scheme → Code → Holding → Content → Causes
 acquirer_causes scheme c known k =
     (not (has_account scheme c k.to_account), receiver_unknown)
@@ -70,7 +70,7 @@ acquirer_findings scheme c known k = codes_of (acquirer_causes scheme c known k)
 
 -- ---- at the log
 
--- what the log knows of units and registries
+-- the facts about units and registries at the log
 pub record Ledger : Type 0 where
   pub owner : Serial → Option Code
   -- a transfer with the unit stands Checked or Accepted
@@ -88,7 +88,7 @@ has_other_kind holder kind = option_map_or (λ h. not (same_kind h.kind kind)) h
 abbrev pub is_of_another : Option Holder → Option Code → Code → Bool
 is_of_another holder owner c = is_some holder && not (is_owner owner c)
 
--- what the log finds in a proposal of that initiator
+-- the findings of the log in a proposal of that initiator
 abbrev pub log_causes : Scheme → Ledger → Code → Content → Causes
 log_causes scheme known initiator k =
     (not (has_member scheme k.acquirer) || same_code k.acquirer initiator, wrong_acquirer)

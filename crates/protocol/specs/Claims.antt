@@ -1,4 +1,4 @@
--- What is claimed of the histories of all nodes.
+-- The claims about the histories of all nodes.
 use Rattle.std.specs.List.{count_by, sum_by}
 use Rattle.std.specs.Prelude.{◌≡◌, ◌≤◌, ◌⊎◌, ℕ, ◌+◌, ◌&&◌, not, cond, is_some, Bool, true, false, List, [], ◌++◌, Contains, Option, Some, None}
 use Rattle.std.specs.Option.{option_map_or}
@@ -84,7 +84,7 @@ SpentOnce scheme f = (s : Serial) (c d : Code) → spendable scheme c (at_regist
 abbrev pub HolderOwns : Scheme → (Node → List Entry) → Type 0
 HolderOwns scheme f = (s : Serial) (c : Code) → holds scheme c (at_registry f c) s ≡ true → book_owner scheme (transitions_of (f Itl)) s ≡ Some c
 
--- ---- of one registry alone, whatever it is given
+-- ---- of one registry alone, for all inputs
 
 -- a unit is counted there once or not at all
 abbrev pub CountedOnce : Scheme → Code → List Transition → Type 0
@@ -99,7 +99,7 @@ CompletedOnce xs = (x : Transition) → Contains xs x → x.new ≡ Completed �
 abbrev pub NextIsNew : Code → List Entry → Type 0
 NextIsNew c es = (t : TransactionId) → id_at c (proposals es + 1) ≡ Some t → newest (transitions_of es) t ≡ None
 
--- ---- of the log alone, whatever it is given
+-- ---- of the log alone, for all inputs
 
 abbrev pub IsEnd : Status → Type 0
 IsEnd Rejected = Unit {0}
@@ -131,7 +131,7 @@ OwnedByInitiator scheme =
 
 -- ---- of deliveries
 
--- no delivery is refused but where the journal is full
+-- no delivery is refused except where the journal is full
 abbrev pub DeliversWelcome : World → Type 0
 DeliversWelcome w = (index : ℕ) (moment : Moment) (code : ℕ) → (step w (Deliver index moment)).outcome ≡ Refused code → code ≡ journal_full
 

@@ -1,4 +1,4 @@
--- What a node's core returns for an input, and the journals that a core has.
+-- The result of a node's core for an input, and the journals that a core has.
 use Rattle.std.specs.Prelude.{◌≡◌, ◌⊎◌, ℕ, List, [], ◌∷◌, ◌++◌, length, take, slice_get, Result, Ok, Err, Some}
 use Rattle.units.specs.RefusalCodes.{out_of_memory}
 use Rattle.units.specs.declared.code.Node.{Node}
@@ -16,14 +16,14 @@ use Rattle.records.specs.Records.{RecordsView}
 
 -- ---- one input
 
--- a verdict as a result, where that many records stand before the input
+-- a verdict as a result, with the number of records before the input
 abbrev pub answer_of : ℕ → Verdict → Result Stepped Refusal
 answer_of place (IsRecorded xs) = Ok (Recorded place)
 answer_of place IsRepeat = Ok Repeat
 answer_of place IsLate = Ok Late
 answer_of place (IsRefused code) = Err (record { code = code })
 
--- what a core is to return for an input after a journal
+-- the result that a core has to return for an input after a journal
 abbrev pub answer : Scheme → Node → List Input → Input → Result Stepped Refusal
 answer scheme n journal input = answer_of (length journal) (verdict scheme n (history scheme n journal) input)
 
@@ -44,7 +44,8 @@ after journal input (Err refusal) = journal
 abbrev pub Replays : Scheme → Node → List Input → Type 0
 Replays scheme n journal = (k : ℕ) (input : Input) → slice_get journal k ≡ Some input → answer scheme n (take k journal) input ≡ Ok (Recorded k)
 
--- the records are those of the journal, with what its history sends, and each is recorded at its place after those before it
+-- the records are those of the journal, with the messages that its history sends, and each is recorded at its place
+-- after those before it
 pub record AreRecordsOf (scheme : Scheme) (n : Node) (journal : List Input) (records : RecordsView) : Type 0 where
   pub inputs : records.inputs ≡ journal
   pub sent : records.sent ≡ outgoing (history scheme n journal)
@@ -57,12 +58,12 @@ pub record IsFirstNotRecorded (scheme : Scheme) (n : Node) (journal : List Input
   pub refused : answer scheme n (take k journal) input ≡ Ok (Recorded k) → ⊥
   pub before : Replays scheme n (take k journal)
 
--- the journal has the fault; of memory nothing can be said
+-- the journal has the fault; running out of memory says nothing about the journal
 abbrev pub HasFault : Scheme → Node → List Input → ReplayFault → Type 0
 HasFault scheme n journal (NotRecorded k) = IsFirstNotRecorded scheme n journal k
 HasFault scheme n journal NoMemory = Unit {0}
 
--- the fault is told of that place, where it tells one
+-- the fault names that place, if it names one
 abbrev pub IsAt : ℕ → ReplayFault → Type 0
 IsAt place (NotRecorded k) = k ≡ place
 IsAt place NoMemory = Unit {0}

@@ -1,4 +1,4 @@
--- What a verdict is, how the tables decide one, and what every node decides alike.
+-- Verdicts, how the tables decide them, and the decisions that every node makes in the same way.
 use Rattle.std.specs.Prelude.{ℕ, not, cond, nat_le, Bool, false, List, [], ◌∷◌, length, Option, Some, None, option_and_then}
 use Rattle.std.specs.Option.{option_map_or}
 use Rattle.units.specs.RefusalCodes.{no_row, journal_full}
@@ -16,7 +16,7 @@ use Rattle.scheme.specs.declared.registries.Scheme.{Scheme}
 use Rattle.protocol.specs.History.{Transition, Entry, sends, is_acknowledged}
 use Rattle.protocol.specs.Checks.{Causes}
 
--- recorded with these transitions, or acted on before, or too late to act on, or refused by that code
+-- recorded with these transitions, or acted on before, or too late to act on, or refused with that code
 pub data Verdict : Type 0 where
   IsRecorded : List Transition → Verdict
   IsRepeat : Verdict
@@ -34,7 +34,7 @@ recorded_if_room scheme es xs = cond (nat_le scheme.records (length es)) (IsRefu
 
 -- ---- by the tables
 
--- what is recorded of a transaction, by the newest transition that names it
+-- the recorded status of a transaction, by the newest transition that names it
 abbrev pub known : Option Transition → RecordedStatus
 known None = Unknown
 known (Some x) = option_map_or (λ k. Stands x.new) x.content Bare
@@ -42,7 +42,7 @@ known (Some x) = option_map_or (λ k. Stands x.new) x.content Bare
 abbrev pub content_in : Option Transition → Option Content
 content_in last = option_and_then (λ x. x.content) last
 
--- the column of a proposal: equal to the one whose content is recorded, else by what was found
+-- the column of a proposal: an equal proposal where a content is recorded, otherwise by the findings
 abbrev pub column_of_proposal : Option Content → List ℕ → RowInput
 column_of_proposal (Some k) found = EqualProposal
 column_of_proposal None [] = ProposalWithoutFinding
@@ -56,7 +56,7 @@ abbrev pub moved_by : (Status → Transition) → Row → List Transition
 moved_by to (Move new) = to new ∷ []
 moved_by to _ = []
 
--- what a row says: where it moves, the transition is recorded
+-- the verdict of a row: where it moves, the transition is recorded
 abbrev pub by_row : Scheme → List Entry → (Status → Transition) → Row → Verdict
 by_row scheme es to (Move new) = recorded_if_room scheme es (to new ∷ [])
 by_row scheme es to Repeat = IsRepeat

@@ -1,5 +1,5 @@
--- What a role is to decide for an input, by the causes of refusals and the row of its table; and what becomes of an
--- input that changes nothing.
+-- The decision that a role has to make for an input, by the causes of refusals and the row of its table; and the result
+-- for an input that changes nothing.
 use Rattle.std.specs.Prelude.{cond, [], ◌∷◌, Result, Ok, Err}
 use Rattle.units.specs.RefusalCodes.{no_row}
 use Rattle.units.specs.declared.refusal.Refusal.{Refusal}
@@ -20,7 +20,7 @@ decided Repeat = Ok (Stays stale.Repeat)
 decided Late = Ok (Stays stale.Late)
 decided Refused = Err (record { code = no_row })
 
--- refused by the first cause that holds, else what follows
+-- refused with the code of the first cause that holds, otherwise the given result
 abbrev pub unless : {X : Type 0} → Causes → Result X Refusal → Result X Refusal
 unless [] answer = answer
 unless (c ∷ cs) answer = cond c.0 (Err (record { code = c.1 })) (unless cs answer)

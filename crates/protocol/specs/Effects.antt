@@ -1,5 +1,5 @@
--- What a transaction's move sends: the effects of the three tables, by the input's column. The codes are those of what
--- was found, or of the notification that the log passes on.
+-- The messages of a transaction's move: the effects of the three tables, by the input's column. The codes are those of
+-- the findings, or of the notification that the log passes on.
 use Rattle.std.specs.Prelude.{ℕ, List, [], ◌∷◌, Option}
 use Rattle.std.specs.Option.{option_map_or}
 use Rattle.units.specs.declared.code.Code.{Code}
@@ -26,7 +26,7 @@ notifies from to t said = record { from = from; to = to; id = t; body = body.Not
 abbrev pub requests : Node → Node → TransactionId → Message
 requests from to t = record { from = from; to = to; id = t; body = body.Request }
 
--- to the acquirer, which a record without content doesn't name
+-- to the acquirer; a record without content names none
 abbrev pub to_acquirer : Option Content → (Node → Content → Message) → List Message
 to_acquirer k message = option_map_or (λ c. message (Registry c.acquirer) c ∷ []) k []
 

@@ -5,7 +5,7 @@ use Rattle.scheme.specs.declared.registries.Scheme.{Scheme}
 use Rattle.protocol.specs.History.{Entry}
 use Rattle.protocol.specs.Claims.{Agrees, OnePlace, SpentOnce, HolderOwns, TerminatesForEligibility}
 
--- what is claimed of the histories of all nodes
+-- the claims about the histories of all nodes
 pub record IsSafe (scheme : Scheme) (f : Node → List Entry) : Type 0 where
   pub agree : Agrees f
   pub one_place : OnePlace scheme f

@@ -1,6 +1,5 @@
--- What a journal says: the transitions of its inputs, and what is read off them.
--- A journal is the list of the inputs that a node recorded, the oldest first. A history is the list of these inputs
--- with their transitions, the newest first.
+-- The transitions of a journal's inputs, and the facts that are read off them. A journal is the list of the inputs that
+-- a node recorded, the oldest first. A history is the list of these inputs with their transitions, the newest first.
 use Rattle.std.specs.Prelude.{ℕ, ◌+◌, ◌==◌, ◌&&◌, ◌||◌, not, cond, Bool, true, false, List, [], ◌∷◌, ◌++◌, find, flat_map, unwrap_or, Option, Some, None, option_map, option_and_then, is_some}
 use Rattle.std.specs.List.{list_any, count_by}
 use Rattle.std.specs.Option.{option_map_or}
@@ -23,8 +22,8 @@ use Rattle.scheme.specs.declared.registries.Scheme.{Scheme}
 use Rattle.units.specs.Unit.{have_unit}
 use Rattle.protocol.specs.Registries.{member, allotted}
 
--- what a record does to a transaction: its status from then on, its content where that is known
--- here, when that was (in seconds), and the messages that go out
+-- the effect of a record on a transaction: its status from then on, its content where that is known here, the moment
+-- (in seconds), and the messages that are sent
 pub record Transition : Type 0 where
   pub id : TransactionId
   pub new : Status
@@ -59,7 +58,7 @@ stands_at xs t s = is_status (stands xs t) s
 abbrev pub is_known : List Transition → TransactionId → Bool
 is_known xs t = is_some (newest xs t)
 
--- ---- what a node sends
+-- ---- the messages of a node
 
 -- the messages of the transitions, in order; key k is entry k
 abbrev pub messages_of : List Transition → List Message
@@ -77,7 +76,7 @@ acknowledges key _ = false
 abbrev pub is_acknowledged : List Entry → ℕ → Bool
 is_acknowledged es key = list_any (λ e. acknowledges key e.input) es
 
--- ---- what a registry ordered
+-- ---- the orders at a registry
 
 abbrev pub is_proposal_order : Input → Bool
 is_proposal_order (Propose o) = true
@@ -95,7 +94,7 @@ is_request_of t _ = false
 abbrev pub is_requested : List Entry → TransactionId → Bool
 is_requested es t = list_any (λ e. is_request_of t e.input) es
 
--- ---- what a registry holds
+-- ---- the units that a registry holds
 
 -- the transfer has the unit
 abbrev pub has_serial : Option Content → Serial → Bool
@@ -118,7 +117,7 @@ is_with c holder = option_map_or (λ h. same_code h.registry c) holder false
 abbrev pub at_start : Scheme → Code → Serial → ℕ
 at_start scheme c s = cond (is_with c (allotted scheme s)) 1 0
 
--- the unit is held: allotted here or credited, less given, it is there once
+-- the unit is held: with its allotment and its credits, less the times that it was given, it is there once
 abbrev pub holds : Scheme → Code → List Transition → Serial → Bool
 holds scheme c xs s = (at_start scheme c s + count_by (credits c s) xs) == (count_by (gives c s) xs + 1)
 
@@ -152,7 +151,7 @@ abbrev pub position : Scheme → Code → List Transition → Serial → Option 
 position scheme c [] s = option_map (λ h. record { account = h.account; kind = h.kind }) (allotted scheme s)
 position scheme c (x ∷ xs) s = cond (credits c s x) (position_in s x.content) (position scheme c xs s)
 
--- ---- what the log's book says
+-- ---- the log's book
 
 -- the acquirer of the transfer with the unit that completed last, else the allotted registry
 abbrev pub book_owner : Scheme → List Transition → Serial → Option Code
@@ -163,7 +162,7 @@ book_owner scheme (x ∷ xs) s = cond (same_status x.new Completed && carries x 
 abbrev pub busy : List Transition → Serial → Bool
 busy xs s = list_any (λ x. (stands_at xs x.id Checked || stands_at xs x.id Accepted) && carries x s) xs
 
--- ---- what orders say
+-- ---- the orders on accounts and eligibility
 
 -- whether the order closes the account, or opens it
 abbrev pub closes : ℕ → Input → Option Bool

@@ -1,4 +1,4 @@
--- What the records of a history did to its node's messages.
+-- The effects of the records of a history on its node's messages.
 use Rattle.std.specs.Prelude.{List, [], ◌∷◌, ◌++◌}
 use Rattle.wire.specs.declared.input.Input.{Input}
 use Rattle.wire.specs.declared.input.Input.TheVariants.{Ack}
@@ -6,7 +6,7 @@ use Rattle.wire.specs.declared.message.Message.{Message}
 use Rattle.protocol.specs.History.{Entry, messages_of}
 use Rattle.records.specs.Sending.{Sent, Sends, Acknowledges}
 
--- an acknowledgement sends nothing, and any other input sends what its transitions say
+-- an acknowledgement sends nothing, and any other input sends the messages of its transitions
 abbrev pub did : Input → List Message → Sent
 did (Ack key) ms = Acknowledges key.value
 did _ ms = Sends ms

@@ -46,6 +46,6 @@ pub data Moves (f g : Node → List Entry) (s : Serial) : Owner → Owner → Ty
   sends_off : (t : TransactionId) → Completes f g (Registry t.code) t s → Moves f g s (At t.code) (Due t)
   takes_in : (t : TransactionId) (c : Code) (done : Completes f g (Registry c) t s) → option_map (λ k. k.acquirer) done.last.content ≡ Some c → Moves f g s (Due t) (At c)
 
--- an owner stays or moves so
+-- an owner stays the same or moves in one of these ways
 abbrev pub OwnersMove : Scheme → (f g : Node → List Entry) → Type 0
 OwnersMove scheme f g = (s : Serial) (a b : Owner) → Owns scheme f s a → Owns scheme g s b → (a ≡ b) ⊎ Moves f g s a b

@@ -17,7 +17,7 @@ pub record Piece : Type 0 where
 abbrev pub same_unit : Serial → Serial → Bool
 same_unit a b = same_code a.origin b.origin && (same_period a.period b.period && (a.number == b.number))
 
--- that many numbers, from the first on
+-- a given number of consecutive numbers, from the first on
 abbrev pub up_from : ℕ → ℕ → List ℕ
 up_from first zero = []
 up_from first (suc count) = first ∷ up_from (suc first) count

@@ -1,5 +1,5 @@
--- What falls short of an order: each record is recorded on the ones before it, and each received message is among all
--- that its sender sends.
+-- A condition weaker than an order: each record is recorded after the ones before it, and each received message is
+-- among all that its sender sends.
 use Rattle.std.specs.Prelude.{◌≡◌, false, List, [], ◌∷◌}
 use Rattle.units.specs.declared.code.Node.{Node}
 use Rattle.wire.specs.declared.input.Input.{Input}

@@ -1,4 +1,4 @@
--- The codes by which a verdict refuses.
+-- The codes with which a verdict refuses.
 use Rattle.std.specs.Prelude.{◌≡◌, ℕ, List, [], ◌∷◌, Contains}
 use Rattle.units.specs.RefusalCodes.{other_addressee, sender_not_allowed, wrong_party, other_content, no_row, unknown_transaction, journal_full}
 use Rattle.units.specs.declared.code.Node.{Node}
@@ -11,15 +11,15 @@ use Rattle.protocol.specs.Deciding.{IsRefused}
 use Rattle.protocol.specs.History.{Entry}
 use Rattle.protocol.specs.Verdict.{verdict}
 
--- no verdict refuses by that code
+-- no verdict refuses with that code
 abbrev pub NeverRefusedBy : ℕ → Type 0
 NeverRefusedBy code = (scheme : Scheme) (n : Node) (es : List Entry) (input : Input) → verdict scheme n es input ≡ IsRefused code → ⊥
 
--- a message is refused only by one of those codes
+-- a message is refused only with one of those codes
 abbrev pub MessagesRefusedBy : List ℕ → Type 0
 MessagesRefusedBy allowed =
     (scheme : Scheme) (n : Node) (es : List Entry) (m : Message) (moment : Moment) (code : ℕ) → verdict scheme n es (Received m moment) ≡ IsRefused code → Contains allowed code
 
--- why a message may be refused
+-- the codes with which a message may be refused
 abbrev pub message_codes : List ℕ
 message_codes = other_addressee ∷ sender_not_allowed ∷ wrong_party ∷ other_content ∷ no_row ∷ unknown_transaction ∷ journal_full ∷ []

@@ -1,4 +1,4 @@
--- What the scheme says of a registry, and the scheme's nodes by their indices.
+-- The facts that the scheme has about a registry, and the scheme's nodes by their indices.
 use Rattle.std.specs.Prelude.{ℕ, Bool, true, false, List, ◌∷◌, map, Option, is_some}
 use Rattle.std.specs.List.{list_any, position_from}
 use Rattle.std.specs.Option.{option_map_or}

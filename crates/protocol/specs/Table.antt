@@ -1,4 +1,4 @@
--- What a table says of a world: its transactions, in their order, and which of them owe their units.
+-- The table of a world: its transactions, in their order, and which of them owe their units.
 use Rattle.std.specs.Prelude.{◌&&◌, not, Bool, List, filter, flat_map, Option, Some, None}
 use Rattle.std.specs.List.{filter_map}
 use Rattle.units.specs.declared.code.Node.{Node}

@@ -1,4 +1,4 @@
--- What becomes of an input at a node's records.
+-- The effect of an input on a node's records.
 use Rattle.std.specs.Prelude.{◌≡◌, Result}
 use Rattle.units.specs.declared.code.Node.{Node}
 use Rattle.units.specs.declared.refusal.Refusal.{Refusal}

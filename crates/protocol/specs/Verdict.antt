@@ -1,4 +1,4 @@
--- What a node returns for an input after a journal, and the history that a journal makes.
+-- The verdict of a node on an input after a journal, and the history that a journal makes.
 use Rattle.std.specs.Prelude.{List, [], ◌∷◌}
 use Rattle.std.specs.List.{fold}
 use Rattle.units.specs.declared.code.Node.{Node}

@@ -1,4 +1,4 @@
--- Journals that some list of events leads to, told by an order of their records.
+-- Journals that some list of events leads to, described by an order of their records.
 use Rattle.std.specs.Prelude.{◌≡◌, ℕ, cond, true, List, [], ◌∷◌, ◌++◌, Contains, Option, Some, slice_get}
 use Rattle.std.specs.Option.{option_map_or}
 use Rattle.units.specs.Code.{same_node}
@@ -37,7 +37,7 @@ abbrev pub journals_of : List Placed → Node → List Input
 journals_of [] n = []
 journals_of (r ∷ rs) n = cond (same_node n r.node) (journals_of rs n ++ r.input ∷ []) (journals_of rs n)
 
--- what is received was sent to this node by the records of its sender so far
+-- a received message was sent to this node by the records of its sender so far
 abbrev pub WasSent : Scheme → (Node → List Input) → Node → Input → Type 0
 WasSent scheme past n (Received m moment) = (m.to ≡ n) × Contains (sends (history scheme m.from (past m.from))) m
 WasSent scheme past n _ = Unit {0}
@@ -56,7 +56,7 @@ InTurn scheme (r ∷ rs) = IsNext scheme (journals_of rs) r × InTurn scheme rs
 abbrev pub ArePrefixes : (past whole : Node → List Input) → Type 0
 ArePrefixes past whole = (n : Node) → (rest : List Input) × (whole n ≡ past n ++ rest)
 
--- a record that is next, and that the journals go on with
+-- a record that is next, and with which the journals go on
 abbrev pub HasNext : Scheme → (past whole : Node → List Input) → Type 0
 HasNext scheme past whole = (r : Placed) × IsNext scheme past r × ((rest : List Input) × (whole r.node ≡ past r.node ++ r.input ∷ rest))
 
@@ -77,7 +77,7 @@ IsStuck w journals =
     (n : Node) (input : Input) (rest : List Input) (e : WorldEvent) (place : ℕ) → journals n ≡ committed_part (station w n) ++ input ∷ rest
     → Gives w e n input → (step w e).outcome ≡ Recorded place → ⊥
 
--- where a stuck world is reached, no events lead to the journals, unless it is there
+-- where a stuck world is reached, no events lead to the journals, unless the world has committed all of them
 abbrev pub StuckIsFinal : World → (Node → List Input) → Type 0
 StuckIsFinal w journals = IsQuiet w → ArePrefixes (λ n. committed_part (station w n)) journals → IsStuck w journals
     → (others : List WorldEvent) → Projects w.scheme others journals → (n : Node) → committed_part (station w n) ≡ journals n

@@ -67,9 +67,9 @@ opening scheme = record {
   bag = [];
 }
 
--- ---- what a node does
+-- ---- the steps of a node
 
--- the node as it is then, and what came of it
+-- the node after the step, and the outcome
 pub record Turn : Type 0 where
   pub station : Station
   pub outcome : Outcome
@@ -153,7 +153,7 @@ posted w n key (Some m) = record {
   outcome = Done;
 }
 
--- a message of the bag comes to its addressee
+-- a message of the bag is delivered to its addressee
 abbrev pub deliver : World → Moment → Option Posted → Stepped
 deliver w moment None = stays w NotPossible
 deliver w moment (Some p) = at_node w (station w p.message.to) (take_input w.scheme (Received p.message moment))

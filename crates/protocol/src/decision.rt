@@ -1,4 +1,4 @@
-//! What the table of a node's role says to an input, before anything has changed.
+//! The decision of a role's table on an input, before anything has changed.
 ghost use Rattle.std.specs.Prelude.{◌≡◌};
 ghost use Rattle.protocol.specs.Decisions.{decided, step_of};
 
@@ -16,7 +16,7 @@ pub enum Stale {
     Late,
 }
 
-/// What the table of a role says to an input that isn't refused.
+/// The decision of a role's table on an input that isn't refused.
 #[derive(Clone, Copy, Debug, PartialEq, Eq)]
 pub enum Decision {
     /// It is to be recorded, and its transaction then has that status.
@@ -26,7 +26,7 @@ pub enum Decision {
 }
 
 impl Decision {
-    /// What that row says. Fails with `NO_ROW` where the table has no such row.
+    /// The decision of the row. Fails with `NO_ROW` where the table has no such row.
     pub fn by_row(row: Row) -> Result<Decision, Refusal>
         ensures { result ≡ decided row }
     {

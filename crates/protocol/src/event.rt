@@ -1,4 +1,4 @@
-//! What happens in a world, and what comes of it.
+//! Events of a world, and their outcomes.
 ghost use Rattle.std.specs.Prelude.{◌≡◌, ◌↔◌, IsTrue};
 ghost use Rattle.protocol.specs.Outcomes.{outcome_of};
 
@@ -94,7 +94,7 @@ pub enum Outcome {
     Repeat,
     /// It came too late to act on.
     Late,
-    /// Refused by that code.
+    /// Refused with that code.
     Refused(u16),
     Done,
     NotPossible,
@@ -116,7 +116,7 @@ impl From<Stepped> for Outcome {
 #[derive(Debug)]
 pub struct Posted {
     pub node: Node,
-    /// Which of the messages that the node sent it is, counted from 0.
+    /// The number of the message among those that the node sent, counted from 0.
     pub key: u64,
     pub message: Message,
 }

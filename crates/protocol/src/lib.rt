@@ -1,7 +1,7 @@
-//! The protocol of transfers, as definitions: what nodes record, return and send, and what a world of
-//! nodes does at each event. Start at `specs/Pieces.antt`; docs/DEFINITIONS.md leads on.
-//! Beside them what is asked of a node's core, acknowledgements taken into its records, journals taken into a core again,
-//! and the nodes of a scheme by their indices.
+//! The protocol of transfers, as definitions: the records, results and messages of nodes, and the steps of a world of
+//! nodes at each event. Start at `specs/Pieces.antt`; docs/DEFINITIONS.md leads on. The crate also has the interface of
+//! a node's core, the recording of acknowledgements, the replay of journals into a core, and the nodes of a scheme by
+//! their indices.
 #![tactic(auto)]
 
 mod decision;
@@ -24,7 +24,7 @@ pub use refusals::refusals_have_causes;
 pub use replay_fault::ReplayFault;
 pub use resuming::{replay, resume};
 
-// What the definitions speak of, for who needs no more of these crates than their types.
+// The crates whose types the definitions use, for users who need only these types.
 pub use records;
 pub use scheme;
 pub use status;

@@ -1,11 +1,11 @@
-//! What is asked of a node's core.
+//! The interface of a node's core.
 
 use records::Records;
 use status::{Status, TransactionId};
 use units::{NoMemory, Node, Refusal};
 use wire::{Input, Message};
 
-/// What a core did with an input.
+/// The result of an input that a core took.
 #[derive(Clone, Copy, Debug, PartialEq, Eq)]
 pub enum Stepped {
     /// It is a record of the journal, at that place, counted from 0.
@@ -17,7 +17,7 @@ pub enum Stepped {
 }
 
 /// The core of a node: a scheme, a node, and its journal, the list of the inputs that it recorded, the oldest first.
-/// All that it returns is what `verdict`, `sends` and `stands` say of the journal's history.
+/// Its results are those of `verdict`, `sends` and `stands` for the journal's history.
 pub trait NodeCore: Drop {
     ghost use Rattle.std.specs.Prelude.{◌≡◌, ℕ, List, [], length, take, slice_get, option_copied, IfErr, IfOk};
     ghost use Rattle.units.specs.RefusalCodes.{out_of_memory};
@@ -29,29 +29,29 @@ pub trait NodeCore: Drop {
     ghost use Rattle.protocol.specs.Cores.{AreRecordsOf, IsExpectedOrNoMemory, Replays, after, answer};
     ghost use Rattle.protocol.specs.Unacknowledged.{IsLeastFrom, awaits};
 
-    /// The scheme that it goes by.
+    /// The scheme of the core.
     ghost scheme_of: { Self → Scheme };
 
-    /// The node that it is the core of.
+    /// The node of the core.
     ghost node_of: { Self → Node };
 
     /// The inputs that it recorded, the oldest first.
     ghost journal_of: { Self → List Input };
 
-    /// That core lacked the memory to take the input. Only `step` says so.
+    /// The core lacked the memory to take the input. `step` ensures this where it fails with `OUT_OF_MEMORY`.
     ghost lacked_memory: { Self → Input → Type 0 };
 
-    /// The node that it is the core of.
+    /// The node of the core.
     fn node(&self) -> Node
         ensures { result ≡ node_of self.now };
 
-    /// Its journal, with what each record did to the node's messages.
+    /// Its journal, with the effect of each record on the node's messages.
     fn recorded(&self) -> &Records
         ensures { AreRecordsOf (scheme_of self.now) (node_of self.now) (journal_of self.now) result.now };
 
-    /// Takes an input, and returns what is expected after the journal: it is recorded, at the place that is
-    /// returned, or it is a repeat, or late, or it is refused for the reason that the code tells. Refusal
-    /// `OUT_OF_MEMORY` may come in place of any of these. Where the input isn't recorded, nothing has changed.
+    /// Takes an input, and returns the result that is expected after the journal: the input is recorded, at the place
+    /// that is returned, or it is a repeat, or late, or it is refused with the code of the reason. Refusal
+    /// `OUT_OF_MEMORY` may be returned in place of any of these. Where the input isn't recorded, nothing has changed.
     fn step(&mut self, input: &Input) -> Result<Stepped, Refusal>
         ensures memory { IfErr result (λ refusal. refusal.code ≡ out_of_memory → lacked_memory self.old input.now) }
         ensures answer { IsExpectedOrNoMemory result

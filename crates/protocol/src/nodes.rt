@@ -1,4 +1,4 @@
-//! The nodes of a scheme and their indices: the log, then the registries in the scheme's order; and which node one is.
+//! The nodes of a scheme and their indices: the log, then the registries in the scheme's order; and tests of a node.
 ghost use Rattle.std.specs.Prelude.{◌≡◌, ◌<◌, IfOk, Some, length, slice_get};
 ghost use Rattle.units.specs.Code.{same_node};
 ghost use Rattle.units.specs.declared.code.Node.TheVariants.{Itl, Registry};
@@ -35,7 +35,7 @@ pub fn index_of(scheme: &Scheme, node: Node) -> Option<usize>
     }
 }
 
-/// The node at that index among the nodes of the scheme, of which there are more than that.
+/// The node at that index among the nodes of the scheme. The index must be less than their number.
 pub fn node_at(scheme: &Scheme, index: usize) -> Node
     requires { index < length (nodes scheme.now) }
     ensures { slice_get (nodes scheme.now) index ≡ Some result }

@@ -1,4 +1,4 @@
-//! What every node does with its records.
+//! Acknowledgements, which every node records in the same way.
 ghost use Rattle.std.specs.Prelude.{◌≡◌};
 ghost use Rattle.units.specs.declared.code.Node.{Node};
 ghost use Rattle.wire.specs.declared.input.Input.TheVariants as inputs;
@@ -13,8 +13,8 @@ use units::refusal_code::NO_ROW;
 use wire::{Input, Number};
 
 /// Takes an acknowledgement of the message with that key, as each node does: it is recorded, or a repeat where a record
-/// acknowledges that message already. Refused with `NO_ROW` where no message has that key, with `JOURNAL_FULL`, and with
-/// `OUT_OF_MEMORY`; then nothing has changed.
+/// acknowledges that message already. Refused with `NO_ROW` where no message has that key, with `JOURNAL_FULL`, and
+/// with `OUT_OF_MEMORY`; then nothing has changed.
 pub fn acknowledge(
     records: &mut Records,
     scheme: &Scheme,

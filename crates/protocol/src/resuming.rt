@@ -1,4 +1,4 @@
-//! Journals taken into a core again.
+//! Journals replayed into a core.
 ghost use Rattle.std.specs.Prelude.{◌≡◌, ◌-◌, ◌<◌, [], ◌∷◌, ◌++◌, length, take, slice_get, IfOk, IfErr, OnOk, OnErr, Some};
 ghost use Rattle.protocol.specs.Cores.{HasFault, IsAt};
 ghost use Rattle.protocol.specs.declared.replay_fault.ReplayFault.TheVariants.{NoMemory};
@@ -9,7 +9,7 @@ use crate::replay_fault::ReplayFault;
 use units::Refusal;
 use wire::Input;
 
-/// One more record. Where the input isn't recorded, nothing has changed.
+/// Takes one more record. Where the input isn't recorded, nothing has changed.
 fn resume_one<C: NodeCore>(core: &mut C, input: &Input) -> Result<(), ReplayFault>
     ensures scheme { C.scheme_of core.new ≡ C.scheme_of core.old }
     ensures node { C.node_of core.new ≡ C.node_of core.old }
@@ -32,9 +32,9 @@ fn resume_one<C: NodeCore>(core: &mut C, input: &Input) -> Result<(), ReplayFaul
 
 /// Takes each of these inputs into the core, in their order, as a record after its journal.
 ///
-/// Fails with `NotRecorded` at the first of them that the core doesn't record there, which is told by its place in
-/// the whole journal, and with `NoMemory` where the core lacked the memory for one of them. The inputs before that one
-/// are recorded, and no other.
+/// Fails with `NotRecorded` at the first input that the core doesn't record there; the fault has the input's place in
+/// the whole journal. Fails with `NoMemory` where the core lacked the memory for an input. In both cases the inputs
+/// before that one are recorded, and no others.
 pub fn resume<C: NodeCore>(core: &mut C, inputs: &[Input]) -> Result<(), ReplayFault>
     ensures scheme { C.scheme_of core.new ≡ C.scheme_of core.old }
     ensures node { C.node_of core.new ≡ C.node_of core.old }

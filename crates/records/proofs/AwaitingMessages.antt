@@ -1,5 +1,5 @@
--- Messages that aren't acknowledged: their order, what a set of them has after it changed, and the keys of messages
--- among them.
+-- Messages that aren't acknowledged: their order, the messages of a set of them after it changed, and the keys of
+-- messages among them.
 use Rattle.std.proofs.Common.{◌≡◌, inl, inr, ℕ, zero, suc, ◌+◌, ◌<◌, ◌≤◌, ◌==◌, ◌&&◌, ◌||◌, not, Bool, true, false, List, [], ◌∷◌, ◌++◌, length, Option, Some, None, cond, take, get_or, add-one, refl, sym, ap, subst, ◌∙◌, arith}
 use Rattle.std.specs.List.{slice_get}
 use Rattle.std.specs.Option.{option_map_or}

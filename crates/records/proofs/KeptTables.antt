@@ -1,4 +1,4 @@
--- What an outbox keeps after one record more, and after the last one is taken back.
+-- The tables of an outbox after one record more, and after the last one is taken back.
 use Rattle.std.proofs.Common.{◌≡◌, inl, inr, ℕ, zero, suc, ◌+◌, ◌<◌, ◌≤◌, ◌==◌, ◌&&◌, ◌||◌, not, Bool, true, false, cond, List, [], ◌∷◌, ◌++◌, take, drop, get_or, length, Option, Some, None, refl, sym, ap, subst, ◌∙◌, arith, length-append, append-nil, take-append-drop, zero-add}
 use Rattle.std.specs.BTreeSet.{BTreeSet, contains}
 use Rattle.std.specs.List.{slice_get}
@@ -40,7 +40,7 @@ pub not_true : (b : Bool) → (b ≡ true → ⊥) → b ≡ false
 not_true true h = absurd (h refl)
 not_true false h = refl
 
--- what a set says of a message to a node
+-- whether a set has a message to a node
 pub at_unacknowledged : (ps : BTreeSet Unacknowledged) (ms : List Message) (acked : ℕ → Bool) (n : Node) (key : ℕ) → ((q : Unacknowledged) → contains unacknowledged_cmp ps q ≡ awaits ms acked (peer_of q.registry) q.key)
     → contains unacknowledged_cmp ps (unacknowledged_of n key) ≡ awaits ms acked n key
 at_unacknowledged ps ms acked Itl key h = h (unacknowledged_of Itl key)
@@ -218,7 +218,7 @@ taken_back rs' rs (Some r) ms ps qs earlier last kept records empty ends out =
       };
     }
 
--- by a start that is told apart
+-- for a start that is given by an equation
 pub back_at : (rs' rs : List Record) (popped : Option Record) (ms ms' : List Message) (ps qs : BTreeSet Unacknowledged) (start : ℕ) (earlier : List Sent) (last : List Message) → IsKept (sent_in 0 rs ms) rs ms ps
     → rs ≡ rs' ++ option_to_list popped → (popped ≡ None → length rs ≡ 0) → sent_in 0 rs ms ≡ earlier ++ Sends last ∷ [] → start ≡ total 0 rs' → ms' ≡ take start ms
     → ((q : Unacknowledged) → contains unacknowledged_cmp qs q ≡ (contains unacknowledged_cmp ps q && not (among start (drop start ms) q))) → Next rs' ms' qs earlier

@@ -51,7 +51,7 @@ module _ (ps : BTreeSet Unacknowledged) (ms : List Message) (acked : ℕ → Boo
     λ k h below. not_true (awaits ms acked n k) (λ waits. let up : first.key ≤ k = key_below n first from k same (above first rest k range h waits) in omega arith),
   )
 
--- by what each record did
+-- by the effect of each record
 pub seen : (rs : List Record) (ms : List Message) (S : List Sent) (n : Node) (from : ℕ) (o : Option ℕ) → sent_in 0 rs ms ≡ S → AreCounts 0 rs (length ms)
     → IsLeastFrom (awaits ms (is_key_acknowledged (sent_in 0 rs ms)) n) from o → IsLeastFrom (awaits (messages S) (is_key_acknowledged S) n) from o
 seen rs ms S n from o view counted least =

@@ -1,4 +1,4 @@
--- What records did by the tables of an outbox: all messages, one record more, the first records, the last record
+-- The effects of records by the tables of an outbox: all messages, one record more, the first records, the last record
 -- taken back.
 use Rattle.std.proofs.Common.{◌≡◌, ℕ, zero, suc, ◌+◌, ◌-◌, ◌<◌, ◌≤◌, ◌||◌, Bool, true, false, List, [], ◌∷◌, ◌++◌, take, drop, length, Option, Some, None, refl, sym, ap, subst, ◌∙◌, arith, length-drop, length-append, append-nil, take-append-drop, zero-add}
 use Rattle.std.proofs.lemmas.Bool.{true≢false, eqb-true}

@@ -22,11 +22,11 @@ abbrev pub peer_of : Option Code → Node
 peer_of None = Itl
 peer_of (Some c) = Registry c
 
--- the message with that key is that one
+-- the message with that key is the given one
 abbrev pub is_at : ℕ → Message → Unacknowledged → Bool
 is_at key m q = same_node m.to (peer_of q.registry) && (key == q.key)
 
--- one of the messages is that one, where their keys go up from that one
+-- the given one is among the messages, whose keys go up from that key
 abbrev pub among : ℕ → List Message → Unacknowledged → Bool
 among start [] q = false
 among start (m ∷ ms) q = is_at start m q || among (suc start) ms q

@@ -1,4 +1,4 @@
--- What an outbox keeps, and what its records did by that.
+-- The tables of an outbox, and the effects of its records by them.
 use Rattle.std.specs.Prelude.{◌≡◌, ℕ, ◌-◌, ◌<◌, ◌≤◌, List, [], ◌∷◌, length, take, drop, Option, Some, None}
 use Rattle.std.specs.BTreeSet.{BTreeSet, contains}
 use Rattle.records.specs.Unacknowledged.{awaits}
@@ -12,7 +12,7 @@ abbrev pub act : Option ℕ → List Message → Sent
 act None ms = Sends ms
 act (Some key) ms = Acknowledges key
 
--- what records did with these messages, where that many were sent before
+-- the effects of the records on these messages, with the given number of messages sent before
 abbrev pub sent_in : ℕ → List Record → List Message → List Sent
 sent_in before [] ms = []
 sent_in before (r ∷ rs) ms = act r.acknowledges (take (r.sends - before) ms) ∷ sent_in r.sends rs (drop (r.sends - before) ms)
@@ -24,7 +24,7 @@ abbrev pub IsSentBefore : Option ℕ → ℕ → ℕ → Type 0
 IsSentBefore None before sends = Unit {0}
 IsSentBefore (Some key) before sends = (sends ≡ before) × (key < before)
 
--- the records count the messages, and acknowledge what was sent
+-- the records count the messages, and acknowledge messages that were sent
 abbrev pub AreCounts : ℕ → List Record → ℕ → Type 0
 AreCounts before [] all = before ≡ all
 AreCounts before (r ∷ rs) all = (before ≤ r.sends) × IsSentBefore r.acknowledges before r.sends × AreCounts r.sends rs all

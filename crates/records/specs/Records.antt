@@ -1,11 +1,11 @@
--- A journal, with what each of its records did to its node's messages.
+-- A journal, with the effect of each of its records on its node's messages.
 use Rattle.std.specs.Prelude.{◌≡◌, ◌⊎◌, ℕ, nat_le, true, false, List, [], ◌∷◌, ◌++◌, length, Result, Ok, Err}
 use Rattle.units.specs.RefusalCodes.{journal_full, out_of_memory}
 use Rattle.units.specs.declared.refusal.Refusal.{Refusal}
 use Rattle.wire.specs.declared.input.Input.{Input}
 use Rattle.records.specs.Sending.{Sent}
 
--- the inputs that were recorded, and what each record did, the oldest first
+-- the inputs that were recorded, and the effect of each record, the oldest first
 pub record RecordsView : Type 0 where
   pub inputs : List Input
   pub sent : List Sent

@@ -1,4 +1,4 @@
--- What the records of a journal did to a node's messages, the oldest first.
+-- The effects of the records of a journal on a node's messages, the oldest first.
 use Rattle.std.specs.Prelude.{◌≡◌, ℕ, ◌==◌, Bool, false, List, [], ◌∷◌, ◌++◌, flat_map}
 use Rattle.std.specs.List.{list_any}
 use Rattle.wire.specs.declared.message.Message.{Message}

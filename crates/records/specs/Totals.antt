@@ -2,7 +2,7 @@
 use Rattle.std.specs.Prelude.{ℕ, List, [], ◌∷◌}
 use Rattle.records.specs.declared.record.Record.{Record}
 
--- how many messages there are after the records, with that many before
+-- the number of messages after the records, with the given number before
 abbrev pub total : ℕ → List Record → ℕ
 total before [] = before
 total before (r ∷ rs) = total r.sends rs

@@ -1,4 +1,4 @@
-//! Which messages aren't acknowledged, by the node that they go to.
+//! The messages that aren't acknowledged, by the node that they go to.
 ghost use Rattle.std.specs.Prelude.{◌≡◌, ◌+◌, ◌^◌, ◌<◌, ◌≤◌, ◌||◌, ◌&&◌, not, false, drop, length, OnOk, OnErr};
 ghost use Rattle.std.specs.BTreeSet.{contains};
 ghost use Rattle.records.specs.Awaiting.{among, unacknowledged_cmp, unacknowledged_of};
@@ -25,7 +25,7 @@ pub(crate) fn unacknowledged_of(node: Node, key: usize) -> Unacknowledged
     }
 }
 
-/// Takes these messages out, whose keys go up from `start`. Takes no memory.
+/// Takes these messages out. Their keys go up from `start`. Takes no memory.
 pub(crate) fn forget_all(
     unacknowledged: &mut BTreeSet<Unacknowledged>,
     start: usize,
@@ -40,7 +40,7 @@ pub(crate) fn forget_all(
     }
 }
 
-/// Takes the messages from key `start` on out. Takes no memory.
+/// Takes out the messages from key `start` on. Takes no memory.
 pub(crate) fn forget_from(
     unacknowledged: &mut BTreeSet<Unacknowledged>,
     start: usize,
@@ -53,8 +53,8 @@ pub(crate) fn forget_from(
     forget_all(unacknowledged, start, &messages[start..]);
 }
 
-/// Puts these messages in, whose keys go up from `start`, above all keys that are there; or fails with
-/// `NoMemory`, and nothing has changed.
+/// Puts these messages in. Their keys go up from `start`, above all keys that are there. After `NoMemory` nothing has
+/// changed.
 pub(crate) fn await_all(
     unacknowledged: &mut BTreeSet<Unacknowledged>,
     start: usize,

@@ -15,7 +15,7 @@ use units::{NoMemory, Node};
 use wire::Message;
 
 /// The messages that the records of a node's journal send, numbered in order from 0, and which of them were
-/// acknowledged. In contracts it is the list of what each record did, the oldest first.
+/// acknowledged. In contracts it is the list of the effects of the records, the oldest first.
 #[derive(Debug)]
 pub struct Outbox {
     messages: Vec<Message>,
@@ -71,8 +71,7 @@ impl Outbox {
         }
     }
 
-    /// One record more, which sends these messages: their keys go up from `sends`. Fails with `NoMemory`, and nothing
-    /// has changed.
+    /// Adds a record that sends these messages. Their keys go up from `sends`. After `NoMemory` nothing has changed.
     pub fn record(&mut self, mut messages: Vec<Message>) -> Result<(), NoMemory>
         ensures ok { OnOk result (self.new ≡ self.old ++ Sends messages.items ∷ []) }
         ensures err { OnErr result (self.new ≡ self.old) }
@@ -91,7 +90,7 @@ impl Outbox {
         Ok(())
     }
 
-    /// One record more, which acknowledges the message with that key. Fails with `NoMemory`, and nothing has changed.
+    /// Adds a record that acknowledges the message with that key. After `NoMemory` nothing has changed.
     pub fn acknowledge(&mut self, key: usize) -> Result<(), NoMemory>
         requires { key < length (sending.messages self.old) }
         ensures ok { OnOk result (self.new ≡ self.old ++ Acknowledges key ∷ []) }
@@ -107,7 +106,7 @@ impl Outbox {
         Ok(())
     }
 
-    /// Takes the last record back, which sends messages, as if `record` hadn't been called. Takes no memory.
+    /// Removes the last record, which sends messages, as if `record` hadn't been called. Takes no memory.
     pub fn take_back(&mut self)
         requires { EndsWithMessages self.old }
         ensures { (earlier : List Sent) (last : List Message) → self.old ≡ earlier ++ Sends last ∷ []

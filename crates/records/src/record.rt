@@ -1,15 +1,15 @@
-//! Records, by what they did to the messages.
+//! Records, by their effect on the messages.
 ghost use Rattle.std.specs.Prelude.{◌≡◌, option_copied, slice_get};
 ghost use Rattle.records.specs.Totals.{total};
 
-/// What a record did: how many messages there were after it, and which of them it acknowledges, if it does.
+/// The effect of a record: the number of messages after it, and the message that it acknowledges, if any.
 #[derive(Clone, Copy, Debug, PartialEq, Eq)]
 pub(crate) struct Record {
     pub sends: usize,
     pub acknowledges: Option<usize>,
 }
 
-/// How many messages there are after these records.
+/// The number of messages after these records.
 pub(crate) fn sends_after(records: &[Record]) -> usize
     ensures { result ≡ total 0 records.now }
 {

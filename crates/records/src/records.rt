@@ -1,4 +1,4 @@
-//! A journal with what it sent.
+//! A journal with the messages that it sent.
 ghost use Rattle.std.specs.Prelude.{◌≡◌, ◌⊎◌, ◌<◌, List, [], true, false, nat_le, length, take, slice_get, option_copied, IfOk, IfErr, OnOk, vec_capacity, vec_len};
 ghost use Rattle.units.specs.RefusalCodes.{journal_full, out_of_memory};
 ghost use Rattle.wire.specs.declared.input.Input.{Input};
@@ -16,8 +16,8 @@ use units::refusal_code::JOURNAL_FULL;
 use units::{NoMemory, Node, Refusal};
 use wire::{Input, Message};
 
-/// The inputs that a node has recorded, the oldest first, and what each record did to the node's messages: it sends
-/// some, which are numbered in order from 0, or acknowledges one.
+/// The inputs that a node has recorded, the oldest first, and the effect of each record on the node's messages: it
+/// sends some, which are numbered in order from 0, or acknowledges one.
 #[derive(Debug)]
 pub struct Records {
     inputs: Vec<Input>,
@@ -44,8 +44,8 @@ impl Model for Records {
     ghost invariant = { λ r. length r.inputs.items ≡ length r.outbox };
 }
 
-/// A copy of the input, for which the journal has room afterwards. Refused with `JOURNAL_FULL` where it has as many
-/// records as the scheme allows, and with `OUT_OF_MEMORY`. The journal keeps its records.
+/// A copy of the input, for which the journal has room afterwards. Refused with `JOURNAL_FULL` where the journal has
+/// the number of records that the scheme allows, and with `OUT_OF_MEMORY`. The journal keeps its records.
 fn fitting(journal: &mut Vec<Input>, scheme: &Scheme, input: &Input) -> Result<Input, Refusal>
     ensures items { journal.new.items ≡ journal.old.items }
     ensures room { OnOk result (vec_len journal.new < vec_capacity journal.new) }
@@ -82,7 +82,7 @@ impl Records {
     }
 
     /// Records a copy of the input, which sends these messages: their keys go up from `sends`. Returns the record's
-    /// place. Refused with `JOURNAL_FULL` where there are as many records as the scheme allows, and with
+    /// place. Refused with `JOURNAL_FULL` where the journal has the number of records that the scheme allows, and with
     /// `OUT_OF_MEMORY`; then nothing has changed.
     #[inline(always)]
     pub fn admit(
@@ -130,7 +130,7 @@ impl Records {
         Ok(place)
     }
 
-    /// Takes the last record back, which sends messages, as if it hadn't been admitted. Takes no memory.
+    /// Removes the last record, which sends messages, as if it hadn't been admitted. Takes no memory.
     pub fn take_back(&mut self)
         requires { EndsWithMessages self.old.sent }
         ensures { (earlier : RecordsView) (input : Input) (messages : List Message)

@@ -1,4 +1,4 @@
--- What a registry's tables say, seen from outside: its unit holdings and accounts, and inputs that it never records.
+-- A registry's tables, seen from outside: its unit holdings and accounts, and inputs that it never records.
 use Rattle.std.specs.FinMap as map
 use Rattle.std.proofs.Common.{◌≡◌, ℕ, ◌+◌, ◌≤◌, Bool, true, false, cond, Option, Some, None, List, Err, inl, inr, refl, sym, ap, subst, ◌∙◌, arith}
 use Rattle.std.specs.List.{count_by}

@@ -1,4 +1,5 @@
--- What a recorded input asks for may be carried out: what is new has no row yet, and what completes can be credited.
+-- The effect that a recorded input asks for may be carried out: a new transaction has no row yet, and a completed one
+-- can be credited.
 use Rattle.std.specs.FinMap as map
 use Rattle.std.proofs.Common.{Bool, List, None, Option, Some, [], ap, cond, false, inl, not, refl, subst, sym, true, ◌∙◌, ◌∷◌, ◌≡◌}
 use Rattle.std.specs.Prelude.{option_map}

@@ -1,4 +1,4 @@
--- The tables say of the longer history what they said of the shorter one: after one record more that makes a
+-- The tables are readings of the longer history as they were of the shorter one: after one record more that makes a
 -- transition, once its effect is carried out.
 use Rattle.std.specs.FinMap as map
 use Rattle.std.proofs.Common.{Bool, List, None, Option, Some, [], ap, cond, false, inl, inr, not, refl, subst, sym, true, ℕ, ◌&&◌, ◌++◌, ◌+◌, ◌||◌, ◌∙◌, ◌∷◌, ◌≡◌}

@@ -1,5 +1,5 @@
--- The tables say of the longer history what they said of the shorter one: after an order on an account, after an
--- acknowledgement, and after any effect. And they say it of no record at all.
+-- The tables are readings of the longer history as they were of the shorter one: after an order on an account, after an
+-- acknowledgement, and after any effect. They are readings of the empty history too.
 use Rattle.std.specs.FinMap as map
 use Rattle.std.proofs.Common.{List, None, Option, Some, [], ap, cond, false, refl, subst, sym, true, ℕ, ◌++◌, ◌==◌, ◌∙◌, ◌∷◌, ◌≡◌}
 use Rattle.std.specs.Prelude.{if◌then◌else◌, option_map}

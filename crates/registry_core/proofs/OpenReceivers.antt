@@ -1,5 +1,5 @@
--- An account into which a transfer stands Accepted is open: it was open when the transfer was accepted, and a close
--- is refused while one is awaited. So what completes can be credited.
+-- An account into which a transfer stands Accepted is open: it was open when the transfer was accepted, and a close is
+-- refused while one is awaited. A completed transfer can therefore be credited.
 use Rattle.status.specs.declared.status.Status.TheVariants.{Accepted, Cancelled, Completed}
 use Rattle.wire.specs.declared.input.Input.TheVariants.{Ack, CleanUp, CloseAccount, Eligible, OpenAccount, Propose, Received, Request}
 use Rattle.std.proofs.Common.{Bool, List, None, Some, [], ap, cond, false, inl, inr, refl, subst, sym, true, ℕ, ◌==◌, ◌∙◌, ◌∷◌, ◌≡◌}

@@ -1,4 +1,4 @@
--- What a role decided for an input, beside the verdict on it; and what the tables do by that.
+-- The decision of a role on an input, and the verdict on it; and the change of the tables by the decision.
 use Rattle.std.proofs.Common.{append-nil, ◌≡◌, ◌+◌, ◌⊎◌, ℕ, cond, true, false, List, [], ◌∷◌, Some, None, Ok, Err, inl, inr, refl, sym, ap, subst, ◌∙◌}
 use Rattle.std.specs.FinMap.{get}
 use Rattle.std.specs.List.{list_any}
@@ -109,7 +109,7 @@ moves_new t (Some x) found new h = go x.content refl
         (acquirer_offered (record { id = t; new = x.status; content = Some k; moment = 0; messages = [] }) found new
         (subst (λ (o : Option Content). acquirer_row (acquirer.known_of (record x { content = o })) (column_of_proposal o found) ≡ Move new) is h))
 
--- ---- what the roles decide
+-- ---- the decisions of the roles
 
 module _ {scheme : Scheme} {c : Code} {tables : Tables} (kept : IsKept scheme c tables) where
   -- an order to transfer units that isn't refused, under the next identifier
@@ -239,7 +239,7 @@ module _ {scheme : Scheme} {c : Code} {tables : Tables} (kept : IsKept scheme c 
   abbrev finish_row_of : NotificationMessage → Row
   finish_row_of n = unless_held (is_held (holding scheme c (past scheme c tables)) n) (acquirer_row (acquirer.known_transfer (get tables.acquirer.transfers n.id)) (Notified (notified_status n.notified)))
 
-  -- what the acquirer says to one of that status
+  -- the acquirer's decision on one of that status
   abbrev pub AreDecided : NotificationMessage → Status → Result Decision Refusal → Type 0
   AreDecided n told d = (q : Holding) → Knows scheme tables.acquirer.code tables.holdings q → d ≡ decided (unless_held (is_held q n) (acquirer_row (acquirer.known_transfer (get tables.acquirer.transfers n.id)) (Notified told)))
 

@@ -88,7 +88,7 @@ module _ (scheme : Scheme) (c : Code) (tables : Tables) (kept : IsKept scheme c 
         | inr other ↦ foreign_request t other
       ]
 
-  -- ---- messages that aren't refused for what they are
+  -- ---- messages that aren't refused before the tables are consulted
 
   pub arrive_row : (p : ProposalMessage) (moment : Moment) (found : List ℕ) → first_of (registry_refusals c es (message.proposal p)) ≡ None → same_code p.id.code c ≡ false → found ≡ acquirer_findings scheme c (holding scheme c es) p.content
       → verdict_by_rules scheme c tables (Received (message.proposal p) moment)

@@ -1,5 +1,5 @@
--- What a registry's two roles are asked of a transaction, and of the accounts that are awaited, is what its history
--- says.
+-- The facts that a registry's two roles give about a transaction, and about the accounts that are awaited, are those of
+-- its history.
 use Rattle.std.specs.FinMap as map
 use Rattle.std.proofs.Common.{Bool, List, None, Option, Some, ap, cond, false, inl, inr, not, refl, sym, true, ℕ, ◌∙◌, ◌≡◌}
 use Rattle.std.specs.Prelude.{is_some, option_map}

@@ -1,4 +1,4 @@
--- What tables have done with an input: nothing, where it is refused or was acted on before, or one record more.
+-- The change of tables by an input: none, where it is refused or was acted on before, or one record more.
 use Rattle.std.proofs.Common.{◌≡◌, ℕ, Ok, Err, refl, sym, ap, subst, ◌∙◌}
 use Rattle.std.specs.FinMap as map
 use Rattle.std.specs.Prelude.{Result}
@@ -21,7 +21,7 @@ use Rattle.registry_core.specs.Kept.{AreKept, IsKept}
 use Rattle.registry_core.specs.Taking.{Takes, verdict_by_rules}
 use Rattle.registry_core.specs.declared.tables.Tables.{Tables}
 
--- tables that say the same
+-- tables with the same contents
 pub record AreSame (tables tables' : Tables) : Type 0 where
   pub scheme : tables'.scheme ≡ tables.scheme
   pub code : tables'.code ≡ tables.code
@@ -70,7 +70,7 @@ module _ (scheme : Scheme) (c : Code) where
   pub takes_refused : (tables tables' : Tables) (input : Input) (r : Refusal) → IsKept scheme c tables → AreSame tables tables' → GivenUp tables input r.code → Takes scheme c tables tables' input (Err r)
   takes_refused tables tables' input r h same why = takes_same tables tables' input (Err r) h same (records.refused_into scheme (Registry c) tables.records tables'.records input r h.records same.records why)
 
-  -- as `?` gives an error on
+  -- as `?` returns an error
   pub takes_err : (tables tables' : Tables) (input : Input) (result : Result Stepped Refusal) (P : Refusal → Type 0) → IsKept scheme c tables → AreSame tables tables' → IsErrAnd result P → ((r : Refusal) → P r → GivenUp tables input r.code)
       → Takes scheme c tables tables' input result
   takes_err tables tables' input result P h same e why = takes_same tables tables' input result h same (records.err_into scheme (Registry c) tables.records tables'.records input result P h.records same.records e why)

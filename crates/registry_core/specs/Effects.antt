@@ -1,4 +1,4 @@
--- What the tables do for a transition. No public contract cites it.
+-- The effects of a transition on the tables. No public contract cites it.
 use Rattle.std.specs.Prelude.{◌≡◌, ℕ, ◌==◌, not, Bool, true, false, cond, List, [], ◌∷◌, Option, Some, None, option_map, if◌then◌else◌}
 use Rattle.std.specs.FinMap as map
 use Rattle.std.specs.Option.{option_or}
@@ -33,7 +33,7 @@ use Rattle.registry_core.specs.declared.effect.RegistryEffect.{RegistryEffect}
 use Rattle.registry_core.specs.declared.effect.RegistryEffect.TheVariants.{Open, Ask, Conclude, Arrive, Forestall, Complete, Cancel}
 use Rattle.registry_core.specs.declared.effect.RegistryEffect.TheVariants as effects
 
--- the effect is what a transition by a message with that body about that transaction asks for
+-- a transition by a message with that body about that transaction asks for this effect
 abbrev pub IsEffectOf : Code → List Entry → TransactionId → Body → Transition → RegistryEffect → Type 0
 IsEffectOf c es t (body.Proposal p) x (Arrive id new content) = (t ≡ id) × (x.new ≡ new) × (p.content ≡ content)
 IsEffectOf c es t (body.Notification n) x (Conclude id new) = (t ≡ id) × (x.new ≡ new) × (is_own c id ≡ true)
@@ -42,33 +42,33 @@ IsEffectOf c es t (body.Notification n) x (Complete id) = (t ≡ id) × (x.new �
 IsEffectOf c es t (body.Notification n) x (Cancel id) = (t ≡ id) × (x.new ≡ Cancelled) × (is_foreign c id ≡ true) × (is_known (transitions_of es) id ≡ true)
 IsEffectOf c es t _ x _ = ⊥
 
--- the effect is what a transition by that input asks for
+-- a transition by that input asks for this effect
 abbrev pub IsEffect : Code → List Entry → Input → Transition → RegistryEffect → Type 0
 IsEffect c es (Propose o) x (Open new_transfer) = (x.id ≡ new_transfer.id) × (x.content ≡ Some new_transfer.content)
 IsEffect c es (Request t) x (Ask id) = t ≡ id
 IsEffect c es (Received m moment) x effect = IsEffectOf c es m.id m.body x effect
 IsEffect c es _ x _ = ⊥
 
--- the effect is what a record of that input with these transitions asks for
+-- a record of that input with these transitions asks for this effect
 abbrev pub AreEffects : Code → List Entry → Input → List Transition → RegistryEffect → Type 0
 AreEffects c es input (x ∷ []) effect = IsEffect c es input x effect
 AreEffects c es (OpenAccount n) [] (effects.OpenAccount account) = n.value ≡ account
 AreEffects c es (CloseAccount n) [] (effects.CloseAccount account) = n.value ≡ account
 AreEffects c es input _ effect = ⊥
 
--- what ends a transfer to the registry, which it may know
+-- the effect that ends a transfer to the registry, which the registry may know or not
 abbrev pub ending : Bool → TransactionId → Status → RegistryEffect
 ending false id new = Forestall id
 ending true id new = cond (same_status new Completed) (Complete id) (Cancel id)
 
--- the holdings allow what a new transfer, or an order on an account, asks for
+-- the holdings allow the new transfer, or the order on an account
 abbrev pub IsAllowed : RegistryEffect → HoldingsView → Type 0
 IsAllowed (Open new_transfer) held = (blocks : List Block) → raws blocks ≡ new_transfer.content.units → MayReserve held new_transfer.content.account blocks
 IsAllowed (effects.OpenAccount account) held = map.get held.accounts account ≡ Some accounts.Closed
 IsAllowed (effects.CloseAccount account) held = (map.get held.accounts account ≡ Some accounts.Open) × (HasUnits held account → ⊥)
 IsAllowed _ held = Unit {0}
 
--- what an effect may be carried out on
+-- the tables that an effect may be carried out on
 abbrev pub MayCarry : RegistryEffect → InitiatorView → AcquirerView → HoldingsView → Type 0
 MayCarry (Open new_transfer) i a held = (map.get i.transfers new_transfer.id ≡ None) × IsAllowed (Open new_transfer) held
 MayCarry (Arrive id new content) i a held = map.get a.transfers id ≡ None
@@ -76,13 +76,13 @@ MayCarry (Forestall id) i a held = map.get a.transfers id ≡ None
 MayCarry (Complete id) i a held = (k : Content) → acquirer.kept_content (map.get a.transfers id) ≡ Some k → MayCredit held k
 MayCarry effect i a held = IsAllowed effect held
 
--- ---- what an effect leaves
+-- ---- the tables after an effect
 
 -- one transaction changed, and no other
 abbrev pub ChangedAt : {X : Type 0} → TransactionId → (Option X → Option X) → map.FinMap id_cmp X → map.FinMap id_cmp X → Type 0
 ChangedAt id change m m' = (t : TransactionId) → map.get m' t ≡ (if same_id id t then change (map.get m t) else map.get m t)
 
--- the accounts are as they were, and each unit's holding is as told
+-- the accounts are as they were, and each unit has the given holding
 abbrev pub UnitHoldingsAre : HoldingsView → HoldingsView → (Serial → Option UnitHolding) → Type 0
 UnitHoldingsAre held held' unit_holding = (held'.accounts ≡ held.accounts) × ((s : Serial) → map.get held'.unit_holdings s ≡ unit_holding s)
 

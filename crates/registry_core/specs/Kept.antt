@@ -1,4 +1,4 @@
--- What a registry's tables say of its history. No public contract cites it.
+-- A registry's tables as readings of its history. No public contract cites it.
 use Rattle.std.specs.Prelude.{◌≡◌, ℕ, List}
 use Rattle.std.specs.FinMap as map
 use Rattle.units.specs.declared.block.Unit.{Unit as Serial}
@@ -23,7 +23,7 @@ pub record AreKept (scheme : Scheme) (c : Code) (es : List Entry) (tables : Tabl
   pub acquirer : tables.acquirer.code ≡ c
   pub foreign : (t : TransactionId) → map.get tables.acquirer.transfers t ≡ row_at (is_foreign c) foreign_row (transitions_of es) t
 
--- of the history of its records
+-- the tables are readings of the history of their records
 pub record IsKept (scheme : Scheme) (c : Code) (tables : Tables) : Type 0 where
   pub records : AreRecordsOf scheme (Registry c) tables.records.inputs tables.records
   pub kept : AreKept scheme c (history scheme (Registry c) tables.records.inputs) tables

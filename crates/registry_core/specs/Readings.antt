@@ -1,4 +1,4 @@
--- What a registry's tables keep of a transaction, read off its history. No public contract cites it.
+-- The rows that a registry's tables keep of a transaction, read off its history. No public contract cites it.
 use Rattle.std.specs.Prelude.{not, cond, Bool, List, Option, None, option_map}
 use Rattle.units.specs.Code.{same_code}
 use Rattle.units.specs.declared.code.Code.{Code}
@@ -19,7 +19,7 @@ is_own c t = same_code t.code c
 abbrev pub is_foreign : Code → TransactionId → Bool
 is_foreign c t = not (same_code t.code c)
 
--- what the initiator and the acquirer keep of a transaction
+-- the rows that the initiator and the acquirer keep of a transaction
 abbrev pub own_row : List Entry → TransactionId → Transition → OutgoingTransfer
 own_row es t x = record { status = x.new; cancellation = cond (is_requested es t) Asked NotAsked }
 

@@ -1,4 +1,4 @@
--- What a registry's tables do with an input. No public contract cites it.
+-- How a registry's tables take an input. No public contract cites it.
 use Rattle.std.specs.Prelude.{◌≡◌, None, Result}
 use Rattle.units.specs.declared.code.Code.{Code}
 use Rattle.units.specs.declared.code.Node.TheVariants.{Registry}
@@ -19,7 +19,7 @@ use Rattle.registry_core.specs.declared.tables.Tables.{Tables}
 abbrev pub verdict_by_rules : Scheme → Code → Tables → Input → Verdict
 verdict_by_rules scheme c tables input = verdict scheme (Registry c) (history scheme (Registry c) tables.records.inputs) input
 
--- the message isn't refused for what it is
+-- the message isn't refused before the tables are consulted
 abbrev pub IsWelcome : Tables → Message → Type 0
 IsWelcome tables m = first_of (registry_refusals tables.code (history tables.scheme (Registry tables.code) tables.records.inputs) m) ≡ None
 

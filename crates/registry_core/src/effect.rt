@@ -1,4 +1,4 @@
-//! What a record does to a registry's tables.
+//! The effect of a record on a registry's tables.
 ghost use Rattle.std.specs.Prelude.{◌≡◌, IfErr, OnErr, OnOk};
 ghost use Rattle.registry_core.specs.Effects.{Carried, MayCarry};
 ghost use Rattle.units.specs.RefusalCodes.{out_of_memory};
@@ -10,37 +10,37 @@ use initiator::Initiator;
 use status::{Content, Status, TransactionId};
 use units::Refusal;
 
-/// What a record does to a registry's tables.
+/// The effect of a record on a registry's tables.
 #[derive(Drop)]
 pub(crate) enum RegistryEffect {
     /// The new transfer is Proposed, and its units are reserved.
     Open(NewTransfer),
     /// The cancellation of a transfer out of the registry was asked for.
     Ask(TransactionId),
-    /// A transfer out of the registry has come to that status.
+    /// A transfer out of the registry moves to that status.
     Conclude {
         id: TransactionId,
         new: Status,
     },
-    /// A transfer to the registry has come.
+    /// A transfer to the registry arrives.
     Arrive {
         id: TransactionId,
         new: Status,
         content: Content,
     },
-    /// A transfer to the registry was cancelled before it came.
+    /// A transfer to the registry is cancelled before it arrives.
     Forestall(TransactionId),
     /// A transfer to the registry is Completed.
     Complete(TransactionId),
-    /// A transfer to the registry that had come is Cancelled.
+    /// A transfer to the registry that has arrived is Cancelled.
     Cancel(TransactionId),
-    /// The account of that number, which is closed, is open.
+    /// The account of that number, which is closed, is opened.
     OpenAccount(u64),
     /// The account of that number, which is open and holds nothing, is closed.
     CloseAccount(u64),
 }
 
-/// Carries the effect out. After `OUT_OF_MEMORY`, with which alone it fails, nothing has changed.
+/// Carries the effect out. Fails with `OUT_OF_MEMORY` alone; then nothing has changed.
 #[inline(always)]
 pub(crate) fn carry_out(
     initiator: &mut Initiator,

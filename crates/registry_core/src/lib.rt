@@ -10,5 +10,5 @@ mod taking;
 
 pub use registry::RegistryCore;
 
-// What a registry holds.
+// The holdings of a registry.
 pub use accounts;

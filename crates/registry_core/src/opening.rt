@@ -14,7 +14,7 @@ use scheme::{Allotment, Scheme, SchemeRegistry};
 use std::alloc::Global;
 use units::{Code, NoMemory};
 
-/// Credits what the allotments give, where nothing is held before. Each of their accounts is open, and they share no
+/// Credits the units of the allotments to holdings that are empty. Each of their accounts is open, and they share no
 /// unit.
 fn credit_each(holdings: &mut Holdings, allotted: &[Allotment]) -> Result<(), NoMemory>
     requires empty { holdings.old.unit_holdings ≡ map.empty }
@@ -30,7 +30,8 @@ fn credit_each(holdings: &mut Holdings, allotted: &[Allotment]) -> Result<(), No
     Ok(())
 }
 
-/// The holdings of a registry at the start: its accounts, open, with what the scheme allots to them; or `NoMemory`.
+/// The holdings of a registry at the start: its accounts, open, with the units that the scheme allots to them; or
+/// `NoMemory`.
 pub(crate) fn opening_holdings(
     alloc: Global,
     scheme: &Scheme,

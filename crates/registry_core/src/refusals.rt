@@ -1,4 +1,4 @@
-//! Why a registry refuses a message, before its tables are asked.
+//! Refusals of messages by a registry, before its tables are consulted.
 ghost use Rattle.std.specs.Prelude.{◌≡◌, ◌&&◌, ◌||◌, not, false, List};
 ghost use Rattle.std.specs.FinMap as map;
 ghost use Rattle.units.specs.Code.{same_code};
@@ -69,14 +69,15 @@ fn is_known(code: Code, initiator: &Initiator, acquirer: &Acquirer, id: Transact
     }
 }
 
-/// Whether a notification of that status tells that a transfer of another registry is Cancelled.
+/// Whether a notification of that status means that a transfer of another registry is Cancelled.
 fn forestalls(code: Code, id: TransactionId, told: Status) -> bool
     ensures { result ≡ (same_status told statuses.Cancelled && not (same_code id.code code)) }
 {
     told == Status::Cancelled && id.code != code
 }
 
-/// Why a registry refuses a proposal of that transaction from the log, before its table is asked; or `None`.
+/// The code with which a registry refuses that proposal from the log before its table is consulted; `None` where it
+/// doesn't.
 fn proposal_refusal(
     code: Code,
     acquirer: &Acquirer,
@@ -99,7 +100,8 @@ fn proposal_refusal(
     None
 }
 
-/// Why a registry refuses a notification about that transaction from the log, before its tables are asked; or `None`.
+/// The code with which a registry refuses that notification from the log before its tables are consulted; `None` where
+/// it doesn't.
 fn notification_refusal(
     code: Code,
     initiator: &Initiator,
@@ -118,7 +120,7 @@ fn notification_refusal(
     Some(UNKNOWN_TRANSACTION)
 }
 
-/// Why a registry refuses a message, before its tables are asked; or `None`.
+/// The code with which a registry refuses a message before its tables are consulted; `None` where it doesn't.
 pub(crate) fn message_refusal(
     code: Code,
     initiator: &Initiator,

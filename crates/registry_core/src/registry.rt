@@ -25,9 +25,9 @@ use units::refusal_code::NO_ROW;
 use units::{Code, NoMemory, Node, Refusal, Unit};
 use wire::Input;
 
-/// A registry of a scheme: the journal of the inputs that it recorded, and beside it what the journal says of its
-/// units, its accounts, its transfers in each role, and its messages. In contracts it is its scheme, its code, and
-/// its journal.
+/// A registry of a scheme: the journal of the inputs that it recorded, and tables, read off the journal, of its units,
+/// its accounts, its transfers in each role, and its messages. In contracts it is its scheme, its code, and its
+/// journal.
 #[derive(Debug)]
 pub struct RegistryCore {
     tables: Tables,
@@ -75,8 +75,8 @@ fn opening_tables(alloc: Global, scheme: &Scheme, code: Code) -> Result<Tables, 
 }
 
 impl RegistryCore {
-    /// The registry of that code, which has recorded nothing yet. Where the scheme has no registry of that code it
-    /// has no accounts and no units. Fails with `NoMemory`.
+    /// The registry of that code, which has recorded nothing yet. Where the scheme has no registry of that code it has
+    /// no accounts and no units. Fails with `NoMemory` where memory runs out.
     pub fn new(alloc: Global, scheme: &Scheme, code: Code) -> Result<RegistryCore, NoMemory>
         ensures { IfOk result (λ r. r ≡ record { scheme = scheme.now; code = code; journal = [] }) }
     {
@@ -85,7 +85,7 @@ impl RegistryCore {
     }
 
     /// The units that it holds, and how its accounts stand. A unit is in the account, and of the kind, with which it
-    /// came last, or was allotted; an account is open but where the last order for it closed it.
+    /// came last, or was allotted; an account is open except where the last order for it closed it.
     pub fn holdings(&self) -> &Holdings
         ensures unit_holdings { (s : Serial)
             → map.get result.now.unit_holdings s ≡ unit_holding_at self.now.scheme self.now.code (moves self.now) s }
@@ -95,17 +95,17 @@ impl RegistryCore {
         &self.tables.holdings
     }
 
-    /// What it holds, as a report writes it: lines by account and then in the order of units, neighbours of one
-    /// account, one kind and one reserving transfer joined, where each unit that is held stands in one line. Or
-    /// `NoMemory`.
+    /// Its holdings as a report writes them: lines by account and then in the order of units, neighbours of one
+    /// account, one kind and one reserving transfer joined. Each unit that is held is in one line. Fails with
+    /// `NoMemory` where memory runs out.
     pub fn lines(&self) -> Result<Vec<HeldBlock>, NoMemory>
         ensures { IfOk result (λ lines. AreHoldings self.now lines.items) }
     {
         self.tables.holdings.lines(self.tables.alloc)
     }
 
-    /// Whether it holds the unit. The unit counts there once or not at all, whatever the registry was given, forged
-    /// messages included: it was allotted to it or came as often as it left, and once more where it is held.
+    /// Whether it holds the unit. For all inputs, even forged messages, the unit counts there once or not at all: the
+    /// number of times that it was allotted or came is the number of times that it left, and one more where it is held.
     pub fn held(&self, unit: &Unit) -> bool
         ensures held { result ≡ holds self.now.scheme self.now.code (moves self.now) unit.now }
         ensures once { at_start self.now.scheme self.now.code unit.now + count_by (credits self.now.code unit.now)
@@ -115,7 +115,7 @@ impl RegistryCore {
     }
 
     /// The transfer that reserves the unit: the one transfer with the unit out of this registry that stands Proposed.
-    /// The unit is held then. Or `None`, where there is no such transfer.
+    /// The unit is held then. Returns `None` where there is no such transfer.
     pub fn reserving(&self, unit: &Unit) -> Option<TransactionId>
         ensures reserver { result ≡ reserver self.now.code (moves self.now) unit.now }
         ensures some { IfSome result (IsReserving self.now unit.now) }

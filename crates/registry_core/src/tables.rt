@@ -20,8 +20,8 @@ use std::alloc::Global;
 use units::{Code, Items, Refusal};
 use wire::{Input, Message, Number};
 
-/// A registry of a scheme with its journal, and what is read off its history: how its units are held and its accounts
-/// stand, and its transfers in each role.
+/// A registry of a scheme with its journal, and the tables read off its history: how its units are held and its
+/// accounts stand, and its transfers in each role.
 #[derive(Debug, Drop)]
 pub(crate) struct Tables {
     pub alloc: Global,

@@ -1,4 +1,4 @@
-//! What a registry's tables do with orders to transfer units, and with messages.
+//! How a registry's tables take orders to transfer units, and messages.
 ghost use Rattle.std.specs.FinMap as map;
 ghost use Rattle.std.specs.Prelude.{◌≡◌, true, false, is_some};
 ghost use Rattle.units.specs.Code.{same_code};
@@ -75,7 +75,7 @@ impl Tables {
         }
     }
 
-    /// Takes a proposal that isn't refused for what it is.
+    /// Takes a proposal that `message_refusal` doesn't refuse.
     fn arrive(
         &mut self,
         input: &Input,
@@ -104,7 +104,7 @@ impl Tables {
         }
     }
 
-    /// Takes a notification that isn't refused for what it is.
+    /// Takes a notification that `message_refusal` doesn't refuse.
     fn take_notification(
         &mut self,
         input: &Input,
@@ -174,7 +174,7 @@ impl Tables {
         }
     }
 
-    /// What a notification by which a transfer to the registry comes to that status does.
+    /// The effect of a notification that moves a transfer to the registry to that status.
     fn ending(&self, id: TransactionId, new: Status) -> RegistryEffect
         ensures { result ≡ ending (is_some (map.get self.now.acquirer.transfers id)) id new }
     {

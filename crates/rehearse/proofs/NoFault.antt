@@ -77,7 +77,7 @@ scheme_no_fault line s Order is f = f
 scheme_no_fault line s Truncated is f = f
 scheme_no_fault line s TooLong is f = f
 
--- what a rehearsal answers Ok to has no fault
+-- an input for which a rehearsal returns Ok has no fault
 pub no_fault : (input : List ℕ) (scheme : Scheme) (events : List WorldEvent) (line : ℕ) (cause : Cause) → IsRehearsal input scheme events → IsInputFault input line cause → ⊥
 no_fault input scheme events line cause is (inl f) =
     elim f.fault [

@@ -1,4 +1,4 @@
--- A run over the event lines, of whose events a reporter is told.
+-- A run over the event lines, whose events a reporter is given.
 use Rattle.std.proofs.Common.{◌≡◌, ℕ, suc, ◌+◌, ◌<◌, ◌≤◌, List, [], ◌∷◌, ◌++◌, length, refl, inl, inr, Result, Ok, Err, IfErr, sym, ap, ◌∙◌, subst, arith, length-append}
 use Rattle.std.specs.Result.{IsErrAnd}
 use Rattle.scheme.specs.declared.registries.Scheme.{Scheme}
@@ -18,7 +18,7 @@ use Rattle.rehearse.proofs.NumberedLines.{lines_more}
 use Rattle.input_lines.proofs.LinesRead.{HasReadTo, read_all, read_fault, read_more}
 use Rattle.rehearse.specs.Rehearsal.{HasRun, AreEvents, IsLinesFault, IsEarlyFault}
 
--- what the loop has done: the events so far, of which the reporter was told
+-- the state of the loop: the events so far, which the reporter was given
 pub record Told (WasTold : List WorldEvent → Type 0) (lines : List ℕ) (all : ℕ) (rest : List ℕ) (room number : ℕ) : Type 0 where
   pub done : List WorldEvent
   pub count : number ≡ length done

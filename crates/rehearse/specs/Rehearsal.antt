@@ -30,11 +30,11 @@ pub record IsRehearsal (input : List ℕ) (scheme : Scheme) (events : List World
 
 -- ---- the first fault of an input
 
--- after that many lines of events comes the first with a fault
+-- after that number of lines of events comes the first line with a fault
 abbrev pub IsEventFault : List ℕ → ℕ → ℕ → Cause → Type 0
 IsEventFault bytes room good cause = IsFaultAfter IsEventLine bytes room good cause
 
--- the fault stands in line 1, or after the scheme's line and `good` lines of events
+-- the fault is in line 1, or after the scheme's line and `good` lines of events
 pub record IsFaultAfterEvents (input : List ℕ) (line : ℕ) (cause : Cause) : Type 0 where
   pub first : List ℕ
   pub lines : List ℕ
@@ -53,9 +53,9 @@ pub record IsFirstFault (input : List ℕ) (line : ℕ) (cause : Cause) : Type 0
 abbrev pub IsInputFault : List ℕ → ℕ → Cause → Type 0
 IsInputFault input line cause = IsFirstFault input line cause ⊎ IsFaultAfterEvents input line cause
 
--- ---- what a rehearsal comes to
+-- ---- the results of a rehearsal
 
--- all of the input was read, it has no fault, and the text is what `IsText` says of its scheme and events
+-- all of the input was read, it has no fault, and `IsText` holds for its scheme, its events and the text
 pub record Reports (IsText : Scheme → List WorldEvent → List ℕ → Type 0) (read_old read_new : Option (List ℕ)) (text : List ℕ) : Type 0 where
   pub input : List ℕ
   pub taken : Takes read_old read_new input
@@ -64,13 +64,13 @@ pub record Reports (IsText : Scheme → List WorldEvent → List ℕ → Type 0)
   pub is : IsRehearsal input scheme events
   pub report : IsText scheme events text
 
--- the fault is the first of the input that was read
+-- the fault is the first one of the input that was read
 pub record Finds (read_old read_new : Option (List ℕ)) (line : ℕ) (cause : Cause) : Type 0 where
   pub input : List ℕ
   pub taken : Takes read_old read_new input
   pub fault : IsInputFault input line cause
 
--- nothing was written, or the first bytes of the report, fewer than all
+-- nothing was written, or some first bytes of the report, but not all of it
 abbrev pub FailsSo : (Scheme → List WorldEvent → List ℕ → Type 0) → OpFault → (read_old read_new written_old written_new : Option (List ℕ)) → Type 0
 FailsSo IsText (Input line cause) r s v w = Finds r s line cause × Keeps v w
 FailsSo IsText Read r s v w = Keeps v w
@@ -80,7 +80,7 @@ FailsSo IsText _ r s v w = ⊥
 
 -- ---- what the code follows; no public contract cites what stands below
 
--- what the command has done so far, where it goes on only without a fault
+-- a fault of the input before the report is written
 abbrev pub IsEarlyFault : List ℕ → OpFault → Type 0
 IsEarlyFault input (Input line cause) = IsInputFault input line cause
 IsEarlyFault input NoMemory = Unit {0}

@@ -1,5 +1,5 @@
-//! The command `rehearse`: a written list of events, run from the opening world of a scheme; and what other reports on
-//! such a list are made with.
+//! The command `rehearse`: a written list of events, run from the opening world of a scheme. Other reports on such a
+//! list use the same parts.
 #![tactic(auto)]
 
 mod rehearsal;

@@ -70,7 +70,7 @@ impl Reporter for Rehearsal {
     }
 }
 
-/// Reads all there is, and then writes the report of it.
+/// Reads the whole input, and then writes the report of it.
 pub fn rehearse<R: Read, W: Write>(
     alloc: Global,
     reader: &mut R,

@@ -15,19 +15,19 @@ use std::io::{Read, Write};
 use streams::{LONGEST_INPUT, read_input, write_text};
 use units::NoMemory;
 
-/// What makes a report on the events of a scheme, of which it is told one after another.
+/// Makes a report on the events of a scheme, which it is given one after another.
 pub trait Reporter: Drop {
     ghost use Rattle.std.specs.Prelude.{◌≡◌, ◌+◌, ◌++◌, ◌∷◌, [], ℕ, List, length, IfOk, OnOk, string_bytes};
     ghost use Rattle.scheme.specs.declared.registries.Scheme.{Scheme};
     ghost use Rattle.protocol.specs.declared.event.WorldEvent.{WorldEvent};
 
-    /// It was told of these events under that scheme, and of no others.
+    /// It was given these events under that scheme, and no others.
     ghost was_told: { Self → Scheme → List WorldEvent → Type 0 };
 
     /// The text is the report on these events under that scheme.
     ghost is_report: { Scheme → List WorldEvent → List ℕ → Type 0 };
 
-    /// Told of no event yet.
+    /// A reporter that has no event yet.
     ///
     /// # Errors
     ///
@@ -37,11 +37,11 @@ pub trait Reporter: Drop {
         Self: Sized,
         ensures { IfOk result (λ r. was_told r scheme.now []) };
 
-    /// Tells it of one more event, which is that `number`, counted from 1.
+    /// Gives it one more event. `number` is the event's number, counted from 1.
     ///
     /// # Errors
     ///
-    /// Fails with `NoMemory`, and isn't of use then.
+    /// Fails with `NoMemory`, and can't be used any more then.
     fn tell(&mut self, number: u64, event: &WorldEvent) -> Result<(), NoMemory>
         ensures { OnOk result ((scheme : Scheme) (events : List WorldEvent) → was_told self.old scheme events
             → number ≡ length events + 1 → was_told self.new scheme (events ++ event.now ∷ [])) };
@@ -58,7 +58,7 @@ pub trait Reporter: Drop {
             → is_report scheme events (string_bytes s)) };
 }
 
-/// A reporter that was told of the events that the lines write.
+/// A reporter that was given the events that the lines write.
 fn told<T: Reporter>(
     alloc: Global,
     scheme: &Scheme,
@@ -114,7 +114,7 @@ fn report_of<T: Reporter>(alloc: Global, input: &[u8]) -> Result<String, OpFault
     events_report::<T>(alloc, &scheme, lines, room)
 }
 
-/// Reads all there is, and then writes the report on it.
+/// Reads the whole input, and then writes the report on it.
 pub fn report_input<T: Reporter, R: Read, W: Write>(
     alloc: Global,
     reader: &mut R,

@@ -1,4 +1,4 @@
--- What a state tells of a message, where a journal judges it, has a reply.
+-- A state's result for a message, if a journal judges it, has a reply.
 use Rattle.std.proofs.Common.{◌≡◌, ℕ, zero, suc, ◌<◌, ◌≤◌, ◌⊎◌, Bool, true, false, List, length, Option, None, Some, Result, Err, refl, sym, ap, subst, ◌∙◌, arith, inl, inr}
 use Rattle.std.specs.Prelude.{Contains, slice_index_or}
 use Rattle.units.specs.RefusalCodes.{not_a_message, node_stopped, out_of_memory}
@@ -38,7 +38,7 @@ code_at (suc (suc (suc (suc (suc zero))))) code e h = (omega arith, omega arith)
 code_at (suc (suc (suc (suc (suc (suc zero)))))) code e h = (omega arith, omega arith)
 code_at (suc (suc (suc (suc (suc (suc (suc k))))))) code e h = absurd (omega arith)
 
--- what is told of a message, where it is judged: that it was acted on, or a refusal by one of its codes
+-- the result for a message, if it is judged: that it was acted on, or a refusal by one of its codes
 abbrev IsJudged : Told → Type 0
 IsJudged (told.Step stepped) = Unit {0}
 IsJudged (told.Status status) = ⊥
@@ -81,7 +81,7 @@ refused_within messages line note refusal source f e = subst IsJudged (sym e) (j
 pub never_status : MessagesRefusedBy message_codes → (line : List ℕ) (note : Note) (status : Option Status) → IsOfLine line note → is_without_journal note.told ≡ false → told.Status status ≡ note.told → ⊥
 never_status messages line note status source f e = subst IsJudged (sym e) (judged messages source.message source.moment note source.taken f)
 
--- ---- what comes of a message
+-- ---- the outcome for a message
 
 pub bare_from : (line copy : List ℕ) (refusal : Refusal) (reply : Reply) → IsUnread line refusal → copy ≡ line → IsRefusedBy refusal.code reply → IsBare copy reply
 bare_from line copy refusal reply (inl memory) same by_code = inr (inr (subst (λ (n : ℕ). IsRefusedBy n reply) memory by_code))
@@ -109,7 +109,7 @@ ended_later old between new note answer f seat (inr h) = record {
   later = λ _. inr (h.0 ∙ seat, h.1, h.2);
 }
 
--- the same where what was told waited
+-- the same if the result waited
 pub ended_of :
     (old between new : SeatView) (note waited : Note) (answer : AnswerView) → waited ≡ note → is_without_journal waited.told ≡ false → between ≡ kept old note
     → ((new ≡ confirmed between waited) × (answer.receipt ≡ Some waited) × Gives waited.told answer.reply) ⊎ ((new ≡ between) × (answer.receipt ≡ None) × IsRefusedBy node_stopped answer.reply)

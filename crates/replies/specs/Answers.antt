@@ -1,4 +1,4 @@
--- What is replied to a line, and what a desk told for it.
+-- The replies to lines, and the results of a desk behind them.
 use Rattle.std.specs.Prelude.{◌≡◌, ◌⊎◌, ℕ, Bool, true, false, max, List, [], ◌∷◌, ◌++◌, map, Option, Some, None, Result, Ok, Err}
 use Rattle.units.specs.RefusalCodes.{not_a_message, node_stopped, out_of_memory}
 use Rattle.units.specs.declared.memory.NoMemory.{NoMemory}
@@ -19,7 +19,7 @@ use Rattle.desk.specs.declared.notes.Told.TheVariants as told
 use Rattle.exchanges.specs.Given.{Given}
 use Rattle.replies.specs.Lines.{IsNoLine, IsUnread}
 
--- a line, its reply, and what its receipt is of, where there is one
+-- a line, its reply, and the result that its receipt confirms, if there is one
 pub record AnswerView : Type 0 where
   pub line : List ℕ
   pub reply : Reply
@@ -32,13 +32,13 @@ abbrev pub IsRefusedBy : ℕ → Reply → Type 0
 IsRefusedBy code Received = ⊥
 IsRefusedBy code (Refused given) = given.number ≡ code
 
--- what was told gives the reply: where the message was recorded, or is a repeat, or late, it was received
+-- the result gives the reply: if the message was recorded, or is a repeat, or late, it was received
 abbrev pub Gives : Told → Reply → Type 0
 Gives (told.Step stepped) reply = reply ≡ Received
 Gives (told.Status status) reply = ⊥
 Gives (told.Refused refusal) reply = IsRefusedBy refusal.code reply
 
--- what was told isn't judged by a journal: the node had stopped, or memory ran out
+-- the result isn't that of a journal: the node had stopped, or memory ran out
 abbrev pub is_without_journal : Told → Bool
 is_without_journal (told.Step stepped) = false
 is_without_journal (told.Status status) = false
@@ -67,16 +67,17 @@ abbrev pub IsAnswer : List ℕ → Reply → Option Note → Type 0
 IsAnswer line reply None = IsBare line reply
 IsAnswer line reply (Some note) = Backs line reply note
 
--- the lines that were answered, with their replies
+-- the lines that got an answer, with their replies
 abbrev pub given_of : List AnswerView → List Given
 given_of answers = map (λ (a : AnswerView). record { line = a.line; reply = a.reply }) answers
 
--- a line and what was told of its message, which a journal judged
+-- a line and the result for its message, which a journal judged
 pub record PendingView : Type 0 where
   pub line : List ℕ
   pub note : Note
 
--- what is kept of a pending answer: its note is of the line's message, and a journal judged it; no public contract cites it
+-- the state of a pending answer: its note is of the line's message, and a journal judged it; no public contract cites
+-- it
 abbrev pub IsPending : List ℕ → Note → Type 0
 IsPending line note = IsOfLine line note × (is_without_journal note.told ≡ false)
 
@@ -96,17 +97,17 @@ pub record DeskAnswererView (K : Type 0) : Type 0 where
 abbrev pub confirmed : SeatView → Note → SeatView
 confirmed seat note = record seat { confirmed = max seat.confirmed note.length }
 
--- what was told of a message, and the reply and the receipt that came of it
+-- the result for a message, and the reply and the receipt that followed
 pub record EndsBy (old new : SeatView) (note : Note) (answer : AnswerView) : Type 0 where
-  -- where it isn't judged by a journal, the reply gives it at once
+  -- if it isn't judged by a journal, the reply gives it at once
   pub at_once : is_without_journal note.told ≡ true → (new ≡ kept old note) × (answer.receipt ≡ None) × Gives note.told answer.reply
-  -- else the reply gives it with a receipt of it, or the node stopped before there was one
+  -- otherwise the reply gives it with a receipt of it, or the node stopped before there was one
   pub later :
       is_without_journal note.told ≡ false
       → ((new ≡ confirmed (kept old note) note) × (answer.receipt ≡ Some note) × Gives note.told answer.reply)
       ⊎ ((new ≡ kept old note) × (answer.receipt ≡ None) × IsRefusedBy node_stopped answer.reply)
 
--- the desk took the message once, with that seat and at a moment that the clock told, and this came of it
+-- the desk took the message once, with that seat and at a moment that the clock gave, and this is the answer
 pub record Asks (tells : Moment → Type 0) (old new : SeatView) (message : Message) (answer : AnswerView) : Type 0 where
   pub moment : Moment
   pub time : tells moment
@@ -117,7 +118,7 @@ pub record Asks (tells : Moment → Type 0) (old new : SeatView) (message : Mess
 
 -- ---- one line at a desk
 
--- the line isn't read, and is refused for that: the desk takes nothing
+-- the line isn't read, and is refused for this: the desk takes nothing
 pub record Declines (old new : SeatView) (line : List ℕ) (answer : AnswerView) : Type 0 where
   pub refusal : Refusal
   pub unread : IsUnread line refusal
@@ -125,11 +126,11 @@ pub record Declines (old new : SeatView) (line : List ℕ) (answer : AnswerView)
   pub receipt : answer.receipt ≡ None
   pub reply : IsRefusedBy refusal.code answer.reply
 
--- the desk took the message that the line writes once, and this came of it; or the line isn't read
+-- the desk took once the message that the line writes, and this is the answer; or the line isn't read
 abbrev pub Replies : (Moment → Type 0) → SeatView → SeatView → List ℕ → AnswerView → Type 0
 Replies tells old new line answer = Declines old new line answer ⊎ ((message : Message) × IsLine line message × Asks tells old new message answer)
 
--- what came of one more line: its answer is added, or memory ran out and nothing changed
+-- the answer to one more line is added, or memory ran out and nothing changed
 abbrev pub RepliesOnce : {K : Type 0} → (K → Moment → Type 0) → DeskAnswererView K → DeskAnswererView K → List ℕ → Result Reply NoMemory → Type 0
 RepliesOnce tells old new line (Ok reply) =
     (a : AnswerView) × (new.answers ≡ old.answers ++ a ∷ []) × (new.clock ≡ old.clock) × (a.line ≡ line) × (a.reply ≡ reply) × Replies (tells old.clock) old.seat new.seat line a

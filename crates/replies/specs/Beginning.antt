@@ -16,12 +16,12 @@ abbrev pub line_of : Begun → List ℕ
 line_of (Answered answer) = answer.line
 line_of (Pending pending) = pending.line
 
--- what was told isn't judged by a journal, and the reply gives it at once; or the answer to it waits
+-- the result isn't that of a journal, and the reply gives it at once; or the answer to it waits
 abbrev pub Becomes : Note → Begun → Type 0
 Becomes note (Answered answer) = (is_without_journal note.told ≡ true) × (answer.receipt ≡ None) × Gives note.told answer.reply
 Becomes note (Pending pending) = pending.note ≡ note
 
--- the desk took the message once, with that seat and at a moment that the clock told, and this came of it
+-- the desk took the message once, with that seat and at a moment that the clock gave, and this is the outcome
 pub record Begins (tells : Moment → Type 0) (old new : SeatView) (message : Message) (begun : Begun) : Type 0 where
   pub moment : Moment
   pub time : tells moment

@@ -1,4 +1,4 @@
-//! What a node replies to a line.
+//! The reply of a node to a line.
 ghost use Rattle.std.specs.Prelude.{◌≡◌, ◌⊎◌, ℕ, IfOk, None, Some, option_copied};
 ghost use Rattle.units.specs.RefusalCodes.{not_a_message, node_stopped, out_of_memory};
 ghost use Rattle.replies.specs.Answers.{Backs, IsAnswer, IsBare, IsRefusedBy};
@@ -11,9 +11,8 @@ use units::refusal_code::NODE_STOPPED;
 use units::{NoMemory, Refusal};
 use wire::{Reply, ReplyCode};
 
-/// A line and its reply. Every reply has a receipt, but for three: `NOT_A_MESSAGE` where the line writes no message,
-/// `NODE_STOPPED` and `OUT_OF_MEMORY`. The receipt is of the line's message, and what was told of that gives the
-/// reply.
+/// A line and its reply. Every reply has a receipt, except three: `NOT_A_MESSAGE` if the line writes no message,
+/// `NODE_STOPPED` and `OUT_OF_MEMORY`. The receipt is of the line's message, and the result in it gives the reply.
 #[derive(Debug)]
 pub struct Answer {
     line: Vec<u8>,
@@ -52,15 +51,15 @@ impl Answer {
         self.line.as_slice()
     }
 
-    /// What is replied to the line.
+    /// The reply to the line.
     pub fn reply(&self) -> Reply
         ensures { result ≡ self.now.reply }
     {
         self.reply
     }
 
-    /// The receipt of the line's message, or `None` where no journal judged it. Without one, the reply is
-    /// `NOT_A_MESSAGE`, `NODE_STOPPED` or `OUT_OF_MEMORY`; with one, what was told of the message gives the reply.
+    /// The receipt of the line's message, or `None` if no journal judged it. Without one, the reply is `NOT_A_MESSAGE`,
+    /// `NODE_STOPPED` or `OUT_OF_MEMORY`; with one, the result for the message gives the reply.
     pub fn receipt(&self) -> Option<&Receipt>
         ensures value { option_copied result ≡ self.now.receipt }
         ensures backs { IsAnswer self.now.line self.now.reply self.now.receipt }
@@ -92,8 +91,7 @@ impl Answer {
         }
     }
 
-    /// The answer to a line that was refused when it was read as a message. Fails with `NoMemory` where memory ran
-    /// out.
+    /// The answer to a line that was refused when it was read as a message. Fails with `NoMemory` if memory ran out.
     pub fn unread(alloc: Global, line: &[u8], refusal: Refusal) -> Result<Answer, NoMemory>
         requires { IsUnread line.now refusal }
         ensures line { IfOk result (λ a. a.line ≡ line.now) }

@@ -36,8 +36,8 @@ impl<'a, O: Opening, C: NodeCore, S: NodeStore, B: Bell, K: Clock, R: Wait> Mode
     ghost view = { λ s. record { clock = s.clock.now; seat = s.seat; answers = s.answers.items } };
 }
 
-/// The answer to a line, by the desk with that seat where the line writes a message. Fails with `NoMemory` where
-/// memory ran out, and the desk has taken nothing.
+/// The answer to a line, by the desk with that seat if the line writes a message. Fails with `NoMemory` if memory ran
+/// out, and the desk has taken nothing.
 fn answer_line<O: Opening, C: NodeCore, S: NodeStore, B: Bell, K: Clock, R: Wait + SystemClock>(
     rt: &R,
     alloc: Global,
@@ -65,7 +65,7 @@ impl<'a, O: Opening, C: NodeCore, S: NodeStore, B: Bell, K: Clock, R: Wait> Desk
     K,
     R,
 > {
-    /// What replies by that desk with that seat, at the moments of the clock. It has no answers yet.
+    /// Replies by that desk with that seat, at the moments of the clock. It has no answers yet.
     pub fn new(
         rt: &'a R,
         alloc: Global,
@@ -115,8 +115,8 @@ impl<'a, O: Opening, C: NodeCore, S: NodeStore, B: Bell, K: Clock, R: Wait + Sys
 
     ghost given = { λ s. given_of s.answers };
 
-    /// The reply to a line, by the desk where the line writes a message. Adds the answer at the end of the answers.
-    /// Fails with `NoMemory` where memory ran out. Then the desk has taken nothing, and the answers are as they were.
+    /// The reply to a line, by the desk if the line writes a message. Adds the answer at the end of the answers. Fails
+    /// with `NoMemory` if memory ran out. Then the desk has taken nothing, and the answers are as they were.
     fn answer(&mut self, line: &[u8]) -> Result<Reply, NoMemory>
         ensures given { GivesOne (given_of self.old.answers) (given_of self.new.answers) line.now result }
         ensures replies { RepliesOnce K.tells self.old self.new line.now result }

@@ -36,8 +36,8 @@ impl Model for Job {
 }
 
 impl Job {
-    /// A copy of the line with the message that it writes. Refused by `NOT_A_MESSAGE` where it writes none, and by
-    /// `OUT_OF_MEMORY` where memory ran out.
+    /// A copy of the line with the message that it writes. Fails with `NOT_A_MESSAGE` if it writes none, and with
+    /// `OUT_OF_MEMORY` if memory ran out.
     pub fn read(alloc: Global, line: &[u8]) -> Result<Job, Refusal>
         ensures ok { IfOk result (λ job. (job.line ≡ line.now) × IsLine line.now job.message) }
         ensures refused { IfErr result (λ refusal. IsUnread line.now refusal) }

@@ -1,4 +1,4 @@
-//! What a node replies to lines, by its desk.
+//! The replies of a node to lines, by its desk.
 #![tactic(auto)]
 
 mod answer;

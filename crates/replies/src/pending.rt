@@ -15,7 +15,8 @@ use std::rt::Clock as SystemClock;
 use std::sync::Wait;
 use wire::{Input, Message, Reply, ReplyCode};
 
-/// The reply to what wasn't judged by a journal: the node had stopped, or memory ran out. `None` where it was judged.
+/// The reply to a result that isn't a journal's: the node had stopped, or memory ran out. `None` if a journal judged
+/// it.
 fn reply_at_once(told: Told) -> Option<Reply>
     ensures some { IfSome result
         (λ reply. (is_without_journal told ≡ true) × Gives told reply
@@ -74,8 +75,8 @@ impl Model for PendingAnswer {
 
 impl PendingAnswer {
     /// Waits for the commit at that desk, and returns the answer: with its reply and the receipt, or with refusal
-    /// `NODE_STOPPED` where the node stopped before. Whoever has the seat with which the message was taken, or one of
-    /// the same desk, keeps the receipt with it.
+    /// `NODE_STOPPED` if the node stopped before. The caller keeps the receipt with the seat with which the message was
+    /// taken, or with another seat of the same desk.
     pub fn wait<O: Opening, C: NodeCore, S: NodeStore, B: Bell, R: Wait + SystemClock>(
         self,
         rt: &R,
@@ -114,7 +115,7 @@ impl PendingAnswer {
     }
 }
 
-/// What has come of a job.
+/// The outcome of a job.
 #[derive(Debug, Drop)]
 pub enum Begun {
     /// Its answer, since no journal judged its message: the node had stopped, or memory ran out.
@@ -123,7 +124,7 @@ pub enum Begun {
     Pending(PendingAnswer),
 }
 
-/// What comes of a line and what was told of its message.
+/// The outcome for a line and the result for its message.
 fn begun_of(line: Vec<u8>, taken: Taken) -> Begun
     requires { IsOfLine line.items taken }
     ensures line { line_of result ≡ line.items }
@@ -157,8 +158,8 @@ fn begin_message<O: Opening, C: NodeCore, S: NodeStore, B: Bell, K: Clock, G: Ga
     begun_of(line, taken)
 }
 
-/// Has the desk take a job's message once, at the clock's moment. Returns the answer to the job's line where the node
-/// had stopped or memory ran out, and else one that waits until all records are committed that the journal had then.
+/// Has the desk take a job's message once, at the clock's moment. Returns the answer to the job's line if the node had
+/// stopped or memory ran out, and otherwise one that waits until all records are committed that the journal had then.
 /// While the desk holds its lock, it passes the gate.
 pub fn begin_job<O: Opening, C: NodeCore, S: NodeStore, B: Bell, K: Clock, G: Gate, R: Wait>(
     rt: &R,
@@ -175,7 +176,7 @@ pub fn begin_job<O: Opening, C: NodeCore, S: NodeStore, B: Bell, K: Clock, G: Ga
     begin_message(rt, desk, seat, clock, gate, line, message)
 }
 
-/// As `begin_job`, and returns the answer once it has waited for the commit. Where the node stops before, the reply is
+/// As `begin_job`, and returns the answer once it has waited for the commit. If the node stops before, the reply is
 /// refusal `NODE_STOPPED`.
 pub fn answer_job<
     O: Opening,

@@ -1,6 +1,6 @@
--- A unit that a registry holds is in exactly one of the lines of its holdings, and another unit is in none.
--- Two lines with one unit would both say how it is held, so they would be of one account. But of two lines of one
--- account one ends before the other begins.
+-- A unit that a registry holds is in exactly one of the lines of its holdings, and another unit is in none. Two lines
+-- with the same unit would both say how it is held, and would be of one account. But of two lines of one account, one
+-- ends before the other begins.
 use Rattle.std.proofs.Common.{◌≡◌, ℕ, ◌≤◌, ◌<◌, List, [], ◌∷◌, Bool, true, cond, inl, inr, refl, sym, ap, subst, ◌∙◌, arith, map}
 use Rattle.std.specs.Prelude.{nat_le}
 use Rattle.std.specs.List.{count_by}

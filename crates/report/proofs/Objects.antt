@@ -1,5 +1,5 @@
--- JSON objects whose parts are written one after another. The parts are any texts here, since those of an identifier or
--- a block would be opened by the rewriting.
+-- JSON objects that are written part by part. The parts are arbitrary texts here, since the rewriting would unfold
+-- those of an identifier or a block.
 use Rattle.std.proofs.Common.{◌≡◌, ℕ, List, ◌++◌, append_assoc}
 use Rattle.std.specs.Prelude.{codes}
 

@@ -11,7 +11,7 @@ use Rattle.report.specs.declared.form.Form.{Form}
 use Rattle.report.specs.Table.{IsSafeTable, IsTable}
 use Rattle.report.proofs.CountedUnits.{Fits, Sums, counted}
 
--- the law: these histories of each world that events lead to are safe
+-- the law: these histories are safe in each world that events lead to
 abbrev AreSafe : (World → Node → List Entry) → Type 0
 AreSafe of_world = (scheme : Scheme) (events : List WorldEvent) → IsSafe scheme (of_world (run (opening scheme) events))
 

@@ -9,7 +9,7 @@ lines_more f start now new xs i x low item so_far step =
     step ∙ ap (λ s. s ++ f x) so_far ∙ flat_map_more f start (take i xs) x
     ∙ ap (λ ys. start ++ flat_map f ys) (sym (take_more xs i x low ∙ ap (λ y. take i xs ++ y ∷ []) (sym item)))
 
--- the same of a list of parts of the elements
+-- the same for a list of parts of the elements
 pub parts_more : {X Y : Type 0} (part : Y → X) (f : X → List ℕ) (start now new : List ℕ) (ys : List Y) (i : ℕ) (y : Y) → i < length ys → y ≡ get_or ys i y
     → now ≡ start ++ flat_map f (map part (take i ys)) → new ≡ now ++ f (part y) → new ≡ start ++ flat_map f (map part (take (i + 1) ys))
 parts_more part f start now new ys i y low item so_far step =

@@ -1,7 +1,7 @@
--- The units that registries hold and those that transfers owe are as many as the scheme allots.
--- The blocks of all lines and of all due transfers are put in one list. A unit is in as many of the lines as
--- registries hold it, and in as many of the due transfers as owe it, so by `causal_one_place` it is in that list as
--- often as in the scheme's blocks.
+-- The units that registries hold and those that transfers owe are together as many as the scheme allots. The blocks of
+-- all lines and of all due transfers are put into one list. The number of lines that have a unit is the number of
+-- registries that hold it, and the number of due transfers that have it is the number of those that owe it. By
+-- `causal_one_place` the unit is then in that list as often as in the scheme's blocks.
 use Rattle.std.proofs.Common.{◌≡◌, ℕ, ◌+◌, List, [], ◌∷◌, ◌++◌, cond, subst, refl, ◌∙◌, arith, map, flat_map}
 use Rattle.std.specs.List.{count_by, sum_by}
 use Rattle.std.proofs.lemmas.List.Sums.{sum_by-cons, sum_by-append}
@@ -88,7 +88,7 @@ module _ (s : Serial) where
 
 -- ---- the law
 
--- the transfers that are due and have a unit are as many as the completed transfers that owe it: the law
+-- the number of due transfers that have a unit is the number of completed transfers that owe it: the law
 -- `safety::debts_are_owed`
 abbrev pub DebtsAreOwed : Type 0
 DebtsAreOwed =

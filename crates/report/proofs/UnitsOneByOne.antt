@@ -1,7 +1,6 @@
--- Blocks that have each unit equally often have equally many units.
--- The pieces of blocks are their units one by one: as many as the blocks have units (`length_pieces`), and each unit
--- is there as often as blocks have it (`tally_blocks`). Two lists of pieces in which each unit is equally often are
--- equally long (`length_by_tally`).
+-- Blocks that have each unit equally often have equally many units. The pieces of blocks are their units one by one:
+-- there are as many as the blocks have units (`length_pieces`), and each unit is there as often as blocks have it
+-- (`tally_blocks`). Two lists of pieces that have each unit equally often are equally long (`length_by_tally`).
 use Rattle.std.proofs.Common.{◌≡◌, ℕ, zero, suc, ◌-◌, ◌≤◌, List, [], ◌∷◌, ◌++◌, Bool, true, false, cond, inl, inr, refl, sym, ap, subst, ◌∙◌, arith, map, length, length-append}
 use Rattle.std.specs.List.{count_by, sum_by, list_any}
 use Rattle.std.proofs.lemmas.Bool.{cases_Bool, cond-true, cond-false, true≢false, or_parts}

@@ -73,7 +73,7 @@ transaction_line Json s =
 
 -- ---- numbers of units
 
--- of 2^64 units or more, 2^64 - 1 are shown
+-- the greatest number of units that is shown: 2^64 - 1 stands for any greater one too
 abbrev pub greatest_shown : ℕ
 greatest_shown = 18_446_744_073_709_551_615
 
@@ -98,7 +98,7 @@ free_shown lines = shown (sum_by free_units lines)
 abbrev pub owed_shown : List ProposedTransfer → ℕ
 owed_shown proposals = shown (sum_by due_units proposals)
 
--- ---- what a registry holds: its numbers of units, and each line of its holdings
+-- ---- the lines about a registry: its numbers of units, and each line of its holdings
 
 abbrev pub registry_line : Form → Code → ℕ → ℕ → List ℕ
 registry_line Lines code held free =
@@ -126,7 +126,7 @@ holding_line Json code l =
 abbrev pub registry_lines : Form → Code → List HeldBlock → List ℕ
 registry_lines form code lines = registry_line form code (held_shown lines) (free_shown lines) ++ flat_map (holding_line form code) lines
 
--- ---- what is owed: the number of units, and each block of each transfer; then the report's end
+-- ---- the lines about owed units: their number, and each block of each transfer; then the end of the report
 
 abbrev pub due_line : Form → TransactionId → RawBlock → List ℕ
 due_line Lines id block = codes "due " ++ id_text id ++ codes " " ++ raw_text block ++ codes "\n"

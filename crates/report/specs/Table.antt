@@ -15,7 +15,7 @@ use Rattle.world.specs.declared.views.Stock.{Stock}
 use Rattle.report.specs.ReportLines.{held_shown, owed_lines, owed_shown, registry_lines, transaction_line}
 use Rattle.report.specs.declared.transactions.TransactionRow.{TransactionRow}
 
--- where a transfer stands at its initiator, at the log and at its acquirer
+-- the status of a transfer at its initiator, at the log and at its acquirer
 abbrev pub row_of : World → ProposedTransfer → TransactionRow
 row_of w p = record {
   id = p.id;
@@ -32,14 +32,14 @@ transaction_lines form w = flat_map (λ p. transaction_line form (row_of w p)) (
 abbrev pub stock_lines : Form → Stock → List ℕ
 stock_lines form s = registry_lines form s.code s.lines
 
--- the transfers, what each registry holds, and what is owed
+-- the transfers, the holdings of each registry, and the units that are owed
 pub record IsTable (form : Form) (w : World) (text : List ℕ) : Type 0 where
   pub stocks : List Stock
   pub are : AreStocks w w.scheme.members stocks
   pub spelled : text ≡ transaction_lines form w ++ (flat_map (stock_lines form) stocks ++ owed_lines form (due w))
 
--- the numbers after `held` of all registries and the one after `owed` are together the number of units that the
--- scheme allots
+-- the sum of the numbers after `held` of all registries and the one after `owed` is the number of units that the scheme
+-- allots
 abbrev pub AddUp : Scheme → List Stock → List ProposedTransfer → Type 0
 AddUp scheme stocks owing = sum_by (λ s. held_shown s.lines) stocks + owed_shown owing ≡ allotted_units scheme
 

@@ -1,4 +1,4 @@
-//! The lines of what completed transfers owe, and the report's last line.
+//! The lines about the units that completed transfers owe, and the report's last line.
 ghost use Rattle.std.specs.Prelude.{◌≡◌, ◌+◌, ◌++◌, OnOk, map, string_bytes, sum_by};
 ghost use Rattle.std.specs.List.{flat_map};
 ghost use Rattle.status.specs.Content.{raws};
@@ -12,7 +12,7 @@ use std::fmt::Write;
 use units::{Block, NoMemory};
 use world::ProposedTransfer;
 
-/// The number of units of the blocks and of `before` more, and 2^64 - 1 where there are more.
+/// `before` and the number of units of the blocks, or 2^64 - 1 where that is more.
 fn units_in(before: u64, blocks: &[Block]) -> u64
     ensures { result ≡ shown (before + sum_by units_of (raws blocks.now)) }
 {
@@ -23,7 +23,7 @@ fn units_in(before: u64, blocks: &[Block]) -> u64
     count
 }
 
-/// The number of units of all the transfers, and 2^64 - 1 where there are more.
+/// The number of units of all the transfers, or 2^64 - 1 where there are more.
 fn owed_in(transfers: &[ProposedTransfer<'_>]) -> u64
     ensures { result ≡ owed_shown (map transfer_of transfers.now) }
 {
@@ -115,8 +115,8 @@ fn push_end(text: &mut String, form: Form) -> Result<(), NoMemory>
     Ok(())
 }
 
-/// Adds the lines of what these transfers owe: the number of units, 2^64 - 1 where there are more,
-/// and each block of each transfer; then the report's last line.
+/// Adds the lines about the units that these transfers owe: their number, or 2^64 - 1 where there are more, and each
+/// block of each transfer; then the report's last line.
 ///
 /// # Errors
 ///

@@ -1,17 +1,17 @@
-//! In which form commands write.
+//! The forms in which commands write.
 ghost use Rattle.std.specs.Prelude.{◌≡◌};
 ghost use Rattle.report.specs.ReportLines.{end_line};
 
-/// In which form a command writes.
+/// The form in which a command writes.
 #[derive(Clone, Copy, Debug, PartialEq, Eq)]
 pub enum Form {
     /// Lines of words, and the last line `end`.
     Lines,
-    /// A JSON object a line.
+    /// One JSON object per line.
     Json,
 }
 
-/// The last line of what is written so, with its newline.
+/// The last line of a text in that form, with its newline.
 pub fn end_line(form: Form) -> &'static [u8]
     ensures { result.now ≡ end_line form }
 {

@@ -1,4 +1,4 @@
-//! The lines of what a registry holds.
+//! The lines about the holdings of a registry.
 ghost use Rattle.std.specs.Prelude.{◌≡◌, ◌++◌, OnOk, string_bytes};
 ghost use Rattle.std.specs.List.{flat_map};
 ghost use Rattle.report.specs.ReportLines.{free_shown, free_units, held_shown, holding_line, registry_line, registry_lines};
@@ -55,7 +55,7 @@ fn free_units(line: &HeldBlock) -> u64
     }
 }
 
-/// The number of units, and 2^64 - 1 where there are more.
+/// The number of units, or 2^64 - 1 where there are more.
 fn held_in(lines: &[HeldBlock]) -> u64
     ensures { result ≡ held_shown lines.now }
 {
@@ -66,7 +66,7 @@ fn held_in(lines: &[HeldBlock]) -> u64
     count
 }
 
-/// The number of free units, and 2^64 - 1 where there are more.
+/// The number of free units, or 2^64 - 1 where there are more.
 fn free_in(lines: &[HeldBlock]) -> u64
     ensures { result ≡ free_shown lines.now }
 {
@@ -77,7 +77,7 @@ fn free_in(lines: &[HeldBlock]) -> u64
     count
 }
 
-/// Adds the line of a registry's numbers of units.
+/// Adds the line with a registry's numbers of units.
 fn push_numbers(
     text: &mut String,
     code: Code,
@@ -143,8 +143,8 @@ fn push_lines(
     Ok(())
 }
 
-/// Adds the lines of what the registry of that code holds: the number of its units and of the free
-/// ones among them, 2^64 - 1 where there are more, and then each line of its holdings.
+/// Adds the lines about the holdings of the registry of that code: the number of its units and of the free ones among
+/// them, or 2^64 - 1 where there are more, and then each line of its holdings.
 ///
 /// # Errors
 ///

@@ -42,7 +42,7 @@ pub fn push_outcome_text(text: &mut String, outcome: Outcome) -> Result<(), NoMe
     Ok(())
 }
 
-/// Adds the line of an event's outcome: the event's number and what it came to.
+/// Adds the line of an event's outcome: the event's number and its outcome.
 ///
 /// # Errors
 ///

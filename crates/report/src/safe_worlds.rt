@@ -1,4 +1,4 @@
-//! The laws of safety in one.
+//! The laws of safety, joined.
 ghost use Rattle.std.specs.Prelude.{List};
 ghost use Rattle.protocol.specs.Claims.{committed_of, live_of};
 ghost use Rattle.protocol.specs.Headline.{IsSafe};
@@ -8,8 +8,8 @@ ghost use Rattle.scheme.specs.declared.registries.Scheme.{Scheme};
 
 use safety::{deliveries_are_welcome, holders_own, nodes_agree, units_stand_in_one_place};
 
-/// Over every list of events, no tonne is in two places and none is lost: by journals with their tails, and by
-/// committed journals.
+/// For every list of events, no tonne is in two places and none is lost: by journals with their tails, and by committed
+/// journals.
 pub(crate) fn worlds_are_safe()
     ensures live { (scheme : Scheme) (events : List WorldEvent)
         → IsSafe scheme (live_of (run (opening scheme) events)) }

@@ -16,7 +16,7 @@ use std::alloc::Global;
 use units::{NoMemory, Node};
 use world::{ProposedTransfer, Stock, World};
 
-/// Where a transfer stands at its three nodes.
+/// The status of a transfer at its three nodes.
 fn row_of(world: &World, transfer: ProposedTransfer<'_>) -> TransactionRow
     ensures { result ≡ row_of world.now (transfer_of transfer.entry) }
 {
@@ -55,7 +55,7 @@ fn push_stocks(text: &mut String, stocks: &[Stock], form: Form) -> Result<(), No
     Ok(())
 }
 
-/// Adds a line for each transfer, what each registry holds, and what is owed.
+/// Adds a line for each transfer, the holdings of each registry, and the units that are owed.
 fn push_parts(alloc: Global, text: &mut String, world: &World, form: Form) -> Result<(), NoMemory>
     ensures { OnOk result ((table : List ℕ) × IsTable form world.now table
         × (string_bytes text.new ≡ string_bytes text.old ++ table)) }
@@ -67,8 +67,8 @@ fn push_parts(alloc: Global, text: &mut String, world: &World, form: Form) -> Re
     push_owed(text, due.as_slice(), form)
 }
 
-/// Adds the table of a world: a line for each transfer, what each registry holds, and what is owed. Each line is one of
-/// words, or a JSON object with its keys in byte order.
+/// Adds the table of a world: a line for each transfer, the holdings of each registry, and the units that are owed.
+/// Each line consists of words, or is a JSON object with its keys in byte order.
 ///
 /// Where events led to the world, the table counts every tonne once, and no tonne is in two places and none is lost.
 ///

@@ -1,4 +1,4 @@
-//! How many units there are in all.
+//! The number of all units.
 ghost use Rattle.std.specs.List.{sum_by};
 ghost use Rattle.std.specs.Prelude.{◌≡◌, ◌<◌, ◌+◌, List};
 ghost use Rattle.registry_core.specs.HeldBlock.{HeldBlock};
@@ -9,8 +9,9 @@ ghost use Rattle.scheme.specs.declared.registries.Scheme.{Scheme};
 ghost use Rattle.report.specs.NumberOfUnits.{allotted_units, due_units, held_units};
 ghost use Rattle.world.specs.RegistryLines.{AreLines};
 
-/// Over every list of events, the units that the registries hold, by whatever lines write their holdings, and the
-/// units that completed transfers owe are together as many as the scheme allots, which are fewer than 2^64.
+/// For every list of events, the number of units that the registries hold, regardless of the lines that write their
+/// holdings, and the number of units that completed transfers owe are together the number that the scheme allots. It is
+/// below 2^64.
 pub fn tonnes_add_up()
     ensures sums { (scheme : Scheme) (events : List WorldEvent) (lines : List (List HeldBlock))
         → AreLines (run (opening scheme) events) scheme.members lines

@@ -1,4 +1,4 @@
-//! How a transaction stands at its three nodes.
+//! The status of a transaction at its three nodes.
 ghost use Rattle.std.specs.Prelude.{◌≡◌, ◌++◌, OnOk, string_bytes};
 ghost use Rattle.report.specs.ReportLines.{transaction_line};
 ghost use Rattle.report.specs.declared.form.Form.TheVariants.{Json, Lines};
@@ -9,8 +9,8 @@ use std::fmt;
 use std::fmt::Write;
 use units::{Code, NoMemory};
 
-/// How a transaction stands at its three nodes, `None` where the node has no record of it. The
-/// initiator is the code of the identifier.
+/// The status of a transaction at its three nodes, or `None` where the node has no record of it. The initiator is the
+/// code of the identifier.
 #[derive(Clone, Copy, Debug, PartialEq, Eq)]
 pub(crate) struct TransactionRow {
     pub id: TransactionId,

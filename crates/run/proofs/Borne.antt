@@ -1,4 +1,4 @@
--- What was told to a seat of a settled node is borne by the committed records.
+-- The committed records bear out the notes of each seat of a settled node.
 use Rattle.std.proofs.Common.{◌≡◌, ◌∙◌, ◌<◌, ◌≤◌, ℕ, zero, suc, List, [], ◌∷◌, ◌++◌, length, take, Some, ap, subst, refl, arith, length-append}
 use Rattle.std.proofs.lemmas.List.{take-append-le}
 use Rattle.std.specs.Prelude.{All, Contains, slice_get}
@@ -84,7 +84,7 @@ expected_more : (scheme : Scheme) (n : Node) (journal more : List Input) (asked 
 expected_more scheme n journal more asked told h =
     (h.0, (omega (arith, h.1.0, length-append journal more), ap (λ (j : List Input). expected scheme n j asked) (take-append-le h.0 journal more h.1.0) ∙ h.1.1))
 
--- what a journal bears, it bears when it has gone on
+-- a journal that goes on still bears out all that it bore out before
 pub borne_more : (scheme : Scheme) (n : Node) (journal more : List Input) (asked : Asked) (told : Told) → IsBorne scheme n journal asked told → IsBorne scheme n (journal ++ more) asked told
 borne_more scheme n journal more (Take input) (Step (Recorded place)) h = get_more journal more place input h
 borne_more scheme n journal more (Query id) (Step (Recorded place)) h = absurd h

@@ -1,4 +1,4 @@
--- What a seat has kept of what it was told at a desk.
+-- What a seat has kept of the results that it got at a desk.
 use Rattle.std.proofs.Common.{◌≡◌, ◌∙◌, ◌+◌, ◌<◌, ◌≤◌, ℕ, Bool, true, false, true≢false, List, [], ◌∷◌, ◌++◌, length, Option, Result, Ok, Err, inl, inr, refl, sym, ap, subst, arith, max, if◌then◌else◌, length-append}
 use Rattle.std.specs.Prelude.{Contains}
 use Rattle.units.specs.declared.refusal.Refusal.{Refusal}
@@ -87,7 +87,7 @@ grows_asked old mid new taken told is c =
       ]
     ]
 
--- ---- what was heard is heard by a seat that has grown
+-- ---- a seat that has grown has still heard each result
 
 noted_on : (old new : SeatView) (asked : Asked) (told : Told) → Grows old new → HasNoted old asked told → HasNoted new asked told
 noted_on old new asked told g h = (h.0, g.notes _ h.1, omega (arith, h.2, g.confirmed))
@@ -109,7 +109,7 @@ unjudged new asked (Step Late) e = absurd (true≢false (sym e))
 unjudged new asked (Status status) e = absurd (true≢false (sym e))
 unjudged new asked (Refused refusal) e = λ judged. absurd (true≢false (sym e ∙ judged))
 
--- a record's place is the last one of the length that was told with it
+-- a record's place is the last one of the length that was noted with it
 recorded_place : (place : ℕ) (journal : List Input) (v : Verdict) → answer_of (length journal) v ≡ Ok (Recorded place) → place ≡ length journal
 recorded_place place journal (IsRecorded xs) e = cc (e)
 recorded_place place journal IsRepeat e = absurd (cc (e))
@@ -161,7 +161,7 @@ judged_last old asked refusal len judged =
     let note : Note = record { asked = asked; told = Refused refusal; length = len } in
     ap (λ b. if b then old.notes else old.notes ++ note ∷ []) judged
 
--- what was told of a question, or of an order that was not recorded
+-- the result of a question, or of an order that was not recorded
 heard_last : (old : SeatView) (asked : Asked) (told : Told) (len : ℕ) → ((place : ℕ) → told ≡ Step (Recorded place) → ⊥)
     → HasHeard (confirmed (kept old (record { asked = asked; told = told; length = len })) (record { asked = asked; told = told; length = len })) asked told
 heard_last old asked (Step (Recorded place)) len none = absurd (none place refl)
@@ -184,7 +184,8 @@ note_is : (n : Note) (asked : Asked) (told : Told) → n.asked ≡ asked → tol
 note_is n asked told a t =
     ap (λ (x : Asked). record { asked = x; told = n.told; length = n.length }) a ∙ ap (λ (x : Told). record { asked = asked; told = x; length = n.length }) (sym t)
 
--- what was told at once, or as the node had stopped, is heard by any seat; else by the seat to which it was confirmed
+-- a result that was returned at once, or as the node had stopped, counts as heard by any seat; any other is heard by
+-- the seat to which it was confirmed
 told_heard : (old mid new : SeatView) (asked : Asked) (taken : Note) (told : Told) → taken.asked ≡ asked → mid ≡ kept old taken
     → (taken ≡ record { asked = asked; told = told; length = taken.length } → HasHeard (confirmed (kept old (record { asked = asked; told = told; length = taken.length })) (record { asked = asked; told = told; length = taken.length })) asked told)
     → IsConfirmed mid taken new told → HasHeard new asked told

@@ -1,4 +1,4 @@
--- What is noted of what is asked, once and again and again.
+-- The notes that questions leave, once and again and again.
 use Rattle.std.proofs.Common.{◌≡◌, ◌≢◌, ◌⊎◌, ◌∙◌, ◌≤◌, ◌+◌, ℕ, Bool, true, false, List, [], ◌∷◌, ◌++◌, length, length-append, max, Some, inl, inr, refl, sym, ap, subst, arith, if◌then◌else◌, All, append-nil, append_assoc}
 use Rattle.std.proofs.lemmas.Bool.{true≢false}
 use Rattle.std.proofs.lemmas.List.Elements.{All-nil, All-push}
@@ -51,7 +51,7 @@ module _ (asked : Asked) (note : Note) (is : note.asked ≡ asked) where
     (λ unjudged. inl (ap (λ (b : Bool). if b then [] else note ∷ []) unjudged)),
   )
 
-  -- the node had stopped before what was told was confirmed
+  -- the node had stopped before the result was confirmed
   none_or_one : (notes : List Note) → (notes ≡ []) ⊎ (notes ≡ note ∷ []) → IsNoted asked (Refused stopped) notes
   none_or_one notes some = (
     (λ judged. absurd (true≢false judged)),
@@ -99,7 +99,7 @@ notes_line l m old new told is n = subst (λ (x : ScriptLine). Notes (IsNotedOf 
 
 -- ---- again and again
 
--- that many questions in a row, none but the last of which was told the status
+-- that many questions in a row; only the last may have returned the status
 pub record Waits (id : TransactionId) (status : AStatus) (count : ℕ) (old new : SeatView) (told : Told) : Type 0 where
   pub earlier : List Note
   pub last : List Note
@@ -118,7 +118,7 @@ first_wait id status old new told n = record {
   many = refl;
 }
 
--- what was told of a question by a journal is a note
+-- the journal's result of a question is a note
 one_note : (seat : SeatView) (id : TransactionId) (told : Told) (notes : List Note) → HasHeard seat (Query id) told → is_without_journal told ≡ false → IsNoted (Query id) told notes → IsNote (Query id) told notes
 one_note seat id (Step (Recorded place)) notes heard judged noted = absurd heard
 one_note seat id (Step Repeat) notes heard judged noted = noted

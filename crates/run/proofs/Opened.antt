@@ -54,7 +54,7 @@ module _ {S : Type 0} (g : Ghosts S) (opened : Scheme → Node → List Input �
   late_store n Reopen h = h
   late_store n NoMemory h = tt
 
--- one more of a list, whose names are the first of those names
+-- one more element of a list, whose names are the first of those names
 pub names_more : {X Y : Type 0} (f : X → Y) (xs : List X) (x : X) (zs : List X) (ys : List Y) → zs ≡ xs ++ x ∷ [] → slice_get ys (length xs) ≡ Some (f x) → map f xs ≡ take (length xs) ys → map f zs ≡ take (length zs) ys
 names_more {X} {Y} f xs x zs ys more at same =
     part_more f xs x zs ys (length xs) more (slice_get_within ys (length xs) (f x) at) same (sym (get_or_from_slice_get ys (length xs) (f x) (f x) at))

@@ -75,7 +75,7 @@ EachOnce place xs ts = (k : ℕ) (x : Input) → slice_get xs k ≡ Some x → w
 ascend_tail : (t : Ticket) (ts : List Ticket) → Ascend (t ∷ ts) → Ascend ts
 ascend_tail t ts ascend i j u v under at_i at_j = ascend (suc i) (suc j) u v (omega (arith, under)) at_i at_j
 
--- none names the first place, so that all name places after it
+-- none names the first place, so all name places after it
 after_first : (place : ℕ) (x : Input) (xs : List Input) (ts : List Ticket) → All (IsFrom place (x ∷ xs)) ts → All (λ (t : Ticket). t.place ≢ place) ts → All (IsFrom (place + 1) xs) ts
 after_first place x xs [] from none = All-nil (IsFrom (place + 1) xs)
 after_first place x xs (t ∷ ts) from none =
@@ -160,7 +160,7 @@ get_after (suc n) (x ∷ xs) k = get_after n xs k ∙ ap (slice_get (x ∷ xs)) 
 all_at : {X : Type 0} (P : X → Type 0) (xs : List X) (k : ℕ) (x : X) → All P xs → slice_get xs k ≡ Some x → P x
 all_at P xs k x all is = subst P (get_or_from_slice_get xs k x x is) (all k x (slice_get_within xs k x is))
 
--- no ticket whose input is such names the place of another input
+-- no ticket with such an input names the place of another input
 unnamed : (held : StateView) (IsSuch : Input → Type 0) (place : ℕ) (x : Input) → slice_get held.journal place ≡ Some x → (IsSuch x → ⊥) → (ts : List Ticket) → All (Fits held) ts → All (λ (t : Ticket). IsSuch t.input) ts → All (λ (t : Ticket). t.place ≢ place) ts
 unnamed held IsSuch place x at other ts fit such = λ k d low same.
     let x_is : x ≡ (get_or ts k d).input = one_some x (get_or ts k d).input (sym at ∙ (sym (ap (slice_get held.journal) same) ∙ (fit k d low).1)) in
@@ -331,7 +331,7 @@ module _ (count : ℕ) where
     orders_within n ls answers is.1 (λ k m input place at_line at_answer here asked. low (suc k) m input place at_line at_answer here asked) is.4,
   )
 
--- what is committed of the orders of a node whose threads were told what one alone would have been told
+-- the committed orders of a node whose threads made the notes that a single thread would have made
 pub committed_orders : (n : Node) (held : StateView) (heard threads : List SeatView) (seat : SeatView) (lines : List ScriptLine) (answers : List ScriptAnswer) → Covers held heard → seat.lengths ≡ Grew → heard ≡ threads ++ seat ∷ [] → All HasNoOrder threads
     → HasOrders n lines answers seat
     → ((k : ℕ) (l : ScriptLine) (input : Input) (place : ℕ) → slice_get lines k ≡ Some l → slice_get answers k ≡ Some (Answered (Step (Recorded place))) → node_of l ≡ n → asked_by l ≡ Take input → place < held.committed)

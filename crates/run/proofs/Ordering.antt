@@ -1,4 +1,5 @@
--- What a line adds to the seat of its node, and what the seats of all nodes have after some lines.
+-- The tickets and notes that a line adds to the seat of its node, and those that the seats of all nodes have after some
+-- lines.
 use Rattle.std.proofs.Common.{◌≡◌, ◌≢◌, ◌⊎◌, ◌∙◌, ◌<◌, ◌≤◌, ◌+◌, ℕ, suc, Bool, true, false, List, [], ◌∷◌, ◌++◌, length, max, Some, inl, inr, refl, sym, ap, subst, arith, if◌then◌else◌, All, append-nil, append_assoc, get_or, take}
 use Rattle.std.specs.Prelude.{nat_lt, slice_get}
 use Rattle.std.proofs.Math.ListN.{set}
@@ -49,7 +50,7 @@ grew_by : (len seen : ℕ) (lengths : Lengths) (fell : Bool) → nat_lt len seen
 grew_by len seen lengths true is e = absurd (cc (e))
 grew_by len seen lengths false is e = (e, ltb-false len seen is)
 
--- a seat that was told that length, and has these tickets more, each at the last place of that length
+-- a seat that noted that length, and has these additional tickets, each at the last place of that length
 adds_of : (asked : Asked) (old new : SeatView) (told : Told) (len : ℕ) (records : List Ticket) → new.tickets ≡ old.tickets ++ records → new.seen ≡ max old.seen len
     → new.lengths ≡ (if nat_lt len old.seen then Fell else old.lengths) → IsRecordOf asked told records → All (λ (t : Ticket). len ≡ t.place + 1) records → Adds asked old new told
 adds_of asked old new told len records tickets seen lengths is places = record {
@@ -71,7 +72,7 @@ none_told input (Step Late) none = refl
 none_told input (Status status) none = refl
 none_told input (Refused refusal) none = inl refl
 
--- what was told at the end is what was told first, or the node had stopped
+-- the final result is the first one, or the node had stopped
 abbrev IsEnd : Told → Told → Type 0
 IsEnd first told = (told ≡ first) ⊎ (told ≡ Refused stopped)
 
@@ -243,7 +244,7 @@ IsRecordOfLine l told = IsRecordOf (asked_by l) told
 
 -- ---- the seats of all nodes
 
--- of a seat that was told nothing
+-- of a seat without notes
 pub has_none : (n : Node) (seat : SeatView) → seat.tickets ≡ [] → seat.notes ≡ [] → HasOrders n [] [] seat
 has_none n seat empty unnoted = record {
   orders = empty;

@@ -1,4 +1,4 @@
--- What a script heard is borne by the committed records of settled nodes.
+-- The committed records of settled nodes bear out the answers that a script heard.
 use Rattle.std.proofs.Common.{◌≡◌, ◌∙◌, ◌<◌, ◌≤◌, ℕ, zero, suc, false, All, List, [], ◌∷◌, ◌++◌, length, map, take, Some, sym, ap, subst, arith}
 use Rattle.std.specs.Prelude.{Contains, slice_get, slice_index_or}
 use Rattle.std.proofs.lemmas.List.Elements.{All-contains, All-weaker, Contains-push}
@@ -76,7 +76,7 @@ module _ (scheme : Scheme) (helds : List StateView) (own : List SeatView) (seats
       let journal = journal_at (node_of l) x.at held.0 x.index held.1 in
       (h.0, subst (λ (js : List Input). IsBorne scheme (node_of l) js (asked_by l) told) (sym journal) (borne scheme (node_of l) held.0 s.heard x.seat s.settled (among s.heard x.seat s.gathers) (asked_by l) told x.heard))
 
-  -- an order that is answered as recorded is committed
+  -- an order whose answer says that it is recorded is committed
   recorded_within : (n : Node) (held : StateView) (l : ScriptLine) (input : Input) (place : ℕ) → journal_of scheme (committed_by_all helds) n ≡ committed_records held → node_of l ≡ n → asked_by l ≡ Take input
       → IsAnswer scheme (journal_of scheme (committed_by_all helds)) l (Answered (Step (Recorded place))) → place < held.committed
   recorded_within n held l input place journal here asked h =

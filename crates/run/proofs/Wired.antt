@@ -30,7 +30,7 @@ pub part_more : {X Y : Type 0} (f : X → Y) (xs : List X) (x : X) (zs : List X)
 part_more f xs x zs ys k more low same item =
     ap (map f) more ∙ map-append f xs (x ∷ []) ∙ ap (λ t. t ++ f x ∷ []) same ∙ ap (λ y. take k ys ++ y ∷ []) item ∙ sym (take_more ys k (f x) low)
 
--- what a value is made of is the next of the list, and so is its part
+-- a value's source is the next of the list, and so is its part
 pub part_is : {Y : Type 0} (ys : List Y) (k : ℕ) (own given : Y) → own ≡ given → given ≡ get_or ys k given → own ≡ get_or ys k own
 part_is ys k own given same item = subst (λ y. y ≡ get_or ys k y) (sym same) item
 
@@ -58,7 +58,7 @@ pub part_of_part : {X Y Z : Type 0} (f : Y → Z) (g : X → Y) (xs : List X) �
 part_of_part f g [] = refl
 part_of_part f g (x ∷ xs) = ap (λ l. f (g x) ∷ l) (part_of_part f g xs)
 
--- as many
+-- equal numbers of elements
 pub pushed_count : {X : Type 0} (xs : List X) (x : X) (zs : List X) (k : ℕ) → zs ≡ xs ++ x ∷ [] → length xs ≡ k → length zs ≡ k + 1
 pushed_count xs x zs k more same = ap (λ l. length l) more ∙ length-append xs (x ∷ []) ∙ ap (λ n. n + 1) same
 
@@ -75,9 +75,9 @@ peers_count (log ∷ registries) = ap suc (length-map registries (λ r. log ∷ 
 pub part_whole : {X Y : Type 0} (f : X → Y) (xs : List X) (ys : List Y) (k : ℕ) → map f xs ≡ take k ys → length ys ≡ k → map f xs ≡ ys
 part_whole f xs ys k same whole = same ∙ take_all k ys (omega (arith, whole))
 
--- ---- what the threads of all nodes took
+-- ---- the inputs that the threads of all nodes took
 
--- where each node has what is known of all, what is known of the seats of each is so of all
+-- if every node has the property known of all nodes, the property known of each one's seats holds for all seats
 pub all_taken : {N : Type 0} (nodes : List N) (IsAlike : N → Type 0) (Of : N → SeatView → Type 0) (IsSuch : SeatView → Type 0) → ((n : N) → IsAlike n → (s : SeatView) → Of n s → IsSuch s) → All IsAlike nodes
     → (ends : List (Result (Vec SeatView Global) NoMemory)) → length ends ≡ length nodes
     → ((k : ℕ) (n : N) (seats : Vec SeatView Global) → slice_get nodes k ≡ Some n → slice_get ends k ≡ Some (Ok seats) → All (Of n) seats.items) → AreAll IsSuch ends

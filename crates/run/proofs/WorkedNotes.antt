@@ -21,7 +21,7 @@ proposed = Status (Some Proposed)
 abbrev completed : Told
 completed = Status (Some Completed)
 
--- it was asked until the transaction is completed, so often at most
+-- it was asked until the transaction is completed, at most that often
 abbrev awaited : ℕ → Told → List Note → Type 0
 awaited turns told notes = IsNotedOf (Until nz_node nz1 Completed turns) told notes
 

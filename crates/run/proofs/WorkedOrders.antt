@@ -37,7 +37,7 @@ at place i = record { place = place; input = i }
 
 -- ---- the records of a node that were ordered
 
--- the account was closed before the opening; what came last isn't committed
+-- the account was closed before the opening; the last record isn't committed
 abbrev held : StateView
 held = record { scheme = scheme_s; node = nz_node; journal = close ∷ transfer ∷ acknowledgement ∷ message ∷ close ∷ transfer ∷ []; committed = 5; opening = 1; runs = true }
 
@@ -63,11 +63,11 @@ jp_state = record { scheme = scheme_s; node = jp_node; journal = message ∷ [];
 abbrev all_states : List StateView
 all_states = log ∷ jp_state ∷ held ∷ []
 
--- the acknowledgement and the message since NZ's opening have to be such as threads record
+-- the acknowledgement and the message since NZ's opening must be inputs that threads take
 pub others_are_taken : (Takes : Input → Type 0) → HaveOthers Takes scheme_s all_states → Takes acknowledgement × Takes message
 others_are_taken Takes have = let nz = have nz_node 2 held refl refl in (nz 1 close (lit< tt) refl, nz 2 close (lit< tt) refl)
 
--- and nothing else has: not what was recorded before, is not committed yet, or was ordered
+-- and no other records must: those recorded before, not committed yet, or ordered
 module _ (Takes : Input → Type 0) where
   abbrev Such : Input → Type 0
   Such i = was_ordered i ≡ false → Takes i
@@ -128,7 +128,7 @@ orders_of_nz = (
 abbrev one_line : ScriptAnswer → List Ticket → Type 0
 one_line answer records = AreOrders nz_node (Order nz_node transfer ∷ []) (answer ∷ []) records
 
--- what one line left, where its node was told that answer
+-- the records that one line left, if its node returned that result
 same_records : (records first rest : List Ticket) → records ≡ first ++ rest → rest ≡ [] → (expected : List Ticket) → first ≡ expected → records ≡ expected ++ []
 same_records records first rest all none expected is = all ∙ (ap (λ (r : List Ticket). first ++ r) none ∙ ap (λ (f : List Ticket). f ++ []) is)
 

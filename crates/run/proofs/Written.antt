@@ -1,4 +1,4 @@
--- What a run has written when it fails.
+-- The output of a run that fails.
 use Rattle.std.proofs.Common.{◌≡◌, ◌<◌, ℕ, List, Option, Some, None, Result, Ok, Err, IfOk, IfErr, OnOk, length, take, inl, inr, refl, sym, subst}
 use Rattle.std.specs.Io.KnownBytes.{Appends, Keeps}
 use Rattle.protocol.specs.Scheme.{Scheme}

@@ -1,4 +1,4 @@
--- What the lines of a script come to, and when journals bear it.
+-- The answers to the lines of a script, and when journals bear them out.
 use Rattle.std.specs.Prelude.{◌≡◌, ℕ, ◌+◌, ◌&&◌, Bool, true, false, List, [], ◌∷◌, ◌++◌, length, slice_get, Some, codes, decimal}
 use Rattle.units.specs.declared.code.Node.{Node}
 use Rattle.protocol.specs.Input.{Input}
@@ -20,7 +20,7 @@ use Rattle.input_lines.specs.declared.script_line.ScriptLine.TheVariants as line
 use Rattle.run.specs.declared.answer.ScriptAnswer.{ScriptAnswer}
 use Rattle.run.specs.declared.answer.ScriptAnswer.TheVariants.{NotPossible, Told as Answered}
 
--- ---- what a line asks
+-- ---- the question of a line
 
 abbrev pub node_of : ScriptLine → Node
 node_of (line.Order n input) = n
@@ -58,9 +58,9 @@ abbrev pub answer_lines : ℕ → List ScriptAnswer → List ℕ
 answer_lines n [] = []
 answer_lines n (answer ∷ answers) = answer_line n answer ++ answer_lines (n + 1) answers
 
--- ---- what journals bear
+-- ---- the results that journals bear out
 
--- that was told after some of the first records of the journal, and is what is expected then
+-- the result is the expected one after some number of the first records of the journal
 abbrev pub IsExpectedWithin : Scheme → Node → List Input → Asked → Told → Type 0
 IsExpectedWithin scheme n journal asked told = (len : ℕ) × Bears scheme n journal (record { asked = asked; told = told; length = len })
 
@@ -69,7 +69,7 @@ abbrev pub IsRecordAt : List Input → ℕ → Asked → Type 0
 IsRecordAt journal place (Take input) = slice_get journal place ≡ Some input
 IsRecordAt journal place (Query id) = ⊥
 
--- the node's journal bears what was told; where the node had stopped, or memory ran out, that says nothing of it
+-- the node's journal bears out the result; if the node had stopped, or memory ran out, nothing is said of it
 abbrev pub IsBorne : Scheme → Node → List Input → Asked → Told → Type 0
 IsBorne scheme n journal asked (Step (Recorded place)) = IsRecordAt journal place asked
 IsBorne scheme n journal asked (Step Repeat) = IsExpectedWithin scheme n journal asked (Step Repeat)
@@ -77,12 +77,12 @@ IsBorne scheme n journal asked (Step Late) = IsExpectedWithin scheme n journal a
 IsBorne scheme n journal asked (Status status) = IsExpectedWithin scheme n journal asked (Status status)
 IsBorne scheme n journal asked (Refused refusal) = is_unjudged refusal.code ≡ false → IsExpectedWithin scheme n journal asked (Refused refusal)
 
--- the line wasn't possible; or it was, and the journal of its node bears the answer
+-- the line wasn't possible; or it was, and the journal of its node bears out the answer
 abbrev pub IsAnswer : Scheme → (Node → List Input) → ScriptLine → ScriptAnswer → Type 0
 IsAnswer scheme journals l NotPossible = is_possible scheme l ≡ false
 IsAnswer scheme journals l (Answered told) = (is_possible scheme l ≡ true) × IsBorne scheme (node_of l) (journals (node_of l)) (asked_by l) told
 
--- each line has an answer of which that is so
+-- each line has an answer with that property
 pub record AreAnswers (Answers : ScriptLine → ScriptAnswer → Type 0) (lines : List ScriptLine) (answers : List ScriptAnswer) : Type 0 where
   pub count : length answers ≡ length lines
   pub each : (k : ℕ) (l : ScriptLine) (answer : ScriptAnswer) → slice_get lines k ≡ Some l → slice_get answers k ≡ Some answer → Answers l answer

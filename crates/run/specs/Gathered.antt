@@ -1,16 +1,16 @@
--- The seats of all that were told something by the nodes' desks. No public contract cites it.
+-- The seats of all threads at the nodes' desks. No public contract cites it.
 use Rattle.std.specs.Prelude.{◌≡◌, ◌<◌, ℕ, All, List, [], ◌∷◌, ◌++◌, length, slice_get, Some}
 use Rattle.protocol.specs.Input.{Input}
 use Rattle.desk.specs.Views.{SeatView}
 use Rattle.sessions.specs.Orders.{HasOnly}
 
--- what the threads of a run have recorded
+-- the inputs that the threads of a run have recorded
 module _ (Takes : Input → Type 0) where
-  -- the script's seat stands after those of the node's threads, which have such records alone
+  -- the script's seat comes after those of the node's threads, whose records are all such inputs
   abbrev pub IsGathered : List SeatView → SeatView → Type 0
   IsGathered heard seat = (threads : List SeatView) × (heard ≡ threads ++ seat ∷ []) × All (HasOnly Takes) threads
 
-  -- the seat of the script at each of the first nodes' desks stands among those of the node
+  -- for each of the first nodes, the script's seat at its desk is among the seats of the node
   abbrev pub AreGatheredTo : ℕ → List SeatView → List (List SeatView) → Type 0
   AreGatheredTo at own all = (k : ℕ) (seat : SeatView) (heard : List SeatView) → k < at → slice_get own k ≡ Some seat → slice_get all k ≡ Some heard → IsGathered heard seat
 

@@ -1,4 +1,4 @@
--- What a script was told at the desks, by its seats.
+-- The results that a script got at the desks, by its seats.
 use Rattle.std.specs.Prelude.{◌≡◌, ◌⊎◌, ◌<◌, ◌≤◌, ℕ, true, false, List, Contains, slice_get, Some}
 use Rattle.protocol.specs.Scheme.{Scheme}
 use Rattle.protocol.specs.Registries.{index_of}
@@ -18,12 +18,12 @@ use Rattle.run.specs.Answers.{AreAnswers, asked_by, is_possible, node_of}
 use Rattle.run.specs.declared.answer.ScriptAnswer.{ScriptAnswer}
 use Rattle.run.specs.declared.answer.ScriptAnswer.TheVariants.{NotPossible, Told as Answered}
 
--- the seat has a ticket of the order at that place, and more records are confirmed to it
+-- the seat has a ticket of the order at that place, and the records up to that place are confirmed to it
 abbrev pub HasRecord : SeatView → ℕ → Asked → Type 0
 HasRecord seat place (Take input) = Contains seat.tickets (record { place = place; input = input }) × (place < seat.confirmed)
 HasRecord seat place (Query id) = ⊥
 
--- the seat has a note of what was told, and as many records are confirmed to it
+-- the seat has a note of the result, and as many records are confirmed to it as the note's length says
 abbrev pub HasNoted : SeatView → Asked → Told → Type 0
 HasNoted seat asked told = (len : ℕ) × Contains seat.notes (record { asked = asked; told = told; length = len }) × (len ≤ seat.confirmed)
 
@@ -58,7 +58,7 @@ pub record Grows (old new : SeatView) : Type 0 where
 
 -- ---- what the code follows; no public contract cites what stands below
 
--- what was taken is told once it is confirmed, or at once where no journal judged it; or the node had stopped before
+-- a result is returned once it is confirmed, or at once if no journal judged it; or the node had stopped before
 abbrev pub IsConfirmed : SeatView → Note → SeatView → Told → Type 0
 IsConfirmed old note new told =
     ((told ≡ note.told) × (is_without_journal note.told ≡ true) × (new ≡ old))

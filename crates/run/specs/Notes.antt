@@ -1,4 +1,4 @@
--- How often a script asked, and what it was told each time, by the notes of its seats.
+-- How often a script asked, and the result each time, by the notes of its seats.
 use Rattle.std.specs.Prelude.{◌≡◌, ◌≢◌, ◌⊎◌, ◌<◌, ◌+◌, ℕ, true, false, max, All, List, [], ◌∷◌, ◌++◌, length, Some}
 use Rattle.units.specs.declared.code.Node.{Node}
 use Rattle.status.specs.declared.id.TransactionId.{TransactionId}
@@ -18,7 +18,7 @@ use Rattle.run.specs.Answers.{node_of}
 use Rattle.run.specs.declared.answer.ScriptAnswer.{ScriptAnswer}
 use Rattle.run.specs.declared.answer.ScriptAnswer.TheVariants.{NotPossible, Told as Answered}
 
--- ---- what the lines of a script leave at a node, line by line
+-- ---- the notes or tickets that the lines of a script leave at a node, line by line
 
 -- a line leaves nothing where it is another node's or isn't possible
 abbrev pub IsOfLine : {T : Type 0} (Of : ScriptLine → Told → List T → Type 0) → Node → ScriptLine → ScriptAnswer → List T → Type 0
@@ -32,19 +32,19 @@ AreOfLines Of n _ _ left = left ≡ []
 
 -- ---- notes
 
--- one note, of what was asked and what was told
+-- one note, with that question and that result
 abbrev pub IsNote : Asked → Told → List Note → Type 0
 IsNote asked told notes = (note : Note) × (notes ≡ note ∷ []) × (note.asked ≡ asked) × (note.told ≡ told)
 
--- what is noted of what is asked once: what was told, unless it was recorded or no journal judged it; and one that was
--- told before its node stopped may have been noted
+-- the notes that a question leaves, asked once: its result, unless the input was recorded or no journal judged it; and
+-- a result that was returned before its node stopped may also have been noted
 abbrev pub IsNoted : Asked → Told → List Note → Type 0
 IsNoted asked (Step (Recorded place)) notes = notes ≡ []
 IsNoted asked (Refused refusal) notes = (is_unjudged refusal.code ≡ false → IsNote asked (Refused refusal) notes) × (is_unjudged refusal.code ≡ true → (notes ≡ []) ⊎ ((refusal ≡ stopped) × ((told : Told) × IsNote asked told notes)))
 IsNoted asked told notes = IsNote asked told notes
 
--- it was asked where the transaction stands, again and again while it didn't have that status, until it had it, or no
--- journal judged the question, or it was asked as often as the line says
+-- a script's line asked where the transaction stands, again and again while it didn't have that status, until it had
+-- it, or no journal judged the question, or it was asked as often as the line says
 pub record IsAwaited (id : TransactionId) (status : AStatus) (turns : ℕ) (told : Told) (notes : List Note) : Type 0 where
   pub earlier : List Note
   pub last : List Note

@@ -1,4 +1,4 @@
--- What a run with threads reports.
+-- The report of a run with threads.
 use Rattle.std.specs.Prelude.{◌≡◌, ◌≢◌, ◌⊎◌, ◌<◌, ◌+◌, ℕ, cond, All, List, [], ◌∷◌, ◌++◌, Option, None, Some, false, drop, length, map, slice_get, take}
 use Rattle.std.specs.Io.KnownBytes.{Appends, Keeps}
 use Rattle.units.specs.declared.code.Node.{Node}
@@ -27,8 +27,8 @@ use Rattle.run.specs.declared.answer.ScriptAnswer.{ScriptAnswer}
 
 -- ---- how the nodes of a run end
 
--- the state at a desk goes by the scheme, and is that of one of the nodes that were loaded: its journal at the opening
--- is that one's, and its store's count of faults was
+-- the state at a desk has the scheme, and belongs to one of the nodes that were loaded: its journal at the opening is
+-- that node's, and so was its store's count of faults
 pub record IsLoadedAmong {S : Type 0} (g : Ghosts S) (scheme : Scheme) (loaded : List (StoredView S)) (its_scheme : Scheme) (n : Node) (journal : List Input) (faults : ℕ) : Type 0 where
   pub scheme_is : its_scheme ≡ scheme
   pub at : ℕ
@@ -57,20 +57,20 @@ module _ {S : Type 0} (g : Ghosts S) (opened : Scheme → Node → List Input �
     pub node_is : kept.state.node ≡ n
     pub at : IsAtDesk g opened kept (Some fault)
 
-  -- the desk in that node's place is another's
+  -- the desk in that node's place is that of another node
   pub record IsMisplaced (n : Node) : Type 0 where
     pub kept : StoredView S
     pub keeps : IsKept g kept
     pub other : kept.state.node ≢ n
 
-  -- all nodes ended well, and what their threads were told has that fault
+  -- all nodes ended well, and the notes of their threads have that fault
   pub record HasTableFault (scheme : Scheme) (fault : OpFault) : Type 0 where
     pub ends : List (StoredView S)
     pub seats : List (List SeatView)
     pub ended : HaveEnded scheme ends
     pub cause : IsTableFault scheme (states_of ends) seats fault
 
-  -- a fault after the script's end, but for the output's
+  -- a fault after the script's end, except a fault of the output
   abbrev pub IsLateFault : Scheme → OpFault → Type 0
   IsLateFault scheme (Store n fault) = HasFailed n fault
   IsLateFault scheme (Unsettled n) = IsMisplaced n ⊎ HasTableFault scheme (Unsettled n)
@@ -80,7 +80,7 @@ module _ {S : Type 0} (g : Ghosts S) (opened : Scheme → Node → List Input �
 
 -- ---- a script
 
--- of records, the first of which has that place, those that were ordered, each with its place
+-- those of the records that were ordered, each with its place; the first record has the given place
 abbrev pub ordered_from : ℕ → List Input → List Ticket
 ordered_from place [] = []
 ordered_from place (input ∷ inputs) = cond (was_ordered input) (record { place = place; input = input } ∷ ordered_from (place + 1) inputs) (ordered_from (place + 1) inputs)
@@ -93,12 +93,12 @@ since held = drop held.opening (committed_records held)
 abbrev pub orders_of : StateView → List Ticket
 orders_of held = ordered_from held.opening (since held)
 
--- the others are, at each node, such as its threads have recorded
+-- the other records of each node are inputs that its threads have recorded
 abbrev pub HaveOthers : (Input → Type 0) → Scheme → List StateView → Type 0
 HaveOthers Takes scheme helds = (n : Node) (at : ℕ) (held : StateView) → index_of scheme n ≡ Some at → slice_get helds at ≡ Some held → All (λ input. was_ordered input ≡ false → Takes input) (since held)
 
 -- the answers to the script's lines, and then the table of the world that a run leads to, whose committed journals are
--- those of these nodes; they bear the answers, and since the opening they have the script's orders and no others
+-- those of these nodes; they bear out the answers, and since the opening they have the script's orders and no others
 pub record IsRunReport (scheme : Scheme) (lines : List ScriptLine) (helds : List StateView) (text : List ℕ) : Type 0 where
   pub answers : List ScriptAnswer
   pub table : List ℕ
@@ -107,7 +107,7 @@ pub record IsRunReport (scheme : Scheme) (lines : List ScriptLine) (helds : List
   pub is_table : IsAuditTable Lines scheme (committed_by_all helds) table
   pub spelled : text ≡ answer_lines 1 answers ++ table
 
--- an answer to each line, as the desks told it, was written, and nothing else
+-- an answer to each line, as the desks gave it, was written, and nothing else
 pub record HasAnswered (scheme : Scheme) (lines : List ScriptLine) (before after : Option (List ℕ)) : Type 0 where
   pub answers : List ScriptAnswer
   pub seats : List SeatView

@@ -2,7 +2,8 @@
 use Rattle.std.specs.Prelude.{List, [], ◌∷◌, map}
 use Rattle.units.specs.declared.code.Node.{Node}
 
--- of the log, and of each registry after it, the nodes that it sends to: the log to all registries, a registry to the log
+-- for the log, and for each registry after it, the nodes that it sends to: the log to all registries, a registry to the
+-- log
 abbrev pub peers_of : List Node → List (List Node)
 peers_of [] = []
 peers_of (log ∷ registries) = registries ∷ map (λ r. log ∷ []) registries

@@ -1,4 +1,4 @@
-//! What a line of a script comes to.
+//! Answers to the lines of a script.
 ghost use Rattle.std.specs.Prelude.{◌≡◌, ◌++◌, IfOk, OnOk, codes, decimal, string_bytes};
 ghost use Rattle.report.specs.ReportLines.{status_or_none};
 ghost use Rattle.run.specs.Answers.{answer_line, answer_lines};
@@ -11,12 +11,12 @@ use std::alloc::Global;
 use std::fmt::Write;
 use units::NoMemory;
 
-/// What a line of a script comes to.
+/// The answer to a line of a script.
 #[derive(Clone, Copy, Debug, PartialEq, Eq)]
 pub enum ScriptAnswer {
     /// The scheme has no such node, or the node takes no such order.
     NotPossible,
-    /// What the node told, once all records were committed that its journal had then.
+    /// The node's result, returned once all records were committed that its journal had then.
     Told(Told),
 }
 
@@ -36,7 +36,7 @@ fn push_status(text: &mut String, number: u64, status: Option<Status>) -> Result
 ///
 /// # Errors
 ///
-/// Fails with `NoMemory` where memory ran out. The text may then have a part of it.
+/// Fails with `NoMemory` if memory ran out. The text may then have a part of it.
 pub fn push_answer(text: &mut String, number: u64, answer: ScriptAnswer) -> Result<(), NoMemory>
     ensures { OnOk result (string_bytes text.new ≡ string_bytes text.old ++ answer_line number answer) }
 {
@@ -53,7 +53,7 @@ pub fn push_answer(text: &mut String, number: u64, answer: ScriptAnswer) -> Resu
 ///
 /// # Errors
 ///
-/// Fails with `NoMemory` where memory ran out.
+/// Fails with `NoMemory` if memory ran out.
 pub(crate) fn lines_of(alloc: Global, answers: &[ScriptAnswer]) -> Result<String, NoMemory>
     ensures { IfOk result (λ s. string_bytes s ≡ answer_lines 1 answers.now) }
 {

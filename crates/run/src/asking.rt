@@ -24,7 +24,7 @@ use world::Core;
 /// How long a script waits before it asks again, in milliseconds.
 const TURN: u64 = 1;
 
-/// Whether no journal judged what was told.
+/// Whether the result isn't that of a journal.
 fn is_without_journal(told: Told) -> bool
     ensures { result ≡ is_without_journal told }
 {
@@ -34,8 +34,8 @@ fn is_without_journal(told: Told) -> bool
     }
 }
 
-/// What was told, once all records are committed that the journal had then; at once where no journal judged it. Refusal
-/// `NODE_STOPPED` where the node stopped before.
+/// The result of what was taken, once all records are committed that the journal had then; at once if no journal judged
+/// it. Refusal `NODE_STOPPED` if the node stopped before.
 fn confirmed<O: Opening, C: NodeCore, S: NodeStore, B: Bell, R: Wait + SystemClock>(
     rt: &R,
     desk: &Desk<O, C, S, B>,
@@ -58,7 +58,7 @@ fn confirmed<O: Opening, C: NodeCore, S: NodeStore, B: Bell, R: Wait + SystemClo
     }
 }
 
-/// What the node tells of an order, once its record is committed.
+/// The node's result for an order, once its record is committed.
 fn order<O: Opening, C: NodeCore, S: NodeStore, B: Bell, R: Wait + SystemClock>(
     rt: &R,
     desk: &Desk<O, C, S, B>,
@@ -74,7 +74,7 @@ fn order<O: Opening, C: NodeCore, S: NodeStore, B: Bell, R: Wait + SystemClock>(
     confirmed(rt, desk, seat, taken)
 }
 
-/// The same of a copy of the order; refusal `OUT_OF_MEMORY` where there is no memory for one.
+/// The same for a copy of the order; refusal `OUT_OF_MEMORY` if there is no memory for a copy.
 fn order_copy<O: Opening, C: NodeCore, S: NodeStore, B: Bell, R: Wait + SystemClock>(
     rt: &R,
     desk: &Desk<O, C, S, B>,
@@ -92,7 +92,7 @@ fn order_copy<O: Opening, C: NodeCore, S: NodeStore, B: Bell, R: Wait + SystemCl
     }
 }
 
-/// Where the transaction stands at the node, once what says so is committed.
+/// Where the transaction stands at the node, once the records are committed that the result rests on.
 fn question<O: Opening, C: NodeCore, S: NodeStore, B: Bell, R: Wait + SystemClock>(
     rt: &R,
     desk: &Desk<O, C, S, B>,
@@ -108,7 +108,7 @@ fn question<O: Opening, C: NodeCore, S: NodeStore, B: Bell, R: Wait + SystemCloc
     confirmed(rt, desk, seat, taken)
 }
 
-/// Whether there is nothing more to wait for: the transaction has the status, or no journal judged the question.
+/// Whether the waiting is over: the transaction has the status, or no journal judged the question.
 fn is_over(told: Told, status: Status) -> bool
     ensures over { result ≡ true → (told ≡ Told.Status (Some status)) ⊎ (is_without_journal told ≡ true) }
     ensures waits { result ≡ false → (told ≢ Told.Status (Some status)) × (is_without_journal told ≡ false) }
@@ -119,7 +119,7 @@ fn is_over(told: Told, status: Status) -> bool
     }
 }
 
-/// What a line waits for: that status of that transaction, and how often it asks at most.
+/// The status that a line waits for, its transaction, and how often the line asks at most.
 #[derive(Clone, Copy)]
 struct Awaited {
     id: TransactionId,
@@ -127,8 +127,8 @@ struct Awaited {
     turns: u64,
 }
 
-/// Asks where the transaction stands until it has that status, at most that many times, and returns what was told
-/// last. Where no journal judged it, since the node had stopped or memory ran out, it isn't asked again.
+/// Asks where the transaction stands until it has that status, at most that many times, and returns the last result. If
+/// no journal judged it, since the node had stopped or memory ran out, it isn't asked again.
 fn question_until<O: Opening, N: NodeTypes, P: Watch, R: Wait + SystemClock>(
     rt: &R,
     stations: &[Station<O, Core, N>],
@@ -155,9 +155,9 @@ fn question_until<O: Opening, N: NodeTypes, P: Watch, R: Wait + SystemClock>(
     told
 }
 
-/// What the node at the station with that index tells of a line of a script: of an order once its record is committed, and
-/// of a question once the records that say so are. The seat keeps what it was told. Refusal `NODE_STOPPED` where the node
-/// stopped before, and refusal `OUT_OF_MEMORY` where memory ran out.
+/// The result of a script's line at the node at the station with that index: for an order, once its record is
+/// committed, and for a question, once the records that the result rests on are. The seat has kept the result. Refusal
+/// `NODE_STOPPED` if the node stopped before, and refusal `OUT_OF_MEMORY` if memory ran out.
 pub fn ask<O: Opening, N: NodeTypes, P: Watch, R: Wait + SystemClock>(
     rt: &R,
     stations: &[Station<O, Core, N>],

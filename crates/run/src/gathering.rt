@@ -1,4 +1,4 @@
-//! What a run leaves of each node.
+//! The remains of a run at each node.
 ghost use Rattle.std.specs.Prelude.{◌≡◌, ◌++◌, ◌∷◌, [], All, Some, map, vec_len, IfErr, IfOk, IfSome, OnOk};
 ghost use Rattle.desk.specs.Views.{SeatView};
 ghost use Rattle.protocol.specs.Registries.{nodes};
@@ -17,10 +17,10 @@ use std::alloc::Global;
 use units::{NoMemory, Node};
 use world::Core;
 
-/// What the threads of a node were told: a seat for each thread, or `NoMemory` where memory ran out for them.
+/// The notes of a node's threads: a seat for each thread, or `NoMemory` if memory ran out for them.
 pub(crate) type ThreadSeats = Result<Vec<Seat>, NoMemory>;
 
-/// The seats of a node's threads, and the script's seat at the node after them. Fails with `NoMemory` where memory ran
+/// The seats of a node's threads, and the script's seat at the node after them. Fails with `NoMemory` if memory ran
 /// out, also for the threads.
 fn all_seats<T: Taking>(
     threads: Option<ThreadSeats>,
@@ -40,11 +40,11 @@ fn all_seats<T: Taking>(
     Ok(seats)
 }
 
-/// The state with its store that the desk of that node leaves, which no thread shares any more.
+/// The state with its store that the desk of that node leaves. No thread shares the desk any more.
 ///
 /// # Errors
 ///
-/// Fails with the fault that stopped the store, if one did, and with `Unsettled` where the desk is another node's. The
+/// Fails with the fault that stopped the store, if one did, and with `Unsettled` if the desk is another node's. The
 /// store is closed then.
 pub fn end_desk<O: Opening, S: NodeStore + Drop>(
     node: Node,
@@ -68,7 +68,7 @@ pub fn end_desk<O: Opening, S: NodeStore + Drop>(
     }
 }
 
-/// What a run leaves of the node at that station. Fails as `end_desk` and `all_seats` do.
+/// The remains of the node at that station. Fails as `end_desk` and `all_seats` do.
 fn end_node<O: Opening, T: Taking, N: NodeTypes>(
     station: Station<O, Core, N>,
     threads: Option<ThreadSeats>,
@@ -114,9 +114,9 @@ fn push<S: NodeStore + Drop>(
     Ok(())
 }
 
-/// What a run leaves of the nodes at these stations, whose desks no thread shares any more: with the seats of each
-/// node's threads, and then that of the script, in the order of the stations. Fails with the fault of the first node
-/// that has one, and with `NoMemory` where memory ran out, also for the threads of a node.
+/// The remains of the nodes at these stations, whose desks no thread shares any more, with the seats of each node's
+/// threads and then that of the script, in the order of the stations. Fails with the fault of the first node that has
+/// one, and with `NoMemory` if memory ran out, also for the threads of a node.
 pub(crate) fn end_all<O: Opening, T: Taking, N: NodeTypes>(
     alloc: Global,
     stations: Vec<Station<O, Core, N>>,

@@ -36,7 +36,7 @@ pub fn takes(node: Node, input: &Input) -> bool
     }
 }
 
-/// The index of the line's node, where the line is possible.
+/// The index of the line's node, if the line is possible.
 fn index_for(scheme: &Scheme, line: &ScriptLine) -> Option<usize>
     ensures some { IfSome result (λ at. (index_of scheme.now (node_of line.now) ≡ Some at)
         × (at < length (nodes scheme.now)) × (is_possible scheme.now line.now ≡ true)) }
@@ -55,7 +55,7 @@ fn index_for(scheme: &Scheme, line: &ScriptLine) -> Option<usize>
     }
 }
 
-/// What a line comes to.
+/// The answer to a line.
 fn play<O: Opening, N: NodeTypes, P: Watch, R: Wait + SystemClock>(
     rt: &R,
     scheme: &Scheme,
@@ -86,9 +86,9 @@ fn push(answers: &mut Vec<ScriptAnswer>, answer: ScriptAnswer) -> Result<(), NoM
     Ok(())
 }
 
-/// Plays the lines one after another and returns what each of them was answered. Each seat is replaced by that after
-/// the last line, and the watch hears of each line after it was played. Fails with `NoMemory` if memory runs out for
-/// the answers, before the first line.
+/// Plays the lines one after another and returns the answer to each. Each seat is replaced by the one after the last
+/// line, and the watch is called for each line after it was played. Fails with `NoMemory` if memory runs out for the
+/// answers, before the first line.
 pub(crate) fn play_all<O: Opening, N: NodeTypes, P: Watch, R: Wait + SystemClock>(
     rt: &R,
     alloc: Global,

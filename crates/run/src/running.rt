@@ -46,7 +46,7 @@ fn joined(alloc: Global, first: &str, second: &str) -> Result<String, NoMemory>
     Ok(text)
 }
 
-/// The answers, and then the table of what these nodes have committed.
+/// The answers, and then the table of the records that these nodes have committed.
 fn with_table<T: Taking, S: NodeStore, P: weave::Watch>(
     alloc: Global,
     scheme: &Scheme,
@@ -71,14 +71,14 @@ fn with_table<T: Taking, S: NodeStore, P: weave::Watch>(
     }
 }
 
-/// The nodes that a run leaves, and the answers with the table of what they have committed.
+/// The nodes that a run leaves, and the answers with the table of their committed records.
 #[derive(Drop)]
 struct Whole<S: NodeStore> {
     ended: Vec<EndedNode<S>>,
     text: String,
 }
 
-/// Ends the nodes, and adds the table of what they have committed to the answers.
+/// Ends the nodes, and adds the table of their committed records to the answers.
 fn whole_of<O: Opening, T: Taking, N: NodeTypes, P: weave::Watch>(
     alloc: Global,
     scheme: &Scheme,
@@ -164,7 +164,7 @@ fn write_run<O: Opening, T: Taking, N: NodeTypes, W: Write, P: weave::Watch>(
     }
 }
 
-/// As `run_script`, where that is known of the nodes when their desks open, and of what their threads take.
+/// As `run_script`, with `O` for what is known of the nodes when their desks open, and `T` for what their threads take.
 fn run_opened<O, T, N, W, P, R>(
     rt: &R,
     alloc: Global,
@@ -202,18 +202,18 @@ where
 }
 
 /// Runs all nodes, each in threads of its own, while the script's lines are ordered and asked one after another; then
-/// stops all nodes. Each order and each question is answered once all records are committed that the node's journal had
-/// then. Writes the answers, a line each, and then the table of a run that leads to what all nodes have committed: of
-/// the world that the protocol's own steps lead to, whatever sockets and threads did.
+/// stops all nodes. The answer to each order and each question comes once all records are committed that the node's
+/// journal had then. Writes the answers, a line each, and then the table of a run that leads to the committed records
+/// of all nodes: of the world that the protocol's own steps lead to, regardless of how sockets and threads behaved.
 ///
 /// The nodes are the log and then the registries in the scheme's order, each with its store, the state that the store's
-/// records lead to, and what accepts its connections. The watch is told of the script's lines, and afterwards of the
-/// records as they are settled and woven. Returns the nodes as they ended: no store has failed, each has the committed
-/// records of its node, which the table is of, and these begin with those that it was loaded with. Since then each has
-/// the script's orders that were answered as recorded, in the script's order, each once. It has no others but for those
-/// that it had taken when it stopped. What else it has is a message, at a moment that the clock told, or the
-/// acknowledgement of a message that a store had as a committed record's, and that its peer replied over a connection
-/// that it received.
+/// records lead to, and the listener that accepts its connections. The watch is called for each of the script's lines,
+/// and afterwards for the records as they are settled and woven. Returns the nodes as they ended: no store has failed,
+/// each has the committed records of its node, which the table shows, and these begin with the records that it was
+/// loaded with. After those it has each of the script's orders that was answered as recorded, in the script's order,
+/// each once. It has no other orders except those that it had taken when it stopped. Every other record is a message,
+/// at a moment that the clock gave, or the acknowledgement of a message that a store had as a committed record's, and
+/// whose peer replied, over a connection, that it was received.
 ///
 /// # Errors
 ///
@@ -221,10 +221,10 @@ where
 ///
 /// - `Store`: the fault of the first node's store that failed, in the order of the log and then the registries. That
 ///   node stopped, and the others went on.
-/// - `Unsettled`: the first node whose threads were told something else than one thread alone would have been told.
+/// - `Unsettled`: the first node whose threads made other notes than a single thread would have made.
 /// - `Stuck`: no run leads to the committed records, as for `audit`.
 ///
-/// And with `Write`, after the number of bytes that the fault tells, or `NoMemory`, where memory ran out.
+/// And with `Write`, after the number of bytes that the fault has, or with `NoMemory` if memory ran out.
 pub fn run_script<N, W, P, R>(
     rt: &R,
     alloc: Global,

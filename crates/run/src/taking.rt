@@ -1,10 +1,10 @@
-//! What the threads of a run have recorded.
+//! The inputs that the threads of a run have recorded.
 ghost use Rattle.protocol.specs.Input.{Input};
 
 use std::marker::Brand;
 
-/// What the threads of all nodes of a run have recorded. `run_script` picks it, with `Brand` for the type; `Brand`
-/// itself says nothing.
+/// The inputs that the threads of all nodes of a run have recorded. `run_script` picks it, with `Brand` for the type;
+/// `Brand` itself says nothing.
 pub(crate) trait Taking {
     /// A thread may have that input recorded.
     ghost takes: { Input → Type 0 };

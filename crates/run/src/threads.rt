@@ -28,28 +28,28 @@ use std::time::Duration;
 use units::{NoMemory, Node};
 use world::Core;
 
-/// What a script was told: an answer to each line, and the seats that it was told that with, one at each desk.
+/// The results of a script: an answer to each line, and the seats that noted them, one at each desk.
 #[derive(Drop)]
 pub(crate) struct Played {
     pub seats: Vec<Seat>,
     pub answers: Vec<ScriptAnswer>,
 }
 
-/// What was told at the desks of all nodes: to the threads of each node, and to the script.
+/// The notes made at the desks of all nodes: by the threads of each node, and by the script.
 #[derive(Drop)]
 pub(crate) struct Heard {
     pub threads: Vec<ThreadSeats>,
     pub script: Played,
 }
 
-/// What a run leaves: the nodes at their stations, and what was told there.
+/// The remains of a run: the nodes at their stations, and the notes made there.
 #[derive(Drop)]
 pub(crate) struct Run<O: Opening, N: NodeTypes> {
     pub stations: Vec<Station<O, Core, N>>,
     pub heard: Heard,
 }
 
-/// A script that is to be played: its lines, the scheme that they are about, and its nodes.
+/// A script that is to be played: its lines, their scheme, and its nodes.
 #[derive(Drop)]
 struct Script<'a, O: Opening, N: NodeTypes> {
     scheme: &'a Scheme,
@@ -83,7 +83,7 @@ impl<'a, O: Opening, N: NodeTypes> Script<'a, O, N> {
         Ok(Played { seats, answers })
     }
 
-    /// Plays the script with new seats once that many threads have reported at that muster. Fails with `NoMemory` where
+    /// Plays the script with new seats once that many threads have reported at that muster. Fails with `NoMemory` if
     /// one is missing: then no order was given and nothing asked.
     fn play_mustered<P: Watch, R: Wait + SystemClock>(
         &self,
@@ -137,11 +137,11 @@ fn count_threads<O: Opening, N: NodeTypes>(nodes: &[NodeThreads<'_, O, Core, N>]
 }
 
 /// Runs the nodes in threads of their own while the script is played, which begins once they have reported at that
-/// muster, and then stops all nodes. Fails with `NoMemory` where memory for the threads or for the answers ran out, or
-/// where a thread didn't report.
+/// muster, and then stops all nodes. Fails with `NoMemory` if memory for the threads or for the answers ran out, or if
+/// a thread didn't report.
 ///
-/// Where the system has no thread for the nodes, they begin when the script has ended: it was not played, since no
-/// thread reported, and all desks have stopped, so that they end at once.
+/// If the system has no thread for the nodes, they begin when the script has ended: it was not played, since no thread
+/// reported, and all desks have stopped, so the nodes end at once.
 fn run_beside<O, N, P, R>(
     rt: &R,
     alloc: Global,
@@ -232,14 +232,14 @@ where
 
 /// Makes a desk of each node's state, and runs the nodes in threads of their own while the script's lines are ordered
 /// and asked one after another; then stops all nodes, and returns once their threads have ended. The first line waits
-/// for all threads to begin. The watch is told of each line. Each order and each question is answered once all records
-/// are committed that the node's journal had then.
+/// for all threads to begin. The watch is called for each line. The answer to each order and each question comes once
+/// all records are committed that the node's journal had then.
 ///
 /// # Errors
 ///
-/// Fails with `NoMemory` where memory ran out before a thread was started, for the threads or for the answers. It fails
-/// so also where the system had too few threads: some were missing, and for `LONGEST_MUSTER` seconds no further one
-/// began. Then no line was ordered or asked. All nodes have stopped in any case.
+/// Fails with `NoMemory` if memory ran out before a thread was started, for the threads or for the answers. It also
+/// fails with `NoMemory` if the system had too few threads: some were missing, and for `LONGEST_MUSTER` seconds no
+/// further one began. Then no line was ordered or asked. All nodes have stopped in any case.
 pub(crate) fn run_and_play<O, N, P, R>(
     rt: &R,
     alloc: Global,

@@ -1,16 +1,16 @@
-//! Who is told how far a script has come.
+//! Watching the progress of a script.
 
 use desk::Opening;
 use sessions::{NodeTypes, Station};
 use std::sync::Wait;
 use world::Core;
 
-/// What is told while a script is played. It changes nothing of what comes of the script.
+/// Is called while a script is played. It changes no result of the script.
 pub trait Watch {
     /// One more line was answered.
     fn answered(&mut self);
 
-    /// Whether it wants to be told of committed records now. It is asked at each line, and again and again while one
+    /// Whether it wants the count of committed records now. It is called at each line, and again and again while a line
     /// waits for its answer.
     fn wants_count(&mut self) -> bool;
 
@@ -18,7 +18,7 @@ pub trait Watch {
     fn committed(&mut self, records: usize);
 }
 
-/// Tells how many records the nodes have committed, where the watch wants to know.
+/// Passes on how many records the nodes have committed, if the watch wants to know.
 pub(crate) fn tell_committed<O: Opening, N: NodeTypes, P: Watch, R: Wait>(
     rt: &R,
     stations: &[Station<O, Core, N>],
@@ -34,7 +34,7 @@ pub(crate) fn tell_committed<O: Opening, N: NodeTypes, P: Watch, R: Wait>(
     watch.committed(records);
 }
 
-/// Nobody, who is told nothing.
+/// A watch that does nothing.
 #[derive(Clone, Copy, Debug)]
 pub struct Nobody;
 

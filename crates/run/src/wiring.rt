@@ -9,7 +9,7 @@ use std::alloc::Global;
 use units::{NoMemory, Node};
 use world::Core;
 
-/// A node that a run begins with: its state with its store, and what accepts its connections.
+/// A node at the beginning of a run: its state with its store, and the listener that accepts its connections.
 #[derive(Drop)]
 pub struct LoadedNode<N: NodeTypes> {
     pub stored: Stored<Core, N::Store>,
@@ -20,7 +20,7 @@ pub struct LoadedNode<N: NodeTypes> {
 ///
 /// # Errors
 ///
-/// Fails with `NoMemory` where memory ran out. The store is closed then.
+/// Fails with `NoMemory` if memory ran out. The store is closed then.
 pub fn station_of<O: Opening, N: NodeTypes>(
     alloc: Global,
     peers: &[Node],

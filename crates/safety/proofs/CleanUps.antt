@@ -1,7 +1,7 @@
--- What a clean-up takes. A test for one transaction is carried from the outside of `expired` to its inside: through
--- what the table says of each, through the sort, and through the age, down to the newest transition of each
--- transaction, of which one at most passes. Order is carried the other way: the newest ones are of different
--- transactions, the sort puts such in ascending order, and what the table says of each is of the same transaction.
+-- The transitions of a clean-up. A test for one transaction is carried from the outside of `expired` to its inside:
+-- through the row of the table for each, through the sort, and through the age, down to the newest transition of each
+-- transaction; at most one of these passes. Order is carried the other way: the newest ones are of different
+-- transactions, the sort puts them in ascending order, and the row of each is about the same transaction.
 use Rattle.std.proofs.Common.{◌≡◌, ℕ, List, [], ◌∷◌, ◌++◌, Bool, true, false, Option, Some, None, Ordering, cond, inl, inr, not, refl, sym, ap, subst, ◌∙◌}
 use Rattle.std.specs.List.{AllByRecursion}
 use Rattle.std.specs.Option.{option_map_or}
@@ -42,7 +42,7 @@ module _ {X : Type 0} (p : X → Bool) where
   filter_none [] h = refl
   filter_none (x ∷ xs) h = filter_no x xs h.0 ∙ filter_none xs h.1
 
-  -- what is so of each element is so of each that passes
+  -- a property of each element is one of each that passes
   all_filter : (P : X → Type 0) (xs : List X) → AllByRecursion P xs → AllByRecursion P (filter p xs)
   all_filter P [] h = tt
   all_filter P (x ∷ xs) h = go (p x) (all_filter P xs h.1)
@@ -51,7 +51,7 @@ module _ {X : Type 0} (p : X → Bool) where
       go true rest = (h.0, rest)
       go false rest = rest
 
-  -- and so is what is so of each two
+  -- a relation of each two elements is one of each two that pass
   pairwise_filter : (R : X → X → Type 0) (xs : List X) → Pairwise R xs → Pairwise R (filter p xs)
   pairwise_filter R [] h = tt
   pairwise_filter R (x ∷ xs) h = go (p x) (pairwise_filter R xs h.1)
@@ -118,7 +118,7 @@ Differ a b = same_id b.id a.id ≡ false
 abbrev Before : Transition → Transition → Type 0
 Before a b = id_cmp a.id b.id ≡ Less
 
--- the test for less says so
+-- from the test for less
 before_from : (o : Ordering) → is_lt o ≡ true → o ≡ Less
 before_from Less h = refl
 before_from Equal h = absurd (cc (h))
@@ -167,7 +167,7 @@ newest_alone (x ∷ xs) t = go (same_id x.id t) refl (newest_alone xs t)
 
 -- ---- in the order of identifiers
 
--- what is so of one and of all in the list is so of all after it was put there
+-- a property of one and of all in the list is one of all after it was put there
 all_put : (P : Transition → Type 0) (x : Transition) (ys : List Transition) → P x → AllByRecursion P ys → AllByRecursion P (put_transition x ys)
 all_put P x [] first h = (first, tt)
 all_put P x (y ∷ ys) first h = go (is_lt (id_cmp x.id y.id)) (all_put P x ys first h.1)
@@ -237,7 +237,7 @@ filter_cleaned t moment x = of_cleaned (λ ys. filter (is_of t) ys ≡ cond (is_
     neither true = refl
     neither false = refl
 
--- what is so of each identifier is so of those of what is made
+-- a property of each identifier is one of those of the transitions that are made
 all_cleaned : (P : TransactionId → Type 0) (moment : ℕ) (xs : List Transition) → AllByRecursion (λ (x : Transition). P x.id) xs → AllByRecursion (λ (x : Transition). P x.id) (flat_map (cleaned moment) xs)
 all_cleaned P moment [] h = tt
 all_cleaned P moment (x ∷ xs) h =

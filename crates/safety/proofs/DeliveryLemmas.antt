@@ -1,4 +1,4 @@
--- Which deliveries a node refuses, and what the log finds in a proposal.
+-- The deliveries that a node refuses, and the findings of the log in a proposal.
 pub mod WelcomeAtLog
 pub mod WelcomeAtRegistry
 pub mod WelcomeMessages

@@ -1,4 +1,4 @@
--- The history of the log by itself, whatever messages come to it.
+-- The history of the log by itself, for all messages that it receives.
 pub mod LogHearings
 pub mod LogInputs
 pub mod OwnersInLog

@@ -1,4 +1,4 @@
--- The history of one registry by itself, whatever messages come to it.
+-- The history of one registry by itself, for all messages that it receives.
 pub mod UnitsCountedOnce
 pub mod RegistryHearings
 pub mod TransactionEnds

@@ -8,21 +8,21 @@ ghost use Rattle.protocol.specs.History.{transitions_of};
 ghost use Rattle.protocol.specs.Verdict.{history};
 ghost use Rattle.protocol.specs.Claims.{CompletedOnce, CountedOnce, NextIsNew};
 
-/// At one registry, whatever it is given, forged messages included, a unit is counted once or not at all.
+/// At one registry, for all inputs, even forged messages, a unit is counted once or not at all.
 pub fn registry_counts_once()
     ensures { (scheme : Scheme) (c : Code) (journal : List Input)
         → CountedOnce scheme c (transitions_of (history scheme (Registry c) journal)) }
 {}
 
-/// At one registry, whatever it is given, forged messages included, a transition to Completed is the newest of its
-/// transaction, and its only one: counts of these transitions are counts of transactions.
+/// At one registry, for all inputs, even forged messages, a transition to Completed is the newest of its transaction,
+/// and its only one: the number of these transitions is the number of transactions.
 pub fn completed_once()
     ensures { (scheme : Scheme) (c : Code) (journal : List Input)
         → CompletedOnce (transitions_of (history scheme (Registry c) journal)) }
 {}
 
-/// At one registry, whatever it is given, forged messages included, the number of the next proposal is no transaction's
-/// yet, so that the status table has a row for each propose order that has a number.
+/// At one registry, for all inputs, even forged messages, no transaction has the number of the next proposal yet: the
+/// status table has a row for each propose order that has a number.
 pub fn numbers_are_new()
     ensures { (scheme : Scheme) (c : Code) (journal : List Input) → NextIsNew c (history scheme (Registry c) journal) }
 {}

@@ -9,7 +9,7 @@ ghost use Rattle.protocol.specs.Table.{due};
 ghost use Rattle.protocol.specs.World.{opening, run};
 ghost use Rattle.protocol.specs.declared.event.WorldEvent.{WorldEvent};
 
-/// Over every list of events, the proposals that are due and have a unit are as many as the completed transfers
+/// Over every list of events, the number of proposals that are due and have a unit is the number of completed transfers
 /// that owe it: one for an allotted unit that no registry holds, and none for any other unit, by
 /// [`units_stand_in_one_place`](crate::units_stand_in_one_place).
 pub fn debts_are_owed()

@@ -1,5 +1,5 @@
-//! Laws of the protocol, over every scheme and every list of events. No code that runs stands here:
-//! each function has an empty body, and its clauses are the law.
+//! Laws of the protocol, over every scheme and every list of events. This crate has no code that runs: each function
+//! has an empty body, and its clauses are the law.
 #![tactic(auto)]
 
 mod agreement;

@@ -5,9 +5,9 @@ ghost use Rattle.protocol.specs.Claims.{OnePlace, SpentOnce, committed_of, live_
 ghost use Rattle.protocol.specs.World.{opening, run};
 ghost use Rattle.protocol.specs.declared.event.WorldEvent.{WorldEvent};
 
-/// Over every list of events an allotted unit is held by one registry and owed by no transfer, or
-/// held by none and owed by exactly one completed transfer; no other unit is held or owed; and no
-/// unit is spendable in two registries: by journals with their tails, and by committed journals.
+/// Over every list of events an allotted unit is held by one registry and owed by no transfer, or held by none and owed
+/// by exactly one completed transfer; no other unit is held or owed; and no unit is spendable in two registries. This
+/// holds for journals with their tails and for committed journals.
 pub fn units_stand_in_one_place()
     ensures live { (scheme : Scheme) (events : List WorldEvent)
         → OnePlace scheme (live_of (run (opening scheme) events)) }

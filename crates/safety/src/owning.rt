@@ -1,4 +1,4 @@
-//! Who owns a unit, and whose units the log's book says they are.
+//! Who owns a unit, by the journals of all nodes and by the log's book.
 ghost use Rattle.std.specs.Prelude.{List};
 ghost use Rattle.scheme.specs.declared.registries.Scheme.{Scheme};
 ghost use Rattle.protocol.specs.Claims.{HolderOwns, committed_of, live_of};
@@ -6,8 +6,8 @@ ghost use Rattle.protocol.specs.Owner.{OneOwner, OwnersMove};
 ghost use Rattle.protocol.specs.World.{opening, run, step};
 ghost use Rattle.protocol.specs.declared.event.WorldEvent.{WorldEvent};
 
-/// Over every list of events, a registry that holds a unit is its owner in the log's book: by journals
-/// with their tails, and by committed journals.
+/// Over every list of events, a registry that holds a unit is its owner in the log's book. This holds for journals with
+/// their tails and for committed journals.
 pub fn holders_own()
     ensures live { (scheme : Scheme) (events : List WorldEvent)
         → HolderOwns scheme (live_of (run (opening scheme) events)) }
@@ -24,9 +24,8 @@ pub fn units_have_one_owner()
         → OneOwner scheme (committed_of (run (opening scheme) events)) }
 {}
 
-/// Over every list of events, one event more moves a unit's owner only by committing Completed of a
-/// transfer with it: at its initiator from the registry to the transfer, at its acquirer from the
-/// transfer to the registry.
+/// Over every list of events, one event more moves a unit's owner only by committing Completed of a transfer with the
+/// unit: at its initiator from the registry to the transfer, at its acquirer from the transfer to the registry.
 pub fn owners_move_by_completions()
     ensures { (scheme : Scheme) (events : List WorldEvent) (event : WorldEvent)
         → OwnersMove scheme (committed_of (run (opening scheme) events))

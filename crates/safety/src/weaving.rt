@@ -8,9 +8,9 @@ ghost use Rattle.protocol.specs.Weave.{ArePrefixes, HasNext, InTurn, IsFurthestC
 ghost use Rattle.protocol.specs.World.{opening, run};
 ghost use Rattle.protocol.specs.declared.event.WorldEvent.{WorldEvent};
 
-/// Journals are those that some list of events leads to exactly where their records have an order in which
-/// each is next when its turn comes. A part of such journals that falls short can always go on; and where
-/// none can go on, no list of events leads to the journals.
+/// Some list of events leads to the journals exactly when their records have an order in which each is next when its
+/// turn comes. A part of such journals that falls short can always go on; and where none can go on, no list of events
+/// leads to the journals.
 pub fn journals_weave()
     ensures reached { (scheme : Scheme) (order : List Placed) → InTurn scheme order → (events : List WorldEvent)
         × Projects scheme events (journals_of order) }
@@ -36,8 +36,8 @@ pub fn there_is_a_furthest_cut()
         → StuckIsFurthest (run (opening scheme) events) journals }
 {}
 
-/// That each record is recorded on its journal, and each received message is among all that its sender
-/// sends, doesn't make journals that events lead to: an order is needed.
+/// It isn't enough that each record is recorded after those before it and that each received message is among all that
+/// its sender sends: there are such journals that no list of events leads to. An order is needed.
 pub fn plausible_is_not_enough()
     ensures { (scheme : Scheme) × (journals : Node → List Input) × IsPlausible scheme journals
         × ((events : List WorldEvent) → Projects scheme events journals → ⊥) }

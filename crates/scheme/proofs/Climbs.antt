@@ -1,4 +1,4 @@
--- Lists that rise by a transitive relation: what neighbours say of all, and that the order is in the elements.
+-- Lists that rise by a transitive relation: from neighbours to all elements, and that the elements determine the order.
 use Rattle.std.proofs.Common.{◌≡◌, ℕ, zero, suc, ◌+◌, ◌<◌, List, [], ◌∷◌, length, get_or, refl, sym, subst, ◌∙◌, arith, ◌⊎◌, inl, inr}
 use Rattle.std.specs.List.{AllAdjacentBelow, Contains}
 use Rattle.std.proofs.lemmas.List.Elements.{All-from_recursion, All-contains}

@@ -1,4 +1,4 @@
--- What a list keeps in any other order of its elements.
+-- Properties of a list that hold in any other order of its elements.
 use Rattle.std.proofs.Common.{ℕ, zero, suc, ◌<◌, List, [], ◌∷◌, ◌++◌, length, get_or, sym, subst, arith, append_assoc}
 use Rattle.std.specs.Prelude.{IsPermutation}
 use Rattle.std.specs.List.{swap}
@@ -8,7 +8,7 @@ use Rattle.std.proofs.lemmas.List.Sorted.{IsPermutation-keeps}
 use Rattle.units.specs.Apart.{Pairwise}
 use Rattle.scheme.proofs.Pairs.{neighbours_turn}
 
--- what holds still where two neighbours change places holds in each order
+-- a property that holds still where two neighbours change places holds in each order
 module _ {X : Type 0} (P : List X → Type 0) (turn : (xs : List X) (x y : X) (ys : List X) → P (xs ++ x ∷ y ∷ ys) → P (xs ++ y ∷ x ∷ ys)) where
   shift : (xs : List X) (x : X) (ys : List X) → P (xs ++ x ∷ ys) → P ((xs ++ x ∷ []) ++ ys)
   shift xs x ys p = subst P (sym (append_assoc xs (x ∷ []) ys)) p

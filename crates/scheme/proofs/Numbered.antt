@@ -22,7 +22,7 @@ members_numbered no_items (m ∷ ms) each = absurd each
 members_numbered (item d ds) [] each = absurd each
 members_numbered (item d ds) (m ∷ ms) each = let accounts = each.0.accounts in (accounts_numbered accounts.0 m.accounts accounts.2, members_numbered ds ms each.1)
 
--- those that a text writes, in whatever order
+-- the registries that a text writes, in any order
 pub written_numbered : (d : Data) (records : ℕ) (listed ms : List SchemeRegistry) → IsWritten d records listed → IsPermutation listed ms → AreNumbered ms
 written_numbered d records listed ms written sorted =
     let registries = written.registries in

@@ -1,4 +1,4 @@
--- The answer to a text is one: a scheme, or a fault.
+-- A text has one result: a scheme, or a fault.
 use Rattle.std.proofs.Common.{◌≡◌, ◌⊎◌, inl, inr, ℕ, ◌≤◌, List, [], ◌∷◌, Some, refl, sym, subst, ◌∙◌, Result, Ok, Err}
 use Rattle.std.specs.Prelude.{IsPermutation, IfErr}
 use Rattle.std.specs.List.{AllByRecursion, Contains}
@@ -89,7 +89,7 @@ pub fault_told : {X : Type 0} (d : Data) (e : TextFault) (r : Result X SchemeFau
 fault_told d e (Ok x) same p = tt
 fault_told d e (Err f) same p = subst (IsFaultOf d) (sym same) (fault_of_written d e p)
 
--- ---- one answer to a text
+-- ---- one result for a text
 
 members_same : (bytes : List ℕ) (m n : ℕ) (ms ns : List SchemeRegistry) → Writes bytes m ms → Writes bytes n ns → ms ≡ ns
 members_same bytes m n ms ns p q = members_one p.value m n ms ns p.written (subst (λ d. IsWritten d n ns) (same_value bytes q.value p.value q.reads p.reads) q.written)

@@ -1,4 +1,4 @@
--- What holds of each two elements of a list.
+-- Relations between each two elements of a list.
 use Rattle.std.proofs.Common.{ℕ, zero, suc, ◌<◌, List, [], ◌∷◌, ◌++◌, length, get_or, refl, arith}
 use Rattle.std.specs.List.{AllByRecursion, Contains}
 use Rattle.std.proofs.lemmas.List.Elements.{All-from_recursion}
@@ -42,7 +42,7 @@ module _ {X : Type 0} (R : X → X → Type 0) where
       let front = each_split (R z) zs (x ∷ y ∷ ys) p.0 in
       (each_append (R z) zs (y ∷ x ∷ ys) front.0 (front.1.1.0, (front.1.0, front.1.1.1)), neighbours_turn sym_R zs x y ys p.1)
 
--- so of each element that the list contains
+-- a property of each element that the list contains
 pub each_contained : {X : Type 0} (P : X → Type 0) (xs : List X) → ((x : X) → Contains xs x → P x) → AllByRecursion P xs
 each_contained P [] f = tt
 each_contained P (x ∷ xs) f = (f x (0, (omega arith), refl), each_contained P xs (λ y has. f y (suc has.0, (omega arith), has.2)))

@@ -1,4 +1,4 @@
--- What a scheme is written as is read back as it.
+-- The text that a scheme is written as is read back as that scheme.
 use Rattle.std.proofs.Common.{◌≡◌, ℕ, ◌<◌, ◌≤◌, List, [], ◌∷◌, Some, codes, Bool, true, refl, sym, subst, arith, ◌==◌}
 use Rattle.std.specs.Prelude.{IsUtf8, IsTrue}
 use Rattle.std.specs.List.{AllByRecursion, list_any}

@@ -1,6 +1,6 @@
--- What a binary search among registries in byte order of their codes finds: the index of the registry of a code, or
--- that there is none. All is said in ranks, numbers whose order is that of codes: those of the registries rise, so at
--- most one is the code's.
+-- The result of a binary search among registries in byte order of their codes: the index of the registry of a code, or
+-- that there is none. All is stated in ranks, numbers whose order is that of codes: those of the registries rise, and
+-- at most one of them is the code's.
 use Rattle.std.proofs.Common.{◌≡◌, ◌⊎◌, inl, inr, ℕ, zero, suc, ◌<◌, ◌≤◌, ◌==◌, List, [], ◌∷◌, length, get_or, ◌+◌, Bool, Some, None, Result, Ok, Err, true, false, refl, sym, ap, ◌∙◌, subst, arith, eq-eqb}
 use Rattle.std.specs.Prelude.{MatchResult}
 use Rattle.std.specs.List.{AllByRecursion, position_from}
@@ -103,7 +103,7 @@ missing (m ∷ ms) c k none =
       | Greater ↦ λ h. absurd (omega arith)
     ] (codes_compare a b)
 
--- the search tells the registry's index, or that there is none
+-- the search returns the registry's index, or that there is none
 pub searched : (ms : List SchemeRegistry) (c : Code) (r : Result ℕ ℕ) → AreOrdered ms → MatchResult r (λ i. i < length ms) (λ i. i ≤ length ms) → IsBinarySearchResult (λ m. code_cmp m.code c) ms r
     → result_ok r ≡ position_from (has_code c) 0 ms
 searched ms c (Ok i) ordered lt is = let same : i ≡ 0 + i = omega arith in ap Some same ∙ sym (found ms c 0 i ordered lt is)

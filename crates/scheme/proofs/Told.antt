@@ -1,4 +1,4 @@
--- What the tests for faults tell.
+-- The tests for faults, and the facts that follow from their results.
 use Rattle.std.proofs.Common.{◌≡◌, ◌≢◌, ◌==◌, inl, inr, ℕ, ◌+◌, ◌-◌, ◌<◌, ◌≤◌, ◌⊎◌, Bool, true, false, true≢false, List, [], ◌∷◌, ◌++◌, length, get_or, take, map, refl, sym, ap, subst, ◌∙◌, arith, Result, Ok, Err, Ordering, nat_cmp}
 use Rattle.std.specs.Prelude.{IsPermutation, IsTrue}
 use Rattle.std.specs.List.{AllByRecursion, AllAdjacentBelow, Contains}
@@ -31,7 +31,7 @@ use Rattle.scheme.proofs.Moves.{pairs_moved}
 use Rattle.scheme.proofs.Climbs.{all_from_neighbours, one_order}
 use Rattle.scheme.proofs.BlocksInOrder.{EndsBefore, ends_transitive, apart_behind, shared, behind}
 
--- ---- answers
+-- ---- results
 
 pub yes : {P : Type 0} → P → (true ≡ true → P) × (P → true ≡ true)
 yes p = ((λ _. p), (λ _. refl))
@@ -68,7 +68,7 @@ neighbours_more R xs i x y some lt xis yis here before = all_adjacent_more xs R 
 
 -- ---- sorts
 
--- what a sort leaves between an element and the one before it
+-- an element and the one before it, after a sort
 pub sorted_here : {X K : Type 0} (key : X → K) (cmp : K → K → Ordering) (xs : List X) (i : ℕ) (x y : X) → 1 ≤ i → i < length xs → x ≡ get_or xs (i - 1) x → y ≡ get_or xs i y → IsSortedByKey key cmp xs
     → is_lt (cmp (key y) (key x)) ≡ false
 sorted_here key cmp xs i x y some lt xis yis sorted =
@@ -139,7 +139,7 @@ code_other a b less e =
 pub other_from_test : (a b : Code) → same_code a b ≡ false → a ≡ b → ⊥
 other_from_test a b no_test e = true≢false (sym (subst (λ c. same_code a c ≡ true) e (same_code-refl a)) ∙ no_test)
 
--- what a sort leaves between two codes
+-- two codes after a sort
 less_or_same : (a b : Code) → is_lt (code_cmp b a) ≡ false → (code_cmp a b ≡ Less) ⊎ (a ≡ b)
 less_or_same a b sorted = elim (cases_lt (code_rank a) (code_rank b)) [
   | inl lower ↦ inl (code_less a b lower)

@@ -1,4 +1,4 @@
--- The function from units to who holds them at the start: the registry, the account, and the kind of each.
+-- The function from units to their holders at the start: the registry, the account, and the kind of each.
 use Rattle.std.specs.Prelude.{ℕ, List, [], ◌∷◌, Option, None, option_map}
 use Rattle.std.specs.Option.{option_or}
 use Rattle.std.specs.List.{find}
@@ -13,12 +13,12 @@ use Rattle.scheme.specs.declared.members.Holder.{Holder}
 abbrev pub holder : Code → ℕ → Kind → Holder
 holder code account kind = record { registry = code; account = account; kind = kind }
 
--- who holds it by the allotments of a registry
+-- the holder by the allotments of a registry
 abbrev pub allotted_in : Code → List Allotment → Serial → Option Holder
 allotted_in code [] unit = None
 allotted_in code (a ∷ allotted) unit = option_or (option_map (λ b. holder code a.account b.raw.kind) (find (λ b. has_unit b.raw unit) a.units)) (allotted_in code allotted unit)
 
--- who holds it at the start
+-- the holder at the start
 abbrev pub allotted : List SchemeRegistry → Serial → Option Holder
 allotted [] unit = None
 allotted (m ∷ members) unit = option_or (allotted_in m.code m.allotted unit) (allotted members unit)

@@ -28,11 +28,11 @@ IsNoJson bytes = (value : Data) → IsUtf8 bytes → read bytes ≡ Some value �
 abbrev pub IsOutside : List ℕ → Type 0
 IsOutside bytes = IsUtf8 bytes × (value : Data) × (read bytes ≡ Some value) × ((records : ℕ) (members : List SchemeRegistry) → IsWritten value records members → ⊥)
 
--- the text writes registries, of whose faults this is the first
+-- the text writes registries, and this is the first of their faults
 abbrev pub HasFault : List ℕ → SchemeFault → Type 0
 HasFault bytes fault = (records : ℕ) × (members : List SchemeRegistry) × Writes bytes records members × IsFirst faults_in_order members fault
 
--- why the text is no scheme; out of memory says nothing of it
+-- why the text is no scheme; running out of memory says nothing about the text
 abbrev pub IsFault : List ℕ → SchemeFault → Type 0
 IsFault bytes NotJson = IsNoJson bytes
 IsFault bytes Shape = IsOutside bytes

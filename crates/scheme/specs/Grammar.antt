@@ -14,7 +14,7 @@ use Rattle.scheme.specs.declared.members.SchemeRegistry.{SchemeRegistry}
 
 -- ---- lists
 
--- no element stands twice
+-- no element is there twice
 abbrev pub HasNoTwins : {X : Type 0} → List X → Type 0
 HasNoTwins xs = Pairwise (λ x y. x ≢ y) xs
 
@@ -28,7 +28,7 @@ IsAccount d n = (d ≡ number (unsigned n)) × IsAccountNumber n
 abbrev pub IsKind : Data → Kind → Type 0
 IsKind d k = d ≡ string (kind_text k)
 
--- the text of a block, whose numbers are in range as those of every block
+-- the text of a block, with numbers in range as in every block
 abbrev pub IsBlock : Data → Block → Type 0
 IsBlock d b = (text : List ℕ) × (d ≡ string text) × IsRawText text b.raw
 

@@ -1,4 +1,4 @@
--- What holds of the registries of every scheme.
+-- The conditions that the registries of every scheme meet.
 use Rattle.std.specs.Prelude.{◌≡◌, ℕ, ◌≤◌, List, [], ◌∷◌, ◌++◌, length, map, Bool, IsTrue, ◌==◌, Option}
 use Rattle.std.specs.declared.cmp.Ordering.TheVariants.{Less}
 use Rattle.std.specs.List.{AllByRecursion, list_any, find}
@@ -32,7 +32,7 @@ has_account m number = list_any (λ n. n == number) m.accounts
 abbrev pub HasAccount : SchemeRegistry → ℕ → Type 0
 HasAccount m number = IsTrue (has_account m number)
 
--- no more registries, accounts in each, and allotted blocks than a scheme may have
+-- the registries, the accounts of each, and the allotted blocks are no more than a scheme may have
 pub record AreFew (members : List SchemeRegistry) : Type 0 where
   pub registries : length members ≤ most_registries
   pub accounts : AllByRecursion (λ m. length m.accounts ≤ most_accounts) members

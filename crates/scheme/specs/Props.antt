@@ -1,4 +1,4 @@
--- What holds of the registries of a scheme has one proof, as a field of the scheme must.
+-- The conditions on the registries of a scheme have one proof, which a field of the scheme must have.
 use Rattle.std.specs.Prelude.{◌≡◌, ◌≢◌, ◌≤◌, ℕ, List, [], ◌∷◌, length}
 use Rattle.std.specs.declared.cmp.Ordering.TheVariants.{Less}
 use Rattle.std.specs.Coded.{×_prop, Unit-prop, le_prop}

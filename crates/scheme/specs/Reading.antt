@@ -1,4 +1,4 @@
--- What the code that reads schemes follows; no public contract cites it.
+-- The conditions that the code that reads schemes checks; no public contract cites them.
 use Rattle.std.specs.Prelude.{ℕ, ◌≤◌, ◌==◌, List, IsTrue, IsPermutation, codes}
 use Rattle.std.specs.List.{list_any}
 use Rattle.std.specs.List.Sorted.{IsSortedByKey}
@@ -30,7 +30,7 @@ AreSorted members = IsSortedByKey (λ m. m.code) code_cmp members
 abbrev pub IsKnown : List ℕ → ℕ → Type 0
 IsKnown numbers known = IsTrue (list_any (λ n. n == known) numbers)
 
--- the value writes the scheme's registries, in whatever order
+-- the value writes the scheme's registries, in any order
 abbrev pub IsSchemeOf : Data → Scheme → Type 0
 IsSchemeOf d s = (listed : List SchemeRegistry) × IsWritten d s.records listed × IsPermutation listed s.members
 

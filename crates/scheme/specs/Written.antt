@@ -1,4 +1,4 @@
--- The text that a scheme is written as: compact JSON, keys in byte order, registries in byte order of their codes.
+-- The text of a scheme: compact JSON, keys in byte order, registries in byte order of their codes.
 use Rattle.std.specs.Prelude.{ℕ, List, [], ◌∷◌, codes}
 use Rattle.serde_json.specs.Data.{Data, boolean, string}
 use Rattle.serde_json.specs.Written.{compact_text}

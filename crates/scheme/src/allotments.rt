@@ -12,7 +12,7 @@ use crate::registries::Scheme;
 use std::alloc::Global;
 use units::{Block, Code, NoMemory, UnitMap};
 
-/// The blocks' units are the account's, also those that were another's.
+/// Gives the blocks' units to the account, even those that were given to another one.
 fn put_blocks(
     holders: &mut UnitMap<Holder>,
     registry: Code,
@@ -24,7 +24,7 @@ fn put_blocks(
         ≡ option_or (option_map (λ b. holder registry account b.raw.kind) (find (λ b. has_unit b.raw u) blocks.now))
         (map.get holders.old u)) }
 {
-    // from the last one, so that the first one with a unit decides
+    // from the last block, since the first one with a unit decides
     let mut left = blocks.len();
     while left > 0 {
         left -= 1;
@@ -40,7 +40,7 @@ fn put_blocks(
     Ok(())
 }
 
-/// The units that the registry's accounts have at the start are theirs.
+/// Gives each account of the registry the units that it has at the start.
 fn put_allotted(
     holders: &mut UnitMap<Holder>,
     registry: Code,

@@ -17,7 +17,7 @@ use std::alloc::{AllocError, Global};
 use units::Block;
 use units::limits::{LEAST_REGISTRIES, MOST_ACCOUNTS, MOST_ALLOTTED, MOST_REGISTRIES};
 
-/// Adds the blocks of all the allotments after those that are there.
+/// Adds the blocks of all the allotments at the end.
 fn push_units(all: &mut Vec<Block>, allotted: &[Allotment]) -> Result<(), AllocError>
     ensures { OnOk result (all.new.items ≡ all.old.items ++ blocks_of allotted.now) }
 {
@@ -50,7 +50,8 @@ fn have_few_accounts(members: &[SchemeRegistry]) -> bool
     true
 }
 
-/// Whether neither the registries nor their accounts nor their blocks, `blocks` in number, are too many.
+/// Whether there are too many neither of the registries, nor of their accounts, nor of their blocks. `blocks` is the
+/// number of blocks.
 fn are_few(members: &[SchemeRegistry], blocks: usize) -> bool
     requires { blocks ≡ length (all_blocks members.now) }
     ensures { IsTrue result ↔ AreFew members.now }
@@ -61,7 +62,7 @@ fn are_few(members: &[SchemeRegistry], blocks: usize) -> bool
     have_few_accounts(members)
 }
 
-/// Whether the codes rise: of registries in order, two with one code are neighbours.
+/// Whether all codes are different. The registries are in order: two with one code are neighbours.
 fn have_different_codes(members: &[SchemeRegistry]) -> bool
     requires { AreSorted members.now }
     ensures { IsTrue result ↔ Pairwise (λ a b. code_cmp a.code b.code ≡ Less) members.now }
@@ -144,8 +145,8 @@ fn sort(blocks: &mut [Block])
     blocks.sort_unstable_by_key(|block| block.first_unit());
 }
 
-/// Whether no unit is in two of the blocks. Puts them in the order of their first units: a block
-/// that has a unit of a later one has the first unit of its neighbour.
+/// Whether no unit is in two of the blocks. Puts them in the order of their first units: a block that shares a unit
+/// with a later one has the first unit of its neighbour.
 fn are_apart(blocks: &mut [Block]) -> bool
     ensures { IsTrue result ↔ AllApart blocks.old }
 {
@@ -158,7 +159,7 @@ fn are_apart(blocks: &mut [Block]) -> bool
     true
 }
 
-/// The first fault of registries in order, and `None` where they are a scheme's.
+/// The first fault of registries in order, or `None` where they are those of a scheme.
 pub fn first_fault(
     alloc: Global,
     members: &[SchemeRegistry],

@@ -85,7 +85,7 @@ fn each_account(alloc: Global, values: &[Value]) -> Result<Items<u64>, TextFault
     Ok(Items::from_vec(accounts))
 }
 
-/// The kinds of an array, where none stands twice.
+/// The kinds of an array, where no kind is in it twice.
 fn different_kinds(alloc: Global, values: &[Value]) -> Result<Items<Kind>, TextFault>
     ensures { Finds (λ xs. EachIs IsKind (items_view values.now) xs × HasNoTwins xs) result }
 {
@@ -136,7 +136,7 @@ fn units(alloc: Global, value: &Value) -> Result<Items<Block>, TextFault>
     each_block(alloc, list.as_slice())
 }
 
-/// What an account has at the start.
+/// The blocks that an account has at the start.
 fn allotment(alloc: Global, value: &Value) -> Result<Allotment, TextFault>
     ensures { Finds (IsAllotment (view value.now)) result }
 {
@@ -160,7 +160,7 @@ fn each_allotment(alloc: Global, values: &[Value]) -> Result<Items<Allotment>, T
     Ok(Items::from_vec(allotted))
 }
 
-/// What the registry's accounts have at the start.
+/// The blocks that the registry's accounts have at the start.
 fn allotted(alloc: Global, value: &Value) -> Result<Items<Allotment>, TextFault>
     ensures { Finds (HasList IsAllotment (view value.now) (codes "allotted")) result }
 {

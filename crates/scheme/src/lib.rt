@@ -1,4 +1,4 @@
-//! The scheme: the registries, their accounts, and what each account has at the start.
+//! The scheme: the registries, their accounts, and the units that each account has at the start.
 #![tactic(auto)]
 
 mod allotments;

@@ -1,4 +1,4 @@
-//! The registries of a scheme and what their accounts have at the start.
+//! The registries of a scheme and the units that their accounts have at the start.
 ghost use Rattle.std.specs.Prelude.{◌≡◌};
 
 use json_fields::TextFault;
@@ -26,7 +26,7 @@ impl Drop for Allotment {
 #[derive(Debug)]
 pub struct SchemeRegistry {
     pub code: Code,
-    /// Numbers of 1 to `LAST_ACCOUNT`, in any scheme. In one that was read: at most `MOST_ACCOUNTS`, none twice.
+    /// Numbers of 1 to `LAST_ACCOUNT`, in every scheme. In a scheme that was read: at most `MOST_ACCOUNTS`, none twice.
     pub accounts: Items<u64>,
     /// In a scheme that was read: at most `MOST_ALLOTTED` blocks in all registries, no unit twice.
     pub allotted: Items<Allotment>,
@@ -92,13 +92,13 @@ pub enum SchemeFault {
     /// Two registries have one code.
     #[error("code-twice")]
     CodeTwice,
-    /// An account number stands twice in one registry.
+    /// An account number is listed twice in one registry.
     #[error("account-twice")]
     AccountTwice,
     /// An allotment is to an account that its registry doesn't have.
     #[error("unknown-account")]
     UnknownAccount,
-    /// A unit is allotted twice, of whatever kinds.
+    /// A unit is allotted twice, with any kinds.
     #[error("allotment-overlap")]
     AllotmentOverlap,
     #[error("out of memory")]

@@ -38,11 +38,10 @@ impl Scheme {
     /// - `TooFew`: it has fewer than two registries.
     /// - `CodeTwice`: two registries have one code.
     /// - `AccountTwice`: an account stands twice in its registry.
-    /// - `UnknownAccount`: an allotment, be it of no units, is to an account that its registry
-    ///   doesn't have.
-    /// - `AllotmentOverlap`: a unit is in two blocks, of whatever kinds.
+    /// - `UnknownAccount`: an allotment, even of no units, is to an account that its registry doesn't have.
+    /// - `AllotmentOverlap`: a unit is in two blocks, of any kinds.
     ///
-    /// `NoMemory`: an allocation was refused, which says nothing of the text.
+    /// `NoMemory`: an allocation was refused. It says nothing about the text.
     pub fn read(alloc: Global, bytes: &[u8]) -> Result<Scheme, SchemeFault>
         ensures ok { IfOk result (λ s. IsSchemeText bytes.now s) }
         ensures only { IfOk result (λ s. (t : Scheme) → IsSchemeText bytes.now t → t ≡ s) }
@@ -56,7 +55,7 @@ impl Scheme {
     }
 }
 
-/// A text has one result: a scheme or a fault, and no two faults but out of memory.
+/// A text has one result: a scheme or one fault. The exception is `NoMemory`, which every text may have.
 pub fn one_answer()
     ensures no_fault { (bytes : List ℕ) (s : Scheme) (f : SchemeFault) → IsSchemeText bytes s → IsFault bytes f
         → f ≡ NoMemory }

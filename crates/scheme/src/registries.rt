@@ -14,10 +14,10 @@ use crate::members::{Allotment, Holder, SchemeRegistry};
 use std::alloc::Global;
 use units::{Block, Code, Items, NoMemory, Unit};
 
-/// The registries, in byte order of their codes, and how many records each node's journal may have.
+/// The registries, in byte order of their codes, and the number of records that each node's journal may have.
 #[derive(Debug)]
 pub struct Scheme {
-    /// How many records each node's journal may have: 1 to `MOST_RECORDS`.
+    /// The greatest number of records of each node's journal: 1 to `MOST_RECORDS`.
     pub records: u64,
     /// `LEAST_REGISTRIES` to `MOST_REGISTRIES`, in byte order of their codes.
     pub members: Items<SchemeRegistry>,
@@ -43,7 +43,7 @@ fn block_of<'a>(allotment: &'a Allotment, unit: &Unit) -> Option<&'a Block>
     allotment.units.as_slice().iter().find(|b| b.has(unit))
 }
 
-/// Who holds the unit by the allotments of a registry.
+/// The holder of the unit by the allotments of a registry.
 fn holder_in(code: Code, allotted: &[Allotment], unit: &Unit) -> Option<Holder>
     ensures { result ≡ allotted_in code allotted.now unit.now }
 {
@@ -70,7 +70,7 @@ impl Scheme {
         })
     }
 
-    /// How many records each node's journal may have.
+    /// The greatest number of records of each node's journal.
     pub fn records(&self) -> u64
         ensures { result ≡ self.now.records }
     {
@@ -101,7 +101,7 @@ impl Scheme {
         self.registries().get(index)
     }
 
-    /// Who holds the unit at the start.
+    /// The holder of the unit at the start.
     pub fn allotted(&self, unit: &Unit) -> Option<Holder>
         ensures { result ≡ allotted self.now.members unit.now }
     {

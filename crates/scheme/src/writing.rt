@@ -42,7 +42,7 @@ fn write_blocks(alloc: Global, out: &mut JsonText, blocks: &[Block]) -> Result<(
     Ok(())
 }
 
-/// The accounts of a registry.
+/// Writes the accounts of a registry.
 fn put_accounts(out: &mut JsonText, accounts: &[u64]) -> Result<(), NoMemory>
     ensures { OnOk result (out.new ≡ after_field out.old (codes "accounts", array_with whole accounts.now)) }
 {
@@ -52,7 +52,7 @@ fn put_accounts(out: &mut JsonText, accounts: &[u64]) -> Result<(), NoMemory>
     out.end_array()
 }
 
-/// The kinds of units that a registry takes.
+/// Writes the kinds of units that a registry takes.
 fn put_kinds(out: &mut JsonText, kinds: &[Kind]) -> Result<(), NoMemory>
     ensures { OnOk result (out.new ≡ after_field out.old (codes "kinds", array_with kind_data kinds.now)) }
 {
@@ -62,7 +62,7 @@ fn put_kinds(out: &mut JsonText, kinds: &[Kind]) -> Result<(), NoMemory>
     out.end_array()
 }
 
-/// The blocks of an allotment.
+/// Writes the blocks of an allotment.
 fn put_units(alloc: Global, out: &mut JsonText, units: &[Block]) -> Result<(), NoMemory>
     ensures { OnOk result (out.new ≡ after_field out.old (codes "units", array_with block_data units.now)) }
 {
@@ -72,7 +72,7 @@ fn put_units(alloc: Global, out: &mut JsonText, units: &[Block]) -> Result<(), N
     out.end_array()
 }
 
-/// What an account has at the start.
+/// Writes the blocks that an account has at the start.
 fn write_allotment(alloc: Global, out: &mut JsonText, allotment: &Allotment) -> Result<(), NoMemory>
     ensures { OnOk result (out.new ≡ out.old ++ data_tokens (allotment_data allotment.now)) }
 {
@@ -95,7 +95,7 @@ fn write_allotments(
     Ok(())
 }
 
-/// What the accounts of a registry have at the start.
+/// Writes the blocks that the accounts of a registry have at the start.
 fn put_allotted(alloc: Global, out: &mut JsonText, allotted: &[Allotment]) -> Result<(), NoMemory>
     ensures { OnOk result
         (out.new ≡ after_field out.old (codes "allotted", array_with allotment_data allotted.now)) }
@@ -106,7 +106,7 @@ fn put_allotted(alloc: Global, out: &mut JsonText, allotted: &[Allotment]) -> Re
     out.end_array()
 }
 
-/// The code of a registry.
+/// Writes the code of a registry.
 fn put_code(alloc: Global, out: &mut JsonText, code: Code) -> Result<(), NoMemory>
     ensures { OnOk result (out.new ≡ after_field out.old (codes "code", string (code_text code))) }
 {
@@ -124,7 +124,7 @@ fn put_member(alloc: Global, out: &mut JsonText, member: &SchemeRegistry) -> Res
     put_kinds(out, member.kinds.as_slice())
 }
 
-/// A registry.
+/// Writes a registry.
 fn write_member(alloc: Global, out: &mut JsonText, member: &SchemeRegistry) -> Result<(), NoMemory>
     ensures { OnOk result (out.new ≡ out.old ++ data_tokens (member_data member.now)) }
 {
@@ -146,7 +146,7 @@ fn write_members(
     Ok(())
 }
 
-/// The registries of a scheme.
+/// Writes the registries of a scheme.
 fn put_members(
     alloc: Global,
     out: &mut JsonText,

@@ -1,4 +1,4 @@
--- A session that ended with its stream, over a reader that another one holds.
+-- A session that ended with its stream, whose reader another one holds.
 use Rattle.std.proofs.Common.{◌≡◌, ℕ, List, [], Option, subst}
 use Rattle.std.specs.Io.KnownBytes.{Appends, Consumes}
 use Rattle.streams.specs.Lines.{stream_of}

@@ -1,4 +1,4 @@
--- What comes of a message that was unacknowledged.
+-- The outcome for a message that was unacknowledged.
 use Rattle.std.proofs.Common.{◌≡◌, ℕ, List, [], ◌∷◌, ◌++◌, Option, Some, sym, subst}
 use Rattle.units.specs.declared.code.Node.{Node}
 use Rattle.wire.specs.Messages.{message_text}

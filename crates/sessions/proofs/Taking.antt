@@ -1,4 +1,4 @@
--- What a seat has as recorded once it took a message or an acknowledgement.
+-- The records of a seat once it took a message or an acknowledgement.
 use Rattle.std.proofs.Common.{◌≡◌, ℕ, Bool, true, false, All, List, [], Option, Vec, Global, Result, inl, inr, sym, subst, refl}
 use Rattle.std.proofs.lemmas.List.Elements.{All-nil, All-push, All-weaker}
 use Rattle.units.specs.declared.code.Node.{Node}
@@ -26,7 +26,7 @@ use Rattle.sessions.specs.Threads.{AreOfThread, IsDelivered, IsOfThread}
 use Rattle.sessions.specs.declared.sending.Sent.{Sent}
 use Rattle.sessions.specs.declared.sending.Sent.TheVariants as sent
 
--- records that all are of one sort, and one more of it
+-- records that all are of one sort, and one more of that sort
 module _ (P : Input → Type 0) where
   abbrev AreSuch : List Ticket → Type 0
   AreSuch tickets = All (λ (t : Ticket). P t.input) tickets
@@ -49,7 +49,7 @@ module _ {R W S : Type 0} (leads : Node → R → W → Type 0) (remaining : R �
   abbrev Are : SeatView → Type 0
   Are = AreOfThread leads remaining contents g opened tells
 
-  -- what came of a message
+  -- the outcome for a message
   pub after_begun : (old new : SeatView) (m : Message) (begun : Begun) → Begins tells old new m begun → Are old → Are new
   after_begun old new m begun b all = subst Are (sym b.seat) (such_kept Is old b.note (Received m b.moment) b.asked b.time all)
 
@@ -61,7 +61,7 @@ module _ {R W S : Type 0} (leads : Node → R → W → Type 0) (remaining : R �
   acknowledged old new key is a all =
       subst Are (sym a.seat) (such_kept Is old a.note (Ack a.number) a.asked (subst (IsDelivered leads remaining contents g opened) (sym a.value) is) all)
 
-  -- what became of a message to send
+  -- the outcome for a message to send
   pub after_sending : (peer : Node) (from : ℕ) (old new : SeatView) (became : Sent) → Sends leads remaining contents g opened peer from old new became → Are old → Are new
   after_sending peer from old new sent.Nothing s all = subst Are (sym s.1) all
   after_sending peer from old new (sent.Received key) s all =
@@ -70,7 +70,7 @@ module _ {R W S : Type 0} (leads : Node → R → W → Type 0) (remaining : R �
   after_sending peer from old new (sent.Unreachable key) s all = subst Are (sym s.1) all
   after_sending peer from old new sent.NoMemory s all = subst Are (sym s) all
 
-  -- seats that were told nothing
+  -- seats without notes
   pub none_yet : (seats : List SeatView) → All (λ (s : SeatView). (s.tickets ≡ []) × (s.notes ≡ [])) seats → All Are seats
   none_yet seats none =
       All-weaker (λ (s : SeatView). (s.tickets ≡ []) × (s.notes ≡ [])) Are
@@ -94,7 +94,7 @@ module _ {R W S : Type 0} (leads : Node → R → W → Type 0) (remaining : R �
   pub no_orders : (seats : List SeatView) → All Are seats → All HasNoOrder seats
   no_orders seats all = All-weaker Are HasNoOrder no_order seats all
 
-  -- what the threads of all nodes took, by another name
+  -- the inputs that the threads of all nodes took, under another name
   pub taken_so : (IsSuch : Input → Type 0) → ((input : Input) → Is input → IsSuch input) → (ends : List (Result (Vec SeatView Global) NoMemory)) → AreAll Are ends → AreAll (HasOnly IsSuch) ends
   taken_so IsSuch so ends all k seats at =
       All-weaker Are (HasOnly IsSuch) (λ s only. All-weaker (λ (t : Ticket). Is t.input) (λ (t : Ticket). IsSuch t.input) (λ t. so t.input) s.tickets only) seats.items (all k seats at)

@@ -1,4 +1,4 @@
--- How long a sender pauses after so many failures in a row, in numbers.
+-- How long a sender pauses after a number of failures in a row, in numbers.
 use Rattle.std.proofs.Common.{◌≡◌, ℕ, ◌^◌, ◌≤◌, suc, min, refl, arith, lit≤}
 use Rattle.std.proofs.Math.Nat.{pow-le-pow_right}
 use Rattle.sessions.specs.Pauses.{pause_seconds}
@@ -30,7 +30,7 @@ after_the_seventh = refl
 pub after_a_thousand : pause_seconds 1_000 ≡ 60
 after_a_thousand = refl
 
--- and after any more than these
+-- and after each further failure
 pub after_each_later : (n : ℕ) → 6 ≤ n → pause_seconds (suc n) ≡ 60
 after_each_later n many =
     let most : 2 ^ 6 ≤ 2 ^ n = pow-le-pow_right (lit≤ tt) many in

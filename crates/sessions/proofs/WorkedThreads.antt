@@ -17,7 +17,7 @@ second = record { seconds = 1335830401; in_range = lit< tt }
 abbrev message : Moment → Input
 message moment = input.Received (notification Itl nz_node nz1 notified.Accepted) moment
 
--- the clock told the first of May, and nothing else
+-- the clock gave the first of May, and nothing else
 abbrev told : Moment → Type 0
 told moment = moment ≡ first_of_may
 
@@ -35,7 +35,7 @@ module _ {R W S : Type 0} (remaining : R → Option (List ℕ)) (contents : W �
   pub not_at_another : alone (message second) → ⊥
   not_at_another = later
 
-  -- what no peer was reached with is not acknowledged
+  -- a message that reached no peer is not acknowledged
   pub not_unless_received : alone (input.Ack (number 0 (lit< tt))) → ⊥
   not_unless_received is = is.received.led
 
@@ -57,7 +57,7 @@ module _ {R W S : Type 0} (remaining : R → Option (List ℕ)) (contents : W �
   pub no_eligibility : alone (input.Eligible nz true) → ⊥
   no_eligibility is = is
 
--- nothing is known of any node, so that no message is one that a store of the run has
+-- nothing is known of any node, so no message is one that a store of the run has
 module _ {R W S : Type 0} (leads : Node → R → W → Type 0) (remaining : R → Option (List ℕ)) (contents : W → Option (List ℕ)) (g : Ghosts S) where
   abbrev unknown : Input → Type 0
   unknown = IsOfThread leads remaining contents g (λ (s : Scheme) (n : Node) (journal : List Input) (faults : ℕ). ⊥) told

@@ -1,4 +1,4 @@
--- How an exchange ends that is about the delivery of a message.
+-- How an exchange that is to deliver a message ends.
 use Rattle.std.specs.Prelude.{Result, Ok, Err}
 use Rattle.wire.specs.declared.reply.Reply.TheVariants as reply
 use Rattle.exchanges.specs.declared.ends.Exchange.{Exchange}
@@ -20,7 +20,7 @@ IsOtherEnd PeerEnded = Unit {0}
 IsOtherEnd BadReply = Unit {0}
 IsOtherEnd NoMemory = Unit {0}
 
--- the end that a delivery comes of
+-- the end of the exchange, from the result of a delivery
 abbrev pub end_of : {T : Type 0} → Result T Exchange → Exchange
 end_of (Ok _) = received
 end_of (Err end) = end

@@ -1,4 +1,5 @@
--- What a node's threads take at its desk: messages that come and acknowledgements of those that it sent, but no orders.
+-- The inputs that a node's threads give its desk: messages that come and acknowledgements of those that it sent, but no
+-- orders.
 use Rattle.std.specs.Prelude.{◌≡◌, ℕ, Bool, true, false, All, List, Vec, Result, Ok, Some, slice_get}
 use Rattle.std.specs.Global.{Global}
 use Rattle.units.specs.declared.memory.NoMemory.{NoMemory}
@@ -18,7 +19,7 @@ was_ordered (Eligible c may) = true
 was_ordered (Ack key) = false
 was_ordered (Received m moment) = false
 
--- each record of the seat is such a one
+-- each record of the seat has that property
 abbrev pub HasOnly : (Input → Type 0) → SeatView → Type 0
 HasOnly IsSuch seat = All (λ (t : Ticket). IsSuch t.input) seat.tickets
 
@@ -26,10 +27,10 @@ HasOnly IsSuch seat = All (λ (t : Ticket). IsSuch t.input) seat.tickets
 abbrev pub HasNoOrder : SeatView → Type 0
 HasNoOrder = HasOnly (λ input. was_ordered input ≡ false)
 
--- of each node whose threads ended, each seat is such a one
+-- for each node whose threads ended, each seat has that property
 abbrev pub AreAll : (SeatView → Type 0) → List (Result (Vec SeatView Global) NoMemory) → Type 0
 AreAll IsSuch ends = (k : ℕ) (seats : Vec SeatView Global) → slice_get ends k ≡ Some (Ok seats) → All IsSuch seats.items
 
--- none of them has an order
+-- no seat has an order
 abbrev pub HaveNoOrders : List (Result (Vec SeatView Global) NoMemory) → Type 0
 HaveNoOrders = AreAll HasNoOrder

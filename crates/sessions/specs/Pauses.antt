@@ -5,20 +5,20 @@ use Rattle.sessions.specs.declared.senders.RoundEnd.TheVariants.{Done, Unreachab
 
 -- ---- what the code follows; no public contract cites what stands below
 
--- after so many failures in a row: one second after the first, twice as many after each further one, and 60 at most
+-- after that many failures in a row: one second after the first, twice as many after each further one, and 60 at most
 abbrev pub pause_seconds : ℕ → ℕ
 pause_seconds zero = 0
 pause_seconds (suc n) = min 60 (2 ^ n)
 
--- one failure more in a row of so many, which are counted up to the greatest number of 32 bits
+-- one more failure in a row of that many; they are counted up to the greatest number of 32 bits
 abbrev pub one_more : ℕ → ℕ
 one_more failures = min (failures + 1) (2 ^ 32 - 1)
 
--- a row of so many failures goes on, or has ended
+-- a row of that many failures goes on, or has ended
 abbrev pub GoesOnOrEnds : ℕ → ℕ → Type 0
 GoesOnOrEnds old new = (new ≡ old) ⊎ (new ≡ 0)
 
--- the row after a round: where that ended with a failure, it is one more of the old row, or the first of a new one
+-- the row after a round: if the round ended with a failure, it is one more of the old row, or the first of a new one
 abbrev pub RowAfter : ℕ → ℕ → RoundEnd → Type 0
 RowAfter old new Done = GoesOnOrEnds old new
 RowAfter old new Unreachable = (new ≡ one_more old) ⊎ (new ≡ one_more 0)

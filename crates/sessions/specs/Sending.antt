@@ -1,4 +1,4 @@
--- What became of a message, and what the sender's seat was told.
+-- The outcome for a message, and the notes of the sender's seat.
 use Rattle.std.specs.Prelude.{◌≡◌, ℕ, List, [], ◌∷◌, ◌++◌, Option, None, Some}
 use Rattle.units.specs.declared.code.Node.{Node}
 use Rattle.wire.specs.Messages.{message_text}
@@ -34,9 +34,10 @@ pub record Acknowledges (old new : SeatView) (key : ℕ) : Type 0 where
 abbrev pub unused : {T : Type 0} → T → CountedView T
 unused inner = record { inner = inner; calls = no_calls }
 
--- which connections lead to a node; what a reader has left, and what a writer holds
+-- which connections lead to a node; the bytes that a reader has left, and those that a writer holds
 module _ {R W : Type 0} (leads : Node → R → W → Type 0) (remaining : R → Option (List ℕ)) (contents : W → Option (List ℕ)) where
-  -- the peer received the message: one exchange of its text over a connection that leads to the peer ended with that reply
+  -- the peer received the message: one exchange of its text over a connection that leads to the peer ended with that
+  -- reply
   pub record IsReceivedBy (peer : Node) (message : Message) : Type 0 where
     pub reader : R
     pub writer : W
@@ -47,7 +48,7 @@ module _ {R W : Type 0} (leads : Node → R → W → Type 0) (remaining : R →
 
 -- the same; and a store's calls, and what is known of the nodes of the run when their desks open
 module _ {R W S : Type 0} (leads : Node → R → W → Type 0) (remaining : R → Option (List ℕ)) (contents : W → Option (List ℕ)) (g : Ghosts S) (opened : Scheme → Node → List Input → ℕ → Type 0) where
-  -- what comes of a call that looks for a message from that key on
+  -- the outcome of a call that looks for a message from that key on
   abbrev pub Sends : Node → ℕ → SeatView → SeatView → Sent → Type 0
   Sends peer from old new Nothing = IsToSend g opened peer from None × (new ≡ old)
   Sends peer from old new (Received key) = ((m : Message) × IsToSend g opened peer from (Some (key, m)) × IsReceivedBy leads remaining contents peer m) × Acknowledges old new key
@@ -57,7 +58,7 @@ module _ {R W S : Type 0} (leads : Node → R → W → Type 0) (remaining : R �
 
 -- ---- what the code follows; no public contract cites what stands below
 
--- a message with its key, and the node that it goes to over a connection that was asked of that
+-- a message with its key, and the node that it went to, over a connection that was asked for with that node
 pub record DeliveredView (D : Type 0) : Type 0 where
   pub dial : D
   pub peer : Node
@@ -65,7 +66,7 @@ pub record DeliveredView (D : Type 0) : Type 0 where
   pub message : Message
 
 module _ {R W : Type 0} (leads : Node → R → W → Type 0) (remaining : R → Option (List ℕ)) (contents : W → Option (List ℕ)) where
-  -- what comes of a message that goes over a connection of its own, if one can be made
+  -- the outcome for a message that is sent over a connection of its own, if one can be made
   abbrev pub Tries : Node → Message → SeatView → SeatView → ℕ → Sent → Type 0
   Tries peer message old new key Nothing = ⊥
   Tries peer message old new key (Received k) = (k ≡ key) × IsReceivedBy leads remaining contents peer message × Acknowledges old new key

@@ -1,4 +1,4 @@
--- How many lines a session has read, and what was read and written over a connection that is given back.
+-- How many lines a session has read, and the bytes that were read and written over a connection that is given back.
 use Rattle.std.specs.Prelude.{◌≡◌, ◌==◌, ℕ, List, [], Option, count_by}
 use Rattle.std.specs.Io.KnownBytes.{Appends, Consumes, IsAtEnd}
 use Rattle.streams.specs.Lines.{stream_of}
@@ -10,9 +10,10 @@ newlines bytes = count_by (λ b. b == 10) bytes
 
 -- ---- what the code follows; no public contract cites what stands below
 
--- what a reader has left, and what a writer holds
+-- the bytes that a reader has left, and those that a writer holds
 module _ {R W : Type 0} (remaining : R → Option (List ℕ)) (contents : W → Option (List ℕ)) where
-  -- lines were read up to the end, and to each of them a reply was written, none of which says that the node has stopped
+  -- lines were read up to the end, and a reply was written to each of them; none of the replies says that the node has
+  -- stopped
   pub record IsRepliedTo (r : R) (w : W) (r' : R) (w' : W) : Type 0 where
     pub given : List Given
     pub read : Consumes (remaining r) (remaining r') (stream_of (lines_of given) [])

@@ -1,4 +1,5 @@
--- How many threads a node has, and what they have its desk record: messages that come, and acknowledgements of those that were delivered.
+-- How many threads a node has, and the inputs that they give its desk: messages that come, and acknowledgements of
+-- those that were delivered.
 use Rattle.std.specs.Prelude.{◌+◌, ℕ, List, Option, Some}
 use Rattle.units.specs.declared.code.Node.{Node}
 use Rattle.protocol.specs.Moment.{Moment}
@@ -14,12 +15,12 @@ use Rattle.sessions.specs.Sending.{IsReceivedBy}
 use Rattle.sessions.specs.declared.node_threads.TheConstants.{WORKERS}
 use Rattle.sessions.specs.declared.session_threads.TheConstants.{SESSION_THREADS}
 
--- of a node that sends to so many others: one commits, and one sends to each of them
+-- for a node that sends to that many others: one commits, and one sends to each of them
 abbrev pub thread_count : ℕ → ℕ
 thread_count peers = 1 + SESSION_THREADS + WORKERS + peers
 
--- which connections lead to a node, what a reader has left, and what a writer holds; a store's calls, and what is known of
--- the nodes of the run when their desks open
+-- which connections lead to a node, the bytes that a reader has left, and those that a writer holds; a store's calls,
+-- and what is known of the nodes of the run when their desks open
 module _ {R W S : Type 0} (leads : Node → R → W → Type 0) (remaining : R → Option (List ℕ)) (contents : W → Option (List ℕ)) (g : Ghosts S) (opened : Scheme → Node → List Input → ℕ → Type 0) where
   -- the committed message with that key was delivered: its peer replied that it was received
   pub record IsDelivered (key : ℕ) : Type 0 where
@@ -29,9 +30,9 @@ module _ {R W S : Type 0} (leads : Node → R → W → Type 0) (remaining : R �
     pub sent : IsToSend g opened peer from (Some (key, message))
     pub received : IsReceivedBy leads remaining contents peer message
 
-  -- the same; and which moments a clock told
+  -- the same; and which moments a clock gave
   module _ (tells : Moment → Type 0) where
-    -- a message, at a moment that the clock told, or the acknowledgement of one that was delivered
+    -- a message, at a moment that the clock gave, or the acknowledgement of one that was delivered
     abbrev pub IsOfThread : Input → Type 0
     IsOfThread (Propose o) = ⊥
     IsOfThread (Request t) = ⊥

@@ -5,10 +5,10 @@ ghost use Rattle.units.specs.declared.code.Node.{Node};
 use std::io::{Read, Write};
 use units::Node;
 
-/// What a wait for a connection came to.
+/// The result of a wait for a connection.
 #[derive(Debug, Drop)]
 pub enum Accepted<R, W> {
-    /// A connection: what the other end sends, and what goes to the other end.
+    /// A connection: the bytes that the other end sends, and those that go to it.
     Connection(R, W),
     /// Nobody connected within the time that the listener waits.
     Nobody,
@@ -16,20 +16,20 @@ pub enum Accepted<R, W> {
     Failed,
 }
 
-/// What accepts the connections that others make with a node.
+/// Accepts the connections that others make with a node.
 pub trait Listen {
     /// The bytes that the other end sends.
     type Reader: Read + Send + Drop;
     /// The bytes that go to the other end.
     type Writer: Write + Send + Drop;
 
-    /// Waits for a connection, for a limited time, and returns its two directions where there is one. A listener that
+    /// Waits for a connection, for a limited time, and returns its two directions if there is one. A listener that
     /// waits without a limit would keep a node's threads from ending.
     ///
-    /// The reader of an accepted connection may end after a line, where the connection is to be given back.
+    /// The reader of an accepted connection may end after a line, if the connection is to be given back.
     fn accept(&self) -> Accepted<Self::Reader, Self::Writer>;
 
-    /// Takes a connection back each line of which was replied to, so that a later `accept` may return it once it has a
+    /// Takes back a connection on which each line got a reply, so that a later `accept` may return it once it has a
     /// line again. A listener that keeps none closes it, as this one does.
     fn give_back(&self, reader: Self::Reader, writer: Self::Writer) {
         drop(reader);
@@ -37,7 +37,7 @@ pub trait Listen {
     }
 }
 
-/// What makes connections with nodes.
+/// Makes connections with nodes.
 pub trait Dial {
     /// The bytes that the other end sends.
     type Reader: Read + Send + Drop;
@@ -47,7 +47,7 @@ pub trait Dial {
     /// They are the two directions of a connection that it made with that node.
     ghost leads: { Self → Node → Self.Reader → Self.Writer → Type 0 };
 
-    /// Makes a connection with that node, and returns its two directions. `None` where making it failed.
+    /// Makes a connection with that node, and returns its two directions. `None` if that failed.
     fn connect(&self, peer: Node) -> Option<(Self::Reader, Self::Writer)>
         ensures { IfSome result (λ made. leads self.now peer made.0 made.1) };
 }

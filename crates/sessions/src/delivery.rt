@@ -13,8 +13,8 @@ use std::marker::Model;
 use units::Node;
 use wire::{Message, Reply};
 
-/// A message with its key, and the node that replied in an exchange of it that it was received, over a connection that
-/// was made with that node. Only `deliver` makes one.
+/// A message with its key, and the node that it was sent to: it replied, over a connection that was made with it, that
+/// the message was received. Only `deliver` makes one.
 #[derive(Drop)]
 pub(crate) struct Delivered<'a, D: Dial> {
     dial: &'a D,
@@ -54,7 +54,7 @@ impl<'a, D: Dial> Delivered<'a, D> {
     }
 }
 
-/// One exchange of the message. Fails with how it ended where that isn't with the reply that the message was received.
+/// One exchange of the message. Fails with its end, unless it ended with the reply that the message was received.
 fn deliver_over<R: Read, W: Write>(
     alloc: Global,
     reader: &mut Counted<R>,
@@ -71,8 +71,8 @@ fn deliver_over<R: Read, W: Write>(
     }
 }
 
-/// One exchange of the message with that key over a connection of its own. Fails where no connection could be made,
-/// and where the peer didn't reply that the message was received.
+/// One exchange of the message with that key over a connection of its own. Fails if no connection could be made, or if
+/// the peer didn't reply that the message was received.
 pub(crate) fn deliver<'a, D: Dial>(
     alloc: Global,
     dial: &'a D,

@@ -3,8 +3,8 @@
 use std::rt::Clock as SystemClock;
 use std::time::{Duration, Instant};
 
-/// Whether that many seconds have passed since then. They count as passed where a time isn't known: where it is `None`,
-/// and where the clock can't be read now.
+/// Whether that many seconds have passed since then. They count as passed if a time isn't known: if it is `None`, or if
+/// the clock can't be read now.
 pub(crate) fn have_passed<R: SystemClock>(rt: &R, since: Option<Instant>, seconds: u64) -> bool {
     let Some(since) = since else {
         return true;

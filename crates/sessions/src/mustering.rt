@@ -4,7 +4,7 @@ use std::rt::Clock as SystemClock;
 use std::sync::{Condvar, CondvarTimeouts, Mutex, Wait};
 use std::time::Duration;
 
-/// How many seconds whoever waits for threads waits for the next one of them.
+/// How many seconds a wait for threads waits for the next one of them.
 pub const LONGEST_MUSTER: u64 = 5;
 
 /// Whether all threads have reported that were waited for.
@@ -12,8 +12,8 @@ pub const LONGEST_MUSTER: u64 = 5;
 pub enum Mustered {
     /// All have.
     All,
-    /// Fewer have. Where the system has no thread for one of them, its work is done by another one, which may not come
-    /// to it before it has ended its own.
+    /// Fewer have. If the system has no thread for one of them, another thread does its work, and may not begin it
+    /// before it has ended its own.
     Missing,
 }
 
@@ -41,7 +41,7 @@ impl Muster {
         }
     }
 
-    /// One more thread has begun. Wakes those that wait for it.
+    /// Reports that one more thread has begun. Wakes those that wait for it.
     pub fn report<R: Wait>(&self, rt: &R) {
         let mut reports = self.reports.lock(rt);
         *reports = reports.saturating_add(1);
@@ -53,7 +53,7 @@ impl Muster {
         *self.reports.lock(rt)
     }
 
-    /// How many threads have reported, once that is another number than `seen`, and after `limit` at the latest.
+    /// How many threads have reported, once that number differs from `seen`, and after `limit` at the latest.
     fn next_reports<R: Wait + SystemClock>(&self, rt: &R, seen: usize, limit: Duration) -> usize {
         let (reports, _) = self
             .reported
@@ -61,7 +61,8 @@ impl Muster {
         *reports
     }
 
-    /// Waits until that many threads have reported. Returns `Missing` once no further one has for as long as `limit`.
+    /// Waits until that many threads have reported. Returns `Missing` once no further one has reported for as long as
+    /// `limit`.
     pub fn wait_for<R: Wait + SystemClock>(
         &self,
         rt: &R,

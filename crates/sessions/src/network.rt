@@ -1,17 +1,17 @@
-//! Of what types a node is, and how nodes meet.
+//! The types of a node's parts, and how nodes meet.
 
 use crate::connections::{Dial, Listen};
 use desk::stores::NodeStore;
 use desk::{Clock, Gate};
 
-/// Of what types the parts of a node are that its threads share, so that one name stands for all of them. A type that
+/// The types of those parts of a node that its threads share, so that one name stands for all of them. A type that
 /// implements it is only named: there need be no value of it.
 pub trait NodeTypes: Send {
-    /// Where its records are.
+    /// The store of its records.
     type Store: NodeStore + Send + Drop;
-    /// What accepts its connections.
+    /// The listener that accepts its connections.
     type Listener: Listen + Send + Sync + Drop;
-    /// What makes its connections.
+    /// The dialer that makes its connections.
     type Dialer: Dial + Sync + Drop;
     /// Its clock.
     type Clock: Clock + Sync + Drop;
@@ -19,7 +19,7 @@ pub trait NodeTypes: Send {
     type Gate: Gate + Sync + Drop;
 }
 
-/// How nodes meet: what makes their connections, the clock of all, and the gate that their workers pass.
+/// How nodes meet: the dialer that makes their connections, the clock of all, and the gate that their workers pass.
 #[derive(Drop)]
 pub struct Network<N: NodeTypes> {
     pub dialer: N::Dialer,

@@ -24,10 +24,10 @@ pub const WORKERS: usize = 2;
 /// How many jobs wait at most.
 const MOST_JOBS: usize = 16;
 
-// A session thread waits for one answer at a time, so that there is room for the job of each while workers take them.
+// A session thread waits for one answer at a time, so there is room for the job of each while workers take them.
 const _: () = prove!(SESSION_THREADS <= MOST_JOBS);
 
-/// What a thread of a node does.
+/// The work of a thread of a node.
 #[derive(Clone, Copy, Debug, PartialEq, Eq)]
 enum Post {
     /// It commits the desk's records to its store.
@@ -40,8 +40,8 @@ enum Post {
     Send(usize),
 }
 
-/// What the thread with that index does: the first commits, then `SESSION_THREADS` serve sessions, then come `WORKERS`
-/// workers, and then a sender for each peer.
+/// The work of the thread with that index: the first commits, then `SESSION_THREADS` serve sessions, then come
+/// `WORKERS` workers, and then a sender for each peer.
 fn post_at(index: usize) -> Post {
     match index {
         0 => Post::Commit,
@@ -51,8 +51,8 @@ fn post_at(index: usize) -> Post {
     }
 }
 
-/// Commits the desk's records to its store until the desk stops, also where the store has a fault: when a thread waits
-/// for a commit, and every `LONGEST_QUIET` seconds, since nobody waits for that of an acknowledgement.
+/// Commits the desk's records to its store until the desk stops, also if the store has a fault: when a thread waits for
+/// a commit, and every `LONGEST_QUIET` seconds, since no thread waits for the commit of an acknowledgement.
 fn commit_all<O: Opening, C: NodeCore, S: NodeStore, B: Bell, R: Wait + SystemClock>(
     rt: &R,
     desk: &Desk<O, C, S, B>,
@@ -73,10 +73,10 @@ fn commit_all<O: Opening, C: NodeCore, S: NodeStore, B: Bell, R: Wait + SystemCl
     }
 }
 
-/// Where a session thread finds its end of the channel by which it hands jobs to workers.
+/// The place where a session thread finds its end of the channel by which it hands jobs to workers.
 type Handing = Mutex<Option<Sender<Errand>>>;
 
-/// An end of the channel for each session thread. Fails with `NoMemory` where memory ran out.
+/// An end of the channel for each session thread. Fails with `NoMemory` if memory ran out.
 fn handings_of(alloc: Global, sender: &Sender<Errand>) -> Result<Vec<Handing>, NoMemory> {
     let mut handings = Vec::new(alloc);
     for _ in 0..SESSION_THREADS {
@@ -85,24 +85,24 @@ fn handings_of(alloc: Global, sender: &Sender<Errand>) -> Result<Vec<Handing>, N
     Ok(handings)
 }
 
-/// The end of the channel for the session thread of that number, once. When the last one is let go, no more jobs come.
+/// The end of the channel for the session thread of that number, once. When the last one is dropped, no more jobs come.
 fn take_handing<R: Wait>(rt: &R, handings: &[Handing], number: usize) -> Option<Sender<Errand>> {
     let taken = handings.get(number)?.lock(rt).take();
     taken
 }
 
-/// A node's threads: what they share, and how sessions hand jobs to workers.
+/// A node's threads: the values that they share, and how sessions hand jobs to workers.
 ///
-/// One commits the desk's records to its store, `SESSION_THREADS` serve the connections that others make and wait for
-/// the commits of what came by them, `WORKERS` have the desk take their jobs, of which `MOST_JOBS` wait at most, and one
-/// for each peer sends it the unacknowledged messages, again every `LONGEST_QUIET` seconds while they aren't received,
-/// and after longer pauses while no connection with the peer can be made.
-/// What their seats were told are messages, at moments that the clock told, and acknowledgements of messages that their
-/// peers received, and no orders.
+/// One commits the desk's records to its store. `SESSION_THREADS` serve the connections that others make, and wait for
+/// the commits of the messages that came over them. `WORKERS` have the desk take the jobs of those; at most `MOST_JOBS`
+/// jobs wait. One for each peer sends it the unacknowledged messages, again every `LONGEST_QUIET` seconds while they
+/// aren't received, and after longer pauses while no connection with the peer can be made. The records in their seats
+/// are messages, at moments that the clock gave, and acknowledgements of messages that their peers received, and no
+/// orders.
 ///
-/// The desk stops when it is told to, where the store has a fault, and where 100 accepts in a row failed. Then each
-/// thread ends by itself: one that waits at a bell, for a worker or for a connection looks at the desk again after a
-/// limited time, a session ends at its next read, and the workers end once all session threads have, or once no job has
+/// The desk stops when it is asked to, if the store has a fault, and if 100 accepts in a row failed. Then each thread
+/// ends by itself: one that waits at a bell, for a worker or for a connection looks at the desk again after a limited
+/// time, a session ends at its next read, and the workers end once all session threads have ended, or once no job has
 /// come for a while.
 #[derive(Drop)]
 pub struct NodeThreads<'a, O: Opening, C: NodeCore, N: NodeTypes> {
@@ -110,7 +110,7 @@ pub struct NodeThreads<'a, O: Opening, C: NodeCore, N: NodeTypes> {
     pub network: &'a Network<N>,
     /// The nodes that it sends to.
     pub peers: &'a [Node],
-    /// Where each thread reports once when it begins.
+    /// The muster at which each thread reports once when it begins.
     muster: &'a Muster,
     alloc: Global,
     handings: Vec<Handing>,
@@ -121,7 +121,7 @@ pub struct NodeThreads<'a, O: Opening, C: NodeCore, N: NodeTypes> {
 
 impl<'a, O: Opening, C: NodeCore, N: NodeTypes> NodeThreads<'a, O, C, N> {
     /// The threads of the node at that station, which sends to these peers over that network. None has begun, and each
-    /// reports at the muster when it does. Fails with `NoMemory` where memory ran out.
+    /// reports at the muster when it does. Fails with `NoMemory` if memory ran out.
     pub fn new(
         alloc: Global,
         station: &'a Station<O, C, N>,
@@ -155,7 +155,7 @@ impl<'a, O: Opening, C: NodeCore, N: NodeTypes> NodeThreads<'a, O, C, N> {
     }
 
     /// Runs the thread with that index to its end, with a seat of its own at the node's desk. It reports at the muster
-    /// first, and ends soon after the desk stops, also where other threads of the node haven't begun.
+    /// first, and ends soon after the desk stops, even if other threads of the node haven't begun.
     pub(crate) fn run_thread<R: Wait + SystemClock>(&self, rt: &R, index: usize, seat: &mut Seat)
         requires { AreOfThread
             (N.Dialer.leads self.now.network.now.dialer) N.Dialer.Reader.remaining N.Dialer.Writer.contents
@@ -182,7 +182,7 @@ impl<'a, O: Opening, C: NodeCore, N: NodeTypes> NodeThreads<'a, O, C, N> {
         }
     }
 
-    /// Stops the node, none of whose threads was started, so that nobody waits for a commit.
+    /// Stops the node, none of whose threads was started, so that no thread waits for a commit.
     pub(crate) fn give_up<R: Wait>(&self, rt: &R) {
         self.station.desk.stop(rt);
     }

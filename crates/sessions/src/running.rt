@@ -15,7 +15,7 @@ use std::thread;
 use std::thread::Threads;
 use units::NoMemory;
 
-/// That many seats that were told nothing. Fails with `NoMemory` if memory runs out.
+/// That many seats without notes. Fails with `NoMemory` if memory runs out.
 pub fn new_seats(alloc: Global, count: usize) -> Result<Vec<Seat>, NoMemory>
     ensures len { IfOk result (λ seats. vec_len seats ≡ count) }
     ensures none { IfOk result (λ seats. All (λ s. (s.tickets ≡ []) × (s.notes ≡ [])) seats.items) }
@@ -28,10 +28,11 @@ pub fn new_seats(alloc: Global, count: usize) -> Result<Vec<Seat>, NoMemory>
 }
 
 /// Runs a node's threads until all have ended, and returns the seat of each, in the order of their indices. Fails with
-/// `NoMemory` where memory ran out, and no thread was started.
+/// `NoMemory` if memory ran out: then no thread was started.
 ///
-/// Where the system has no thread for one of them, another runs it once it has ended its own, and until then it hasn't
-/// begun. Whoever gives orders at the node's desk waits until all have begun, and stops the desk where one is missing.
+/// If the system has no thread for one of them, another runs it once it has ended its own, and until then it hasn't
+/// begun. A caller that gives orders at the node's desk should wait until all have begun, and stop the desk if one is
+/// missing.
 pub fn run_node<O, C, N, R>(
     rt: &R,
     alloc: Global,
@@ -54,7 +55,7 @@ where
         rt,
         seats.as_mut_slice(),
         threads,
-        // That `rt` may be shared isn't inferred here.
+        // It isn't inferred here that `rt` may be shared.
         &|index: usize, seat: &mut Seat|
             requires sync { IsSync R.row }
             requires taken { AreOfThread
@@ -69,7 +70,7 @@ where
     Ok(seats)
 }
 
-/// As `run_node`. Where memory ran out, the node has stopped.
+/// As `run_node`. If memory ran out, the node has stopped.
 fn run_one<O, C, N, R>(
     rt: &R,
     alloc: Global,
@@ -94,9 +95,9 @@ where
 }
 
 /// Runs several nodes, each as `run_node` does, until the threads of all have ended, and returns the seats of each in
-/// the order of the nodes. What happens at one node stops no other one; where memory ran out for a node's threads, it
-/// has `NoMemory` in place of seats, and has stopped. Fails with `NoMemory` where memory ran out: then nothing is told
-/// of what the threads did.
+/// the order of the nodes. Nothing that happens at one node stops another one; if memory ran out for a node's threads,
+/// it has `NoMemory` in place of seats, and has stopped. Fails with `NoMemory` if memory ran out: then nothing is
+/// reported of the work of the threads.
 pub fn run_all<O, C, N, R>(
     rt: &R,
     alloc: Global,

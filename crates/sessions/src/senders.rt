@@ -16,7 +16,7 @@ use std::sync::Wait;
 use std::time::Instant;
 use units::Node;
 
-/// How a round ended, in which each unacknowledged message is sent once.
+/// How a round, in which each unacknowledged message is sent once, ended.
 #[derive(Clone, Copy, Debug, PartialEq, Eq)]
 pub(crate) enum RoundEnd {
     /// After the last message, or out of memory.
@@ -26,8 +26,8 @@ pub(crate) enum RoundEnd {
 }
 
 /// Sends the unacknowledged messages to a peer: the one with the least key, and then those with higher keys, each once.
-/// Ends where no connection could be made, so that a peer that is down costs one connect a round. `patience` counts
-/// that failure, and each connection that was made ends the row before.
+/// Ends if no connection could be made, so that a peer that is down costs one connect a round. `patience` counts that
+/// failure, and each connection that was made ends the row before.
 fn send_round<O: Opening, C: NodeCore, N: NodeTypes, R: Wait>(
     rt: &R,
     alloc: Global,
@@ -65,8 +65,8 @@ fn send_round<O: Opening, C: NodeCore, N: NodeTypes, R: Wait>(
 }
 
 /// Waits until that many seconds have passed, or the desk has stopped. Looks at the desk whenever that bell of it
-/// rings, as it does where the desk stops, and every `LONGEST_QUIET` seconds, and so may wait up to that much longer.
-/// Where the time can't be known, it waits once.
+/// rings, as it does when the desk stops, and every `LONGEST_QUIET` seconds, and so may wait up to that much longer. If
+/// the time can't be read, it waits once.
 fn pause<O: Opening, C: NodeCore, S: NodeStore, B: Bell, R: Wait + SystemClock>(
     rt: &R,
     desk: &Desk<O, C, S, B>,
@@ -88,8 +88,8 @@ fn pause<O: Opening, C: NodeCore, S: NodeStore, B: Bell, R: Wait + SystemClock>(
 }
 
 /// Sends the unacknowledged messages to a peer, until the desk stops: again whenever a message to it was committed, and
-/// every `LONGEST_QUIET` seconds, so that a message that wasn't received is sent again also where nothing happens at the
-/// node. Where a round ends because no connection could be made, the next one begins after a pause: of one second after
+/// every `LONGEST_QUIET` seconds, so that a message that wasn't received is sent again even if nothing happens at the
+/// node. If a round ends because no connection could be made, the next one begins after a pause: of one second after
 /// the first such round, and of twice as long after each further one in a row, up to 60 seconds. A connection that was
 /// made ends the row.
 pub(crate) fn send_all<O: Opening, C: NodeCore, N: NodeTypes, R: Wait + SystemClock>(

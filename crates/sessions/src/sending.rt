@@ -12,10 +12,10 @@ use std::sync::Wait;
 use units::Node;
 use wire::{Input, Message, Number};
 
-/// What became of the next message to a peer.
+/// The outcome for the next message to a peer.
 #[derive(Clone, Copy, Debug, PartialEq, Eq)]
 pub enum Sent {
-    /// There is none.
+    /// There is no such message.
     Nothing,
     /// The peer replied that it received the message with that key, and the desk was given its acknowledgement. A desk
     /// that has stopped, or is out of memory, doesn't take it, and the message stays unacknowledged.
@@ -41,7 +41,7 @@ fn take_acknowledgement<O: Opening, C: NodeCore, S: NodeStore, B: Bell, R: Wait>
     let _taken = desk.take(rt, seat, Input::Ack(key));
 }
 
-/// Has the desk take the acknowledgement of a message that was delivered, where its key has few enough digits.
+/// Has the desk take the acknowledgement of a message that was delivered, if its key has few enough digits.
 fn acknowledge<O: Opening, C: NodeCore, S: NodeStore, B: Bell, D: Dial, R: Wait>(
     rt: &R,
     desk: &Desk<O, C, S, B>,
@@ -59,7 +59,7 @@ fn acknowledge<O: Opening, C: NodeCore, S: NodeStore, B: Bell, D: Dial, R: Wait>
     Sent::Received(key)
 }
 
-/// Sends the message with that key over a connection of its own, and acknowledges it where it was delivered.
+/// Sends the message with that key over a connection of its own, and acknowledges it if it was delivered.
 fn send<O: Opening, C: NodeCore, S: NodeStore, B: Bell, D: Dial, R: Wait>(
     rt: &R,
     alloc: Global,
@@ -81,9 +81,9 @@ fn send<O: Opening, C: NodeCore, S: NodeStore, B: Bell, D: Dial, R: Wait>(
     }
 }
 
-/// Sends the next message to a peer: the one with the least key, from `from` on, that the committed records send and
-/// no record acknowledges. One exchange over a connection of its own; where the peer replies that the message was
-/// received, the desk is given its acknowledgement with the sender's seat, and else the seat is told nothing.
+/// Sends the next message to a peer: the one with the least key, from `from` on, that the committed records send and no
+/// record acknowledges. Makes one exchange over a connection of its own; if the peer replies that the message was
+/// received, the desk is given its acknowledgement with the sender's seat, and otherwise the seat notes nothing.
 pub fn send_next<O: Opening, C: NodeCore, S: NodeStore, B: Bell, D: Dial, R: Wait>(
     rt: &R,
     alloc: Global,

@@ -22,16 +22,16 @@ use std::time::Duration;
 /// How many threads of a node serve sessions: any number from 1 on.
 pub const SESSION_THREADS: usize = 4;
 
-/// How many accepts that fail in a row stop a node.
+/// How many failed accepts in a row stop a node.
 const MOST_FAILED_ACCEPTS: u32 = 100;
 
-/// How many milliseconds longer a session thread pauses for each accept that failed in a row.
+/// How many milliseconds longer a session thread pauses for each failed accept in a row.
 const PAUSE_STEP: u64 = 10;
 
-/// How many milliseconds a session thread pauses at most after an accept that failed.
+/// How many milliseconds a session thread pauses at most after a failed accept.
 const LONGEST_PAUSE: u64 = 100;
 
-/// One more accept has failed. Returns how many have in a row.
+/// Counts one more failed accept. Returns how many have failed in a row.
 fn count_failure<R: Wait>(rt: &R, failures: &Mutex<u32>) -> u32 {
     let mut count = failures.lock(rt);
     *count = count.saturating_add(1);
@@ -44,8 +44,8 @@ fn pause_after(failures: u32) -> Duration {
     Duration::from_millis(pause.min(LONGEST_PAUSE))
 }
 
-/// One more accept has failed. The desk stops where that makes `MOST_FAILED_ACCEPTS` in a row, and else this thread
-/// pauses.
+/// Counts one more failed accept. The desk stops if that makes `MOST_FAILED_ACCEPTS` in a row, and otherwise this
+/// thread pauses.
 fn stop_or_pause<O: Opening, C: NodeCore, S: NodeStore, B: Bell, R: Wait + SystemClock>(
     rt: &R,
     desk: &Desk<O, C, S, B>,
@@ -59,12 +59,12 @@ fn stop_or_pause<O: Opening, C: NodeCore, S: NodeStore, B: Bell, R: Wait + Syste
     }
 }
 
-/// Serves one connection to its end. It ends where the desk has stopped, at the next read, and where a line or the
-/// session takes too long or has too many lines, as `WatchedReader` has it. The seat has kept the receipts of what was
-/// answered.
+/// Serves one connection to its end. It ends at the next read once the desk has stopped, and when a line or the session
+/// takes too long or the session has too many lines, as for `WatchedReader`. The seat has kept the receipts of the
+/// answers.
 ///
-/// Returns the connection where its stream ended after a line or was empty, and each line was replied to. Any other one
-/// is dropped.
+/// Returns the connection if its stream ended after a line or was empty, and each line got a reply. Any other
+/// connection is dropped.
 fn serve_one<
     O: Opening,
     C: NodeCore,
@@ -98,12 +98,12 @@ fn serve_one<
     }
 }
 
-/// Accepts connections and serves each to its end, until the desk stops. One whose stream ended after a line is given
-/// back to the listener. It stops the desk where `MOST_FAILED_ACCEPTS` accepts in a row failed, at all session threads
-/// together. One to which nobody came is none of them, and doesn't end the row.
+/// Accepts connections and serves each to its end, until the desk stops. A connection whose stream ended after a line
+/// is given back to the listener. It stops the desk if `MOST_FAILED_ACCEPTS` accepts in a row failed, at all session
+/// threads together. An accept to which nobody came isn't a failed one, and doesn't end the row.
 ///
-/// A node has `SESSION_THREADS` threads that do so. Where the system has no thread for some of them, fewer sessions are
-/// served at a time, or none. The seat makes no record: it keeps the receipts of what the thread answered.
+/// A node has `SESSION_THREADS` such threads. If the system has no thread for some of them, fewer sessions are served
+/// at a time, or none. The seat makes no record: it keeps the receipts of the thread's answers.
 pub(crate) fn serve_all<O: Opening, C: NodeCore, N: NodeTypes, R: Wait + SystemClock>(
     rt: &R,
     alloc: Global,

@@ -19,7 +19,7 @@ const LONGEST_LINE_TIME: u64 = 10;
 /// How many seconds a session may last, from when its connection was accepted.
 const LONGEST_SESSION_TIME: u64 = 60;
 
-/// With how many newlines a session reads no more.
+/// After how many newlines a session reads no more.
 pub const MOST_SESSION_LINES: usize = 1_024;
 
 /// How many of the bytes are newlines.
@@ -30,16 +30,16 @@ fn newlines_in(bytes: &[u8]) -> usize
     bytes.iter().filter(|byte| **byte == b'\n').count()
 }
 
-/// A reader that reads on only while a desk runs, the line that it reads was begun less than ten seconds ago, the
-/// session less than 60 seconds ago, and fewer than `MOST_SESSION_LINES` newlines were read.
+/// A reader that reads on only while a desk runs, the current line was begun less than ten seconds ago, the session
+/// less than 60 seconds ago, and fewer than `MOST_SESSION_LINES` newlines were read.
 #[derive(Drop)]
 pub struct WatchedReader<'a, Rd, O: Opening, C: NodeCore, S: NodeStore, B: Bell, R> {
     inner: Rd,
     rt: &'a R,
     desk: &'a Desk<O, C, S, B>,
-    /// When the session began, where that is known.
+    /// When the session began, if known.
     opened: Option<Instant>,
-    /// When the line was begun that is being read, if one is.
+    /// When the line that is being read was begun, if there is one.
     begun: Option<Instant>,
     /// How many newlines were read.
     lines: usize,
@@ -54,8 +54,8 @@ impl<'a, Rd, O: Opening, C: NodeCore, S: NodeStore, B: Bell, R: Wait + SystemClo
     B,
     R,
 > {
-    /// That reader, for a session that begins now. No line is begun, and none was read. Where the time can't be known,
-    /// the session ends at its first read.
+    /// A reader for a session that begins now. No line is begun, and none was read. If the time can't be read, the
+    /// session ends at its first read.
     pub fn new(
         rt: &'a R,
         desk: &'a Desk<O, C, S, B>,
@@ -90,13 +90,13 @@ impl<'a, Rd, O: Opening, C: NodeCore, S: NodeStore, B: Bell, R: Wait + SystemClo
     }
 
     /// Whether the line that is being read was begun `LONGEST_LINE_TIME` seconds ago or earlier. A time that can't be
-    /// known is too long.
+    /// read counts as too long.
     fn is_late(&self) -> bool {
         self.begun.is_some() && have_passed(self.rt, self.begun, LONGEST_LINE_TIME)
     }
 
     /// Whether the session reads no more: the desk doesn't run, a line or the session takes too long, or it has read
-    /// all lines that it may. A time that can't be known is too long.
+    /// all lines that it may. A time that can't be read counts as too long.
     fn is_over(&self) -> bool
         ensures { result ≡ false → self.now.lines < MOST_SESSION_LINES }
     {
@@ -106,8 +106,8 @@ impl<'a, Rd, O: Opening, C: NodeCore, S: NodeStore, B: Bell, R: Wait + SystemClo
             || have_passed(self.rt, self.opened, LONGEST_SESSION_TIME)
     }
 
-    /// When the line was begun that is being read, if one is, once those bytes were read. Where the time can't be
-    /// known, the line counts as begun with the bytes that are read next.
+    /// When the line that is being read was begun, if there is one, once those bytes were read. If the time can't be
+    /// read, the line counts as begun with the bytes that are read next.
     fn begun_after(&self, bytes: &[u8]) -> Option<Instant> {
         let Some(last) = bytes.last() else {
             return self.begun;
@@ -126,9 +126,9 @@ impl<'a, Rd: Read, O: Opening, C: NodeCore, S: NodeStore, B: Bell, R: Wait + Sys
     for WatchedReader<'a, Rd, O, C, S, B, R> {
     ghost remaining = { λ w. Rd.remaining w.inner };
 
-    /// Fails with `TimedOut` where the desk doesn't run, where the line or the session takes too long, and where
-    /// `MOST_SESSION_LINES` newlines were read. Nothing was read then. The read that comes to so many returns them, and
-    /// whatever else it read at once.
+    /// Fails with `TimedOut` if the desk doesn't run, if the line or the session takes too long, and if
+    /// `MOST_SESSION_LINES` newlines were read. Nothing was read then. The read that reaches that number returns all
+    /// bytes that it read.
     fn read(&mut self, piece: &mut [u8]) -> io::Result<usize>
         ensures bound { ReadsAtMost result piece.new }
         ensures bytes { ReadConsumes (Rd.remaining self.old.inner) (Rd.remaining self.new.inner) result piece.new }

@@ -20,7 +20,7 @@ use std::time::Duration;
 use units::NoMemory;
 use wire::Reply;
 
-/// A job for a worker, and where it says what came of it.
+/// A job for a worker, and the channel by which the worker returns its result.
 #[derive(Drop)]
 pub(crate) struct Errand {
     job: Job,
@@ -28,8 +28,8 @@ pub(crate) struct Errand {
 }
 
 /// Replies to the lines of one session by the workers, waits for the commits, and keeps the answers: each line with its
-/// receipt until the session ends. How many these are is bounded by the limits of the session, which `WatchedReader`
-/// keeps: it reads no more once it has read 1,024 newlines or has lasted 60 seconds.
+/// receipt until the session ends. The limits of the session, which `WatchedReader` keeps, bound their number: it reads
+/// no more once it has read 1,024 newlines or has lasted 60 seconds.
 #[derive(Drop)]
 pub(crate) struct WorkersAnswerer<'a, O: Opening, C: NodeCore, S: NodeStore, B: Bell, R: Wait> {
     rt: &'a R,
@@ -47,7 +47,7 @@ impl<'a, O: Opening, C: NodeCore, S: NodeStore, B: Bell, R: Wait> WorkersAnswere
     B,
     R,
 > {
-    /// What replies by the workers of that desk, which take these errands. It has no answers yet.
+    /// Replies by the workers of that desk, which take these errands. There are no answers yet.
     pub(crate) fn new(
         rt: &'a R,
         alloc: Global,
@@ -77,8 +77,8 @@ impl<'a, O: Opening, C: NodeCore, S: NodeStore, B: Bell, R: Wait> WorkersAnswere
     }
 }
 
-/// Waits for the next value that comes by the channel. `None` where nobody is left who sends one, and where the desk
-/// has stopped and none has come for `LONGEST_QUIET` seconds.
+/// Waits for the next value that comes by the channel. `None` if no sender is left, or if the desk has stopped and no
+/// value has come for `LONGEST_QUIET` seconds.
 fn receive<T: Drop, O: Opening, C: NodeCore, S: NodeStore, B: Bell, R: Wait + SystemClock>(
     rt: &R,
     desk: &Desk<O, C, S, B>,
@@ -98,9 +98,9 @@ fn receive<T: Drop, O: Opening, C: NodeCore, S: NodeStore, B: Bell, R: Wait + Sy
     unreachable!()
 }
 
-/// Hands a job to a worker, and waits for what comes of it. `None` where the desk has stopped before one took it, and
-/// where nobody takes jobs any more, as the channel is full then. Fails with `NoMemory` where memory ran out, and the
-/// job was handed to none.
+/// Hands a job to a worker, and waits for its result. `None` if the desk has stopped before a worker took it, or if no
+/// worker takes jobs any more, since the channel is full then. Fails with `NoMemory` if memory ran out, and the job was
+/// handed to none.
 fn ask<O: Opening, C: NodeCore, S: NodeStore, B: Bell, R: Wait + SystemClock>(
     rt: &R,
     alloc: Global,
@@ -124,7 +124,7 @@ fn ask<O: Opening, C: NodeCore, S: NodeStore, B: Bell, R: Wait + SystemClock>(
     Ok(taken)
 }
 
-/// The answer to a job of which that came, after the commit where it waits for one.
+/// The answer to a job with that result, after the commit if it waits for one.
 fn answer_begun<O: Opening, C: NodeCore, S: NodeStore, B: Bell, R: Wait + SystemClock>(
     rt: &R,
     desk: &Desk<O, C, S, B>,
@@ -136,9 +136,9 @@ fn answer_begun<O: Opening, C: NodeCore, S: NodeStore, B: Bell, R: Wait + System
     }
 }
 
-/// The answer to a line. Where it writes a message, a worker has the desk take that, and this thread waits for the
-/// commit. Where no worker takes it, the node has stopped. Fails with `NoMemory` where memory ran out, and the line was
-/// handed to no worker.
+/// The answer to a line. If the line writes a message, a worker has the desk take the message, and this thread waits
+/// for the commit. If no worker takes it, the node has stopped. Fails with `NoMemory` if memory ran out, and the line
+/// was handed to no worker.
 fn answer_line<O: Opening, C: NodeCore, S: NodeStore, B: Bell, R: Wait + SystemClock>(
     rt: &R,
     alloc: Global,
@@ -185,9 +185,9 @@ impl<'a, O: Opening, C: NodeCore, S: NodeStore, B: Bell, R: Wait + SystemClock> 
     }
 }
 
-/// Has the desk take the jobs of errands with this seat, and hands back what came of each without waiting for a commit,
-/// until no session thread is left. It ends also where the desk has stopped and no job comes, since a session thread may
-/// not have begun yet.
+/// Has the desk take the jobs of errands with this seat, and hands back the result of each without waiting for a
+/// commit, until no session thread is left. It also ends if the desk has stopped and no job comes, since a session
+/// thread may not have begun yet.
 pub(crate) fn work<O: Opening, C: NodeCore, N: NodeTypes, R: Wait + SystemClock>(
     rt: &R,
     station: &Station<O, C, N>,

@@ -18,7 +18,7 @@ module _ {T : Type 0} where
   all_late now e [] h late = (late, tt)
   all_late now e (x ∷ xs) h late = (h.0, all_late now e xs h.1 late)
 
-  -- one more, which was the first that was left
+  -- one more, which was the first of those left
   pub late_more : (now : Instant) (number : ℕ) (gone old some new : List (ℕ × Waiter T)) → first_late now some ≡ Some number
       → (first_number some ≡ Some number → new ≡ drop 1 some) → WereLate now gone old some
       → (more : List (ℕ × Waiter T)) × WereLate now more old new × (length more ≡ length gone + 1)

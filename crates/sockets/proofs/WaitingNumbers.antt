@@ -15,7 +15,7 @@ module _ {X : Type 0} where
       ap (λ o. match_ordering o ((n, x) ∷ e ∷ es) ((e.0, x) ∷ es) (e ∷ insert_entry nat_cmp es n x)) (sym (nat_cmp_is n e.0 Greater h.0))
       ∙ ap (λ s. e ∷ s) (put_last n x es h.1)
 
-  -- all are below the number after it, with it
+  -- all, including the new one, are below the next number
   pub below_push : (n : ℕ) (x : X) (es : List (ℕ × X)) → AreBelow n es → AreBelow (n + 1) (es ++ (n, x) ∷ [])
   below_push n x [] h = (omega arith, tt)
   below_push n x (e ∷ es) h = (omega (arith, h.0), below_push n x es h.1)

@@ -14,7 +14,7 @@ IsOfLoopback (V6 a) = ⊥
 abbrev pub mapped_127 : List ℕ
 mapped_127 = 0 ∷ 0 ∷ 0 ∷ 0 ∷ 0 ∷ 0 ∷ 0 ∷ 0 ∷ 0 ∷ 0 ∷ 255 ∷ 255 ∷ 127 ∷ []
 
--- nobody on another machine reaches the address: it is of 127.0.0.0/8, ::1, or of ::ffff:127.0.0.0/104
+-- nobody on another machine can reach the address: it is in 127.0.0.0/8, ::1, or in ::ffff:127.0.0.0/104
 abbrev pub LeadsBack : SocketAddr → Type 0
 LeadsBack (V4 a) = IsLoopbackV4 (v4_ip a)
 LeadsBack (V6 a) = IsLoopbackV6 (v6_ip a) ⊎ HasPrefix (ipv6_octets (v6_ip a)) mapped_127

@@ -19,7 +19,7 @@ is_late now since = nat_lt (LONGEST_LINE_TIME * 1_000_000_000) (instant_nanos no
 abbrev pub AreBelow : {X : Type 0} → ℕ → List (ℕ × X) → Type 0
 AreBelow n es = AllByRecursion (λ e. e.0 < n) es
 
--- which has one proof at most
+-- a proof of this is unique
 pub AreBelow-prop : {X : Type 0} (n : ℕ) (es : List (ℕ × X)) → IsProp (AreBelow n es)
 AreBelow-prop n es = AllByRecursion-prop (λ e. e.0 < n) (λ e. le_prop) es
 
@@ -32,16 +32,16 @@ module _ {T : Type 0} where
   abbrev pub connection_of : Waiter T → T
   connection_of w = w.connection
 
-  -- one of which that many bytes are to be read
+  -- a connection; a session is to read that many bytes of it
   abbrev pub line_of : ℕ → Waiter T → Ready T
   line_of count w = record { connection = w.connection; length = count }
 
-  -- the number of the first of those that wait, where it is late
+  -- the number of the first of those that wait, if it is late
   abbrev pub first_late : Instant → List (ℕ × Waiter T) → Option ℕ
   first_late now [] = None
   first_late now (e ∷ es) = if is_late now e.1.since then Some e.0 else None
 
-  -- those that go on waiting once a further one comes, where a line has come of that many others
+  -- those that go on waiting once a further connection comes, while that many others have sent a line
   abbrev pub left_for_one : List (ℕ × Waiter T) → ℕ → List (ℕ × Waiter T)
   left_for_one es lines = if nat_le MOST_CONNECTIONS (length es + lines) then drop 1 es else es
 
@@ -50,20 +50,20 @@ module _ {T : Type 0} where
   first_number [] = None
   first_number (e ∷ es) = Some e.0
 
-  -- only that one may have gone
+  -- at most the connection with that number is gone
   abbrev pub SparesOthers : ℕ → List (ℕ × Waiter T) → List (ℕ × Waiter T) → Type 0
   SparesOthers number old new = (new ≡ old) ⊎ (new ≡ remove_entry (is_at (nat_cmp number)) old)
 
-  -- a connection may have begun to wait, with that number, where these waited and a line had come of that many others
+  -- these waited, and on `lines` others a line had come: now a further connection may wait too, with that number
   abbrev pub MayHold : T → Instant → ℕ → ℕ → List (ℕ × Waiter T) → List (ℕ × Waiter T) → Type 0
   MayHold connection since number lines old new =
       (new ≡ left_for_one old lines) ⊎ (new ≡ left_for_one old lines ++ (number, begun connection since) ∷ [])
 
-  -- those are no more there that were first, and each of them was late
+  -- the first ones are no longer there, and each of them was late
   abbrev pub WereLate : Instant → List (ℕ × Waiter T) → List (ℕ × Waiter T) → List (ℕ × Waiter T) → Type 0
   WereLate now gone old new = (old ≡ gone ++ new) × AllByRecursion (λ e. is_late now e.1.since ≡ true) gone
 
-  -- the first ones are no more there that were late: all of them, or as many as `most`
+  -- late connections at the front are no longer there: all of them, or `most`
   abbrev pub EndsLate : Instant → ℕ → List (ℕ × Waiter T) → List (ℕ × Waiter T) → Type 0
   EndsLate now most old new =
       (gone : List (ℕ × Waiter T)) × WereLate now gone old new × ((length gone ≡ most) ⊎ (first_late now new ≡ None))

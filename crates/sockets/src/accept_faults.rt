@@ -22,9 +22,9 @@ const ENOBUFS: i32 = 105;
 pub(crate) enum AcceptFault {
     /// Nobody has connected.
     Nobody,
-    /// Somebody had connected, and is gone, as accept(2) says.
+    /// A peer had connected, and is gone, as accept(2) says.
     Gone,
-    /// No descriptor or no memory is left for it.
+    /// No descriptor or no memory is left for a connection.
     NoRoom,
     /// The listener failed.
     Failed,

@@ -13,7 +13,7 @@ use std::alloc::{AllocError, Global};
 use std::collections::{BTreeMap, VecDeque};
 use std::time::{Duration, Instant};
 
-/// How many connections a port has at most that no session has.
+/// How many connections without a session a port has at most.
 pub const MOST_CONNECTIONS: usize = 1_024;
 
 /// How many seconds a connection waits for a whole line.
@@ -27,7 +27,7 @@ pub(crate) struct Waiter<T> {
     since: Instant,
 }
 
-/// A connection of which a line has come.
+/// A connection on which a line has come.
 #[derive(Drop)]
 pub(crate) struct Ready<T> {
     pub(crate) connection: T,
@@ -35,14 +35,14 @@ pub(crate) struct Ready<T> {
     pub(crate) length: u64,
 }
 
-/// Whether what began to wait then has waited longer than `LONGEST_LINE_TIME` seconds.
+/// Whether a wait that began then has lasted longer than `LONGEST_LINE_TIME` seconds.
 fn is_late(now: Instant, since: Instant) -> bool
     ensures { result ≡ is_late now since }
 {
     now.duration_since(since) > Duration::from_secs(LONGEST_LINE_TIME)
 }
 
-/// The connections of a port that no session has: those that wait for a line, each under a number, and those of which a
+/// The connections of a port that no session has: those that wait for a line, each under a number, and those on which a
 /// line has come. Numbers ascend in the order in which the connections began to wait, and none is used twice.
 pub(crate) struct Connections<T> {
     waiting: BTreeMap<usize, Waiter<T>>,
@@ -68,7 +68,7 @@ impl<T: Drop> Drop for Connections<T> {
 
 #[tactic(auto, using(crate::proofs::WaitingNumbers::put_last, crate::proofs::WaitingNumbers::below_push, crate::proofs::WaitingNumbers::below_remove, crate::proofs::WaitingNumbers::below_rest))]
 impl<T: Drop> Connections<T> {
-    /// None. The numbers begin at `first`.
+    /// No connections. The numbers begin at `first`.
     pub(crate) fn new(alloc: Global, first: usize) -> Result<Connections<T>, AllocError>
         ensures waiting { IfOk result (λ c. c.waiting.entries ≡ []) }
         ensures ready { IfOk result (λ c. c.ready.items ≡ []) }
@@ -96,21 +96,21 @@ impl<T: Drop> Connections<T> {
         self.waiting.len() + self.ready.len() >= MOST_CONNECTIONS
     }
 
-    /// Whether a line has come of one at least.
+    /// Whether a line has come on at least one.
     pub(crate) fn has_line(&self) -> bool
         ensures { IsTrue result ↔ (0 < deque_len self.now.ready) }
     {
         !self.ready.is_empty()
     }
 
-    /// Whether a line has come of each of `MOST_CONNECTIONS`, so that none can be taken out for a further one.
+    /// Whether a line has come on each of `MOST_CONNECTIONS`, so that none can be taken out for a further one.
     pub(crate) fn is_full_of_lines(&self) -> bool
         ensures { IsTrue result ↔ (MOST_CONNECTIONS ≤ deque_len self.now.ready) }
     {
         self.ready.len() >= MOST_CONNECTIONS
     }
 
-    /// The connection with that number that waits, if there is one.
+    /// The waiting connection with that number, if there is one.
     pub(crate) fn get(&self, number: usize) -> Option<&T>
         ensures { option_copied result ≡ option_map connection_of (tree.get nat_cmp self.now.waiting number) }
     {
@@ -124,7 +124,7 @@ impl<T: Drop> Connections<T> {
     ///
     /// # Errors
     ///
-    /// Returns the connection where memory ran out, and nothing changed.
+    /// Returns the connection if memory ran out, and nothing changed.
     pub(crate) fn add(&mut self, connection: T, since: Instant) -> Result<(), T>
         requires { btree_map_len self.old.waiting + deque_len self.old.ready < MOST_CONNECTIONS }
         ensures ok { OnOk result (self.new.waiting.entries ≡ self.old.waiting.entries ++ (self.old.next, begun connection since) ∷ []) }
@@ -149,7 +149,7 @@ impl<T: Drop> Connections<T> {
         }
     }
 
-    /// Takes out the connection that has waited longest for a line, with its number. `None` where none waits.
+    /// Takes out the connection that has waited longest for a line, with its number. `None` if none waits.
     pub(crate) fn take_longest(&mut self) -> Option<(usize, Waiter<T>)>
         ensures first { self.old.waiting.entries ≡ option_to_list result ++ self.new.waiting.entries }
         ensures variant { IsSome result ↔ (0 < btree_map_len self.old.waiting) }
@@ -159,8 +159,8 @@ impl<T: Drop> Connections<T> {
         self.waiting.pop_first()
     }
 
-    /// The number of the connection that has waited longest for a line, where it has waited longer than
-    /// `LONGEST_LINE_TIME` seconds. `None` where it hasn't, and where none waits.
+    /// The number of the connection that has waited longest for a line, if it has waited longer than
+    /// `LONGEST_LINE_TIME` seconds. `None` if it hasn't, or if none waits.
     pub(crate) fn late(&self, now: Instant) -> Option<usize>
         ensures { result ≡ first_late now self.now.waiting.entries }
     {
@@ -172,7 +172,7 @@ impl<T: Drop> Connections<T> {
         }
     }
 
-    /// Drops the connection that has waited longest for a line, where there are `MOST_CONNECTIONS`. Returns whether there
+    /// Drops the connection that has waited longest for a line, if there are `MOST_CONNECTIONS`. Returns whether there
     /// is room for a further one then.
     pub(crate) fn make_room(&mut self) -> bool
         ensures room { IsTrue result ↔ (btree_map_len self.new.waiting + deque_len self.new.ready < MOST_CONNECTIONS) }
@@ -186,7 +186,7 @@ impl<T: Drop> Connections<T> {
         !self.is_full()
     }
 
-    /// Takes out the connection with that number that waits, if there is one.
+    /// Takes out the waiting connection with that number, if there is one.
     pub(crate) fn take(&mut self, number: usize) -> Option<T>
         ensures value { result ≡ option_map connection_of (tree.get nat_cmp self.old.waiting number) }
         ensures others { self.new.waiting.entries ≡ remove_entry (is_at (nat_cmp number)) self.old.waiting.entries }
@@ -197,7 +197,7 @@ impl<T: Drop> Connections<T> {
         Some(waiter.connection)
     }
 
-    /// A line has come of the connection with that number, if it waits: it waits no more, and a session is to read
+    /// A line has come on the connection with that number. If it waits, it waits no more, and a session is to read
     /// `length` bytes of it.
     pub(crate) fn line_came(&mut self, number: usize, length: u64)
         ensures others { self.new.waiting.entries ≡ remove_entry (is_at (nat_cmp number)) self.old.waiting.entries }
@@ -213,7 +213,7 @@ impl<T: Drop> Connections<T> {
         }
     }
 
-    /// Takes out the connection of which a line came first. `None` where there is none.
+    /// Takes out the connection on which a line came first. `None` if there is none.
     pub(crate) fn take_ready(&mut self) -> Option<Ready<T>>
         ensures first { self.old.ready.items ≡ option_to_list result ++ self.new.ready.items }
         ensures variant { IsSome result ↔ (0 < deque_len self.old.ready) }

@@ -8,16 +8,16 @@ use std::net::{Net, SocketAddr, TcpStream};
 use std::rt::Clock as SystemClock;
 use std::time::{Duration, Instant};
 
-/// How many seconds after it was made a connection is read and written to at most. A peer that sends its reply byte by
-/// byte lets no single read wait for long.
+/// How many seconds after it was made a connection is read and written to at most. Without this a peer that sends its
+/// reply byte by byte could hold it: no single read waits for long.
 const LONGEST_USE: u64 = 10;
 
 /// One direction of a connection, with the address that it was made to. It fails `LONGEST_USE` seconds after it was
 /// made.
 ///
-/// No clause of the standard library says where a stream leads. So which address this is rests on the body of
-/// `dial_at`, which alone makes one: it asks the network for a connection to the address that it is given, and to no
-/// other.
+/// No clause of the standard library says where a stream leads. That this address is the right one therefore rests on
+/// the body of `dial_at`, the only function that makes one: it asks the network for a connection to the address that it
+/// is given, and to no other.
 pub struct Dialled<R> {
     stream: TcpStream,
     address: SocketAddr,
@@ -49,7 +49,7 @@ impl<R> Model for Dialled<R> {
 }
 
 impl<R: SystemClock> Dialled<R> {
-    /// Whether it was made `LONGEST_USE` seconds ago or longer. A time that can't be known is too long.
+    /// Whether it was made `LONGEST_USE` seconds ago or longer. A time that can't be read counts as too long.
     fn is_over(&self) -> bool {
         match self.made.elapsed(&self.rt) {
             Ok(passed) => passed >= Duration::from_secs(LONGEST_USE),
@@ -58,16 +58,15 @@ impl<R: SystemClock> Dialled<R> {
     }
 }
 
-/// Makes a connection to that address, and returns what is read of it and what is written to it. `None` where the other
-/// end didn't take it within `LONGEST_WAIT` seconds, where `directions` returns `None`, and where the clock can't be
-/// read.
+/// Makes a connection to that address, and returns its reader and its writer. `None` if the other end didn't take it
+/// within `LONGEST_WAIT` seconds, if `directions` returns `None`, or if the clock can't be read.
 pub(crate) fn dial_at<R: Net<Stream = TcpStream> + SystemClock + Copy>(
     rt: R,
     address: SocketAddr,
 ) -> Option<(Dialled<R>, Dialled<R>)>
     ensures { IfSome result (λ made. (made.0 ≡ address) × (made.1 ≡ address)) }
 {
-    // A connect to a listener whose queue is full waits for minutes otherwise.
+    // Otherwise a connect to a listener whose queue is full waits for minutes.
     let longest = Duration::from_secs(LONGEST_WAIT);
     let stream = rt.connect_timeout(address, longest).ok()?;
     let (reader, writer) = directions(stream)?;
@@ -88,7 +87,7 @@ pub(crate) fn dial_at<R: Net<Stream = TcpStream> + SystemClock + Copy>(
 }
 
 impl<R: SystemClock> Read for Dialled<R> {
-    /// Fails with `TimedOut` too where the connection was made `LONGEST_USE` seconds ago. Nothing was read then.
+    /// Also fails with `TimedOut` if the connection was made `LONGEST_USE` seconds ago. Nothing was read then.
     fn read(&mut self, piece: &mut [u8]) -> io::Result<usize> {
         if self.is_over() {
             return Err(ErrorKind::TimedOut.into());
@@ -98,7 +97,7 @@ impl<R: SystemClock> Read for Dialled<R> {
 }
 
 impl<R: SystemClock> Write for Dialled<R> {
-    /// Fails with `TimedOut` too where the connection was made `LONGEST_USE` seconds ago. Nothing was written then.
+    /// Also fails with `TimedOut` if the connection was made `LONGEST_USE` seconds ago. Nothing was written then.
     fn write(&mut self, bytes: &[u8]) -> io::Result<usize> {
         if self.is_over() {
             return Err(ErrorKind::TimedOut.into());

@@ -1,4 +1,4 @@
-//! What has come of the connections that a port holds.
+//! The connections that a port holds, and the bytes that have come on them.
 ghost use Rattle.std.specs.Prelude.{◌≡◌, ◌⊎◌, Some, drop, true};
 ghost use Rattle.sockets.specs.LineEnds.{length_of};
 ghost use Rattle.sockets.specs.Waiting.{EndsLate, SparesOthers, first_number};
@@ -9,19 +9,19 @@ use std::io::ErrorKind;
 use std::net::TcpStream;
 use std::time::Instant;
 
-/// What has come of a connection.
+/// What a look at a connection shows.
 #[derive(Clone, Copy)]
 enum Arrival {
-    /// A line, or the beginning of one that is too long, with the number of bytes that a session is to read.
+    /// A line has come, or the beginning of one that is too long, with the number of bytes that a session is to read.
     Line(u64),
-    /// Less than a line, or nothing.
+    /// Less than a line has come, or nothing.
     Part,
     /// The connection has ended, or failed.
     End,
 }
 
-/// How many bytes a session is to read of a line that ends there: the line and its newline, and all that comes where it
-/// is too long. `None` where it isn't whole.
+/// How many bytes a session is to read of a line that ends there: the line and its newline, or all that comes if the
+/// line is too long. `None` if it isn't whole.
 fn length_of(end: LineEnd) -> Option<u64>
     ensures { result ≡ length_of end }
 {
@@ -32,8 +32,8 @@ fn length_of(end: LineEnd) -> Option<u64>
     }
 }
 
-/// What has come of the connection, of which reads don't wait. Nothing is read of it. A line may have one byte less than
-/// `front` has room for.
+/// What a look at the connection shows, whose reads don't wait. No byte is taken from it. A line may have one byte less
+/// than `front` has room for.
 fn arrival_of(stream: &TcpStream, front: &mut [u8]) -> Arrival {
     let longest = front.len().saturating_sub(1);
     match stream.peek(front) {
@@ -53,15 +53,15 @@ fn arrival_of(stream: &TcpStream, front: &mut [u8]) -> Arrival {
 #[derive(Drop)]
 pub(crate) struct Held {
     pub(crate) connections: Connections<TcpStream>,
-    /// Where the first bytes of a connection are looked at.
+    /// Room for looking at the first bytes of a connection.
     pub(crate) front: Vec<u8>,
-    /// Whether somebody may have connected whom the last accept left.
+    /// Whether peers may have connected that the last accept left.
     pub(crate) is_behind: bool,
 }
 
 impl Held {
-    /// Looks at what has come of the connection with that number, if it waits for a line. Where a line has come, it is
-    /// for a session. Where it has ended or failed, or where it sends no more and its line isn't whole, it is closed.
+    /// Looks at the connection with that number, if it waits for a line. If a line has come, the connection is for a
+    /// session. If it has ended or failed, or if it sends no more and its line isn't whole, it is closed.
     pub(crate) fn look_at(&mut self, number: usize, sends_no_more: bool)
         ensures others { SparesOthers number self.old.connections.waiting.entries self.new.connections.waiting.entries }
         ensures gone { sends_no_more ≡ true → first_number self.old.connections.waiting.entries ≡ Some number
@@ -78,8 +78,8 @@ impl Held {
         }
     }
 
-    /// Closes those that have waited too long for a line, up to `most`. One whose line has come all the same is for a
-    /// session: no accept has looked at it in time.
+    /// Closes those that have waited too long for a line, up to `most`. A connection whose line has come nevertheless
+    /// is for a session: no accept had looked at it in time.
     pub(crate) fn end_late(&mut self, now: Instant, most: usize)
         ensures { EndsLate now most self.old.connections.waiting.entries self.new.connections.waiting.entries }
     {
@@ -91,13 +91,13 @@ impl Held {
         }
     }
 
-    /// Whether an accept has something to do at once.
+    /// Whether an accept has work to do at once.
     pub(crate) fn has_work(&self) -> bool {
         self.is_behind || self.connections.has_line()
     }
 
-    /// Another handle of the connection. Where the system has none, the one that has waited longest for a line is closed
-    /// first. `None` where there is still none.
+    /// Another handle of the connection. If the system has none, the one that has waited longest for a line is closed
+    /// first. `None` if there is still none.
     pub(crate) fn second_handle(&mut self, stream: &TcpStream) -> Option<TcpStream>
         ensures waiting { (self.new.connections.waiting.entries ≡ self.old.connections.waiting.entries)
             ⊎ (self.new.connections.waiting.entries ≡ drop 1 self.old.connections.waiting.entries) }

@@ -2,25 +2,25 @@
 ghost use Rattle.std.specs.Prelude.{◌≡◌, ◌==◌, position};
 ghost use Rattle.sockets.specs.LineEnds.{end_of_line};
 
-/// Where the line ends that some bytes begin with.
+/// Where the line ends with which some bytes begin.
 #[derive(Clone, Copy, Debug, PartialEq, Eq)]
 pub enum LineEnd {
-    /// At the newline that follows that many bytes.
+    /// At the newline after that many bytes.
     Whole(usize),
-    /// Its newline isn't among the bytes, which aren't too many for a line.
+    /// Its newline isn't among the bytes, and they aren't too many for a line.
     Partial,
     /// More bytes come before its newline than a line may have.
     TooLong,
 }
 
-/// How many bytes come before the first newline. `None` where there is no newline.
+/// How many bytes come before the first newline. `None` if there is no newline.
 fn newline_at(bytes: &[u8]) -> Option<usize>
     ensures { result ≡ position (λ b. b == 10) bytes.now }
 {
     bytes.iter().position(|byte| *byte == b'\n')
 }
 
-/// Where the line ends that the bytes begin with. A line may have `longest` bytes before its newline.
+/// Where the line ends with which the bytes begin. A line may have `longest` bytes before its newline.
 pub fn line_end(bytes: &[u8], longest: usize) -> LineEnd
     ensures { result ≡ end_of_line longest bytes.now }
 {

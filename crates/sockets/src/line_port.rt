@@ -20,16 +20,16 @@ use std::rt::Clock as SystemClock;
 use std::sync::{Mutex, Wait};
 use std::time::{Duration, Instant};
 
-/// How many events one accept works off at most, how many connections it takes, and how many it closes that are late.
+/// How many events one accept handles at most, how many connections it takes, and how many late ones it closes.
 const MOST_AT_ONCE: usize = 64;
 
-/// The number of the listener among what is watched.
+/// The token of the listener among all that is watched.
 const LISTENER: usize = 0;
 
 /// The number of the first connection.
 const FIRST_CONNECTION: usize = 1;
 
-/// What waits for something to happen to the listener and the connections.
+/// Waits for an event of the listener or of a connection.
 #[derive(Drop)]
 struct Watch {
     poll: Poll,
@@ -40,19 +40,19 @@ struct Watch {
 /// beginning of one that is too long, and for that line alone: its reader ends after the newline. `give_back` has the
 /// connection wait for its next line.
 ///
-/// It has up to `MOST_CONNECTIONS` connections that no session has. The one that has waited longest for a line is closed
-/// for a further one. One that ends or fails is closed, and so is one whose line isn't whole `LONGEST_LINE_TIME` seconds
-/// after it was accepted or given back.
+/// It has up to `MOST_CONNECTIONS` connections that no session has. For a further one, the one that has waited longest
+/// for a line is closed. A connection that ends or fails is closed, and so is one whose line isn't whole
+/// `LONGEST_LINE_TIME` seconds after it was accepted or given back.
 ///
-/// An accept waits for 100 milliseconds at most, and does a limited part of what there is to do, so that it returns
-/// whatever comes. Several threads may call it: one waits for all, and the others for it.
+/// An accept waits for 100 milliseconds at most, and does a limited part of the work that is due, so that it returns
+/// regardless of how much comes. Several threads may call it: one waits for all, and the others for it.
 pub struct LinePort<R> {
     rt: R,
     listener: TcpListener,
     address: SocketAddr,
-    /// What `watch` waits for, so that a connection can be added meanwhile.
+    /// The registry of `watch`, with which a connection can be added while `watch` waits.
     registry: Registry,
-    /// Who takes both locks takes this one first.
+    /// Code that takes both locks takes this one first.
     watch: Mutex<Watch>,
     held: Mutex<Held>,
 }
@@ -85,12 +85,12 @@ impl<R> Model for LinePort<R> {
 }
 
 impl<R: Net<Listener = TcpListener, Stream = TcpStream> + Drop> LinePort<R> {
-    /// A listener at that address, or at a port that was free where its port is 0. A line may have `longest_line` bytes
+    /// A listener at that address; if its port is 0, at a port that was free. A line may have `longest_line` bytes
     /// before its newline.
     ///
     /// # Errors
     ///
-    /// Fails as the system does, and with `OutOfMemory` where memory ran out.
+    /// Fails as the system does, and with `OutOfMemory` if memory ran out.
     pub fn open_at(
         rt: R,
         alloc: Global,
@@ -135,9 +135,9 @@ impl<R> LinePort<R> {
 }
 
 impl<R: Wait + SystemClock> LinePort<R> {
-    /// The connection waits for a line from now on, in place of the one that has waited longest where there are
-    /// `MOST_CONNECTIONS`. It is closed where a line of each of them has come, where it can't be watched, and where memory
-    /// ran out.
+    /// The connection waits for a line from now on. If there are `MOST_CONNECTIONS`, it takes the place of the one that
+    /// has waited longest. It is closed if a line has come on each of them, if it can't be watched, or if memory ran
+    /// out.
     fn hold(&self, held: &mut Held, stream: TcpStream, now: Instant)
         ensures waiting { MayHold stream now held.old.connections.next (deque_len held.old.connections.ready)
             held.old.connections.waiting.entries held.new.connections.waiting.entries }
@@ -157,12 +157,12 @@ impl<R: Wait + SystemClock> LinePort<R> {
         }
     }
 
-    /// Takes the connections that others have made, up to `MOST_AT_ONCE`. Where the system has no room for one, the one
+    /// Takes the connections that others have made, up to `MOST_AT_ONCE`. If the system has no room for one, the one
     /// that has waited longest is closed.
     ///
     /// # Errors
     ///
-    /// Fails as the listener does, and where the system has no room for a connection and none waits.
+    /// Fails as the listener does, and if the system has no room for a connection and none waits.
     fn admit(&self, held: &mut Held, now: Instant) -> io::Result<()> {
         held.is_behind = true;
         for _ in 0..MOST_AT_ONCE {
@@ -193,12 +193,11 @@ impl<R: Wait + SystemClock> LinePort<R> {
         Ok(())
     }
 
-    /// Works off what has happened: looks at the connections of the events, ends the wait of those that are late, and
-    /// takes further ones.
+    /// Handles the events: looks at their connections, ends the wait of those that are late, and takes further ones.
     ///
     /// # Errors
     ///
-    /// Fails as `admit` does, and where the clock can't be read.
+    /// Fails as `admit` does, and if the clock can't be read.
     fn work_off(&self, events: &Events) -> io::Result<()> {
         let mut guard = self.held.lock(&self.rt);
         let held = &mut *guard;
@@ -210,8 +209,8 @@ impl<R: Wait + SystemClock> LinePort<R> {
         self.admit(held, now)
     }
 
-    /// A connection of which a line has come, for a session. `None` where there is none, and where it can't be handed
-    /// over, and is closed.
+    /// A connection on which a line has come, for a session. `None` if there is none, or if it can't be handed over and
+    /// is closed.
     fn next_line(&self) -> Option<(Take<TcpStream>, TcpStream)> {
         let mut guard = self.held.lock(&self.rt);
         let held = &mut *guard;
@@ -224,7 +223,7 @@ impl<R: Wait + SystemClock> LinePort<R> {
         Some((connection.take(length), writer))
     }
 
-    /// How long an accept waits for something to happen.
+    /// How long an accept waits for an event.
     fn longest_wait(&self) -> Duration {
         if self.held.lock(&self.rt).has_work() {
             Duration::ZERO
@@ -255,8 +254,8 @@ impl<R: Wait + SystemClock> Listen for LinePort<R> {
         }
     }
 
-    /// Takes a connection back whose line was replied to: it waits for a further line. It is closed where not all was read
-    /// that was to be, and where it can't be held.
+    /// Takes back a connection whose line got a reply: it waits for a further line. It is closed if not all bytes were
+    /// read that were to be, or if it can't be held.
     fn give_back(&self, reader: Take<TcpStream>, writer: TcpStream) {
         drop(writer);
         if reader.limit() > 0 {

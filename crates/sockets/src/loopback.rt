@@ -14,7 +14,7 @@ pub(crate) fn at_loopback(port: u16) -> SocketAddr
     SocketAddr::V4(SocketAddrV4::new(Ipv4Addr::new(127, 0, 0, 1), port))
 }
 
-/// Whether the address is of the loopback interface, so that nobody on another machine reaches it: one of 127.0.0.0/8
+/// Whether the address is of the loopback interface, so that nobody on another machine can reach it: one of 127.0.0.0/8
 /// (RFC 1122), ::1 (RFC 4291), or one of 127.0.0.0/8 as an IPv4-mapped address, of ::ffff:127.0.0.0/104 (RFC 4291).
 pub fn is_loopback(address: SocketAddr) -> bool
     ensures { IsTrue result ↔ LeadsBack address }
@@ -32,22 +32,23 @@ pub fn is_loopback(address: SocketAddr) -> bool
 }
 
 /// How many seconds a read, a write or a connect waits for the other end. The port of a node that has stopped still
-/// takes connections, as many as its queue has room for, and nobody replies to them.
+/// takes as many connections as its queue has room for, and nobody replies to them.
 pub(crate) const LONGEST_WAIT: u64 = 2;
 
-/// Each read and each write of the connection fails after `LONGEST_WAIT` seconds from now on. `None` where the system
+/// Makes each read and each write of the connection fail after `LONGEST_WAIT` seconds from now on. `None` if the system
 /// takes no limit for its waits.
 pub(crate) fn limit_waits(stream: &TcpStream) -> Option<()> {
     let longest = Some(Duration::from_secs(LONGEST_WAIT));
     stream.set_read_timeout(longest).ok()?;
     stream.set_write_timeout(longest).ok()?;
-    // A line waits for the acknowledgement of the one before it otherwise. Where it can't be set, all is only slower.
+    // Otherwise a line waits for the acknowledgement of the one before it. If it can't be set, everything is only
+    // slower.
     let _ = stream.set_nodelay(true);
     Some(())
 }
 
-/// What is read of a connection, and what is written to it; each fails after `LONGEST_WAIT` seconds. `None` where the
-/// system has no second handle for it, or takes no limit for its waits.
+/// The reader and the writer of a connection; each fails after `LONGEST_WAIT` seconds. `None` if the system has no
+/// second handle for it, or takes no limit for its waits.
 pub(crate) fn directions(stream: TcpStream) -> Option<(TcpStream, TcpStream)> {
     limit_waits(&stream)?;
     let other = stream.try_clone().ok()?;

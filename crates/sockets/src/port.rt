@@ -10,20 +10,20 @@ use std::net::{Net, SocketAddr, TcpListener, TcpStream};
 use std::os::fd::OwnedFd;
 use std::time::Duration;
 
-/// How many milliseconds an accept waits for somebody to connect.
+/// How many milliseconds an accept waits for a peer to connect.
 pub(crate) const LONGEST_ACCEPT: u64 = 100;
 
-/// That listener, each accept of which waits for `LONGEST_ACCEPT` milliseconds at most, and fails with `WouldBlock`
-/// where nobody connected.
+/// That listener, with accepts that wait for at most `LONGEST_ACCEPT` milliseconds and fail with `WouldBlock` if nobody
+/// connected.
 fn with_limit(listener: TcpListener) -> io::Result<TcpListener> {
-    // A listener has no call for this, but its socket has: what limits the reads of a stream is a time that the system
-    // keeps with the socket, and on Linux an accept waits no longer than that either.
+    // A listener has no call for this, but its socket has: the system keeps the limit for the reads of a stream with
+    // the socket, and on Linux an accept waits no longer than that either.
     let socket = TcpStream::from(OwnedFd::from(listener));
     socket.set_read_timeout(Some(Duration::from_millis(LONGEST_ACCEPT)))?;
     Ok(TcpListener::from(OwnedFd::from(socket)))
 }
 
-/// A TCP listener at a port of 127.0.0.1, each accept of which waits for `LONGEST_ACCEPT` milliseconds at most.
+/// A TCP listener at a port of 127.0.0.1, with accepts that wait for at most `LONGEST_ACCEPT` milliseconds.
 pub struct Port {
     listener: TcpListener,
     address: SocketAddr,
@@ -56,8 +56,8 @@ impl Port {
     ///
     /// # Errors
     ///
-    /// Fails as the system does: where it has no port or no handle left, allows the process no listener, or takes no
-    /// limit for what an accept waits.
+    /// Fails as the system does: if it has no port or no handle left, allows the process no listener, or takes no limit
+    /// for the wait of an accept.
     pub fn open<R: Net<Listener = TcpListener, Stream = TcpStream>>(net: &R) -> io::Result<Port>
         ensures { IfOk result IsOfLoopback }
     {

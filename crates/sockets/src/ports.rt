@@ -1,4 +1,4 @@
-//! Where all nodes accept connections, and what connects to them there.
+//! The addresses at which all nodes accept connections, and the dialer that connects to them there.
 ghost use Rattle.std.specs.Prelude.{◌≡◌, ◌++◌, ◌∷◌, [], Some, OnErr, OnOk};
 ghost use Rattle.std.specs.Io.Buffered.{reader_inner};
 ghost use Rattle.sockets.specs.Addresses.{address_of};
@@ -16,7 +16,7 @@ use units::{NoMemory, Node};
 /// How many bytes are read of a connection at once: a reply has fewer.
 const READ_AT_ONCE: usize = 256;
 
-/// Where each of some nodes accepts connections.
+/// The addresses at which some nodes accept connections.
 pub struct Ports<R> {
     net: R,
     alloc: Global,
@@ -46,7 +46,7 @@ impl<R> Model for Ports<R> {
 }
 
 impl<R: Net> Ports<R> {
-    /// What connects over that network. No node has an address yet.
+    /// A dialer over that network. No node has an address yet.
     pub fn new(net: R, alloc: Global) -> Ports<R>
         ensures { result ≡ [] }
     {
@@ -57,11 +57,12 @@ impl<R: Net> Ports<R> {
         }
     }
 
-    /// The node accepts connections at that port. Where one was added for it before, that one is still what is used.
+    /// Adds the port at which the node accepts connections. If an address was added for it before, that one is still
+    /// used.
     ///
     /// # Errors
     ///
-    /// Fails with `NoMemory` where memory ran out, and nothing changed.
+    /// Fails with `NoMemory` if memory ran out, and nothing changed.
     pub fn add(&mut self, node: Node, port: &Port) -> Result<(), NoMemory>
         ensures ok { OnOk result (self.new ≡ self.old ++ (node, port.now) ∷ []) }
         ensures err { OnErr result (self.new ≡ self.old) }
@@ -69,11 +70,11 @@ impl<R: Net> Ports<R> {
         self.add_address(node, port.address())
     }
 
-    /// The node accepts connections at that address. Where one was added for it before, that one is still what is used.
+    /// Adds the address at which the node accepts connections. If one was added for it before, that one is still used.
     ///
     /// # Errors
     ///
-    /// Fails with `NoMemory` where memory ran out, and nothing changed.
+    /// Fails with `NoMemory` if memory ran out, and nothing changed.
     pub fn add_address(&mut self, node: Node, address: SocketAddr) -> Result<(), NoMemory>
         ensures ok { OnOk result (self.new ≡ self.old ++ (node, address) ∷ []) }
         ensures err { OnErr result (self.new ≡ self.old) }
@@ -82,7 +83,7 @@ impl<R: Net> Ports<R> {
         Ok(())
     }
 
-    /// Where the node accepts connections. `None` where no address was added for it.
+    /// The address at which the node accepts connections. `None` if no address was added for it.
     pub fn address_of(&self, node: Node) -> Option<SocketAddr>
         ensures { result ≡ address_of self.now node }
     {
@@ -97,7 +98,7 @@ impl<R: Net<Stream = TcpStream> + SystemClock + Copy + Send> Dial for Ports<R> {
 
     type Writer = Dialled<R>;
 
-    // Both directions are of a connection that was made to where the node accepts connections.
+    // Both directions are those of a connection that was made to the address at which the node accepts connections.
     ghost leads = { λ addresses peer reader writer. (address_of addresses peer ≡ Some (reader_inner reader))
         × (address_of addresses peer ≡ Some writer) };
 

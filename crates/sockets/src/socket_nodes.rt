@@ -1,4 +1,4 @@
-//! Of what types nodes are that meet over sockets.
+//! The types of nodes that meet over sockets.
 
 use crate::port::Port;
 use crate::ports::Ports;

@@ -1,4 +1,4 @@
--- The order of identifiers tells them apart.
+-- Identifiers that are equal in the order of identifiers are one identifier.
 use Rattle.std.proofs.Common.{◌≡◌, ℕ, refl, sym, ap, subst, ◌∙◌}
 use Rattle.std.specs.declared.cmp.Ordering.{Ordering}
 use Rattle.std.specs.Cmp.{IsTotalOrder}

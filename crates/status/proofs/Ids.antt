@@ -1,4 +1,4 @@
--- What a text that is no identifier lacks.
+-- Conditions that a text that is no identifier doesn't meet.
 use Rattle.std.proofs.Common.{◌≡◌, ℕ, List, take, drop, sym, ap, ◌∙◌, arith, subst, Option, Some, None, IfNone, Bool, true, false, true≢false, refl}
 use Rattle.std.specs.Fmt.{decimal}
 use Rattle.std.specs.Str.{IsCharBoundary}

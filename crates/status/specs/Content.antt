@@ -1,4 +1,4 @@
--- What a transfer is about, beside its identifier, whose code is the initiator.
+-- The content of a transfer. Its identifier isn't a part of it; the code of the identifier is the initiator.
 use Rattle.std.specs.Prelude.{ℕ, ◌≤◌, ◌==◌, ◌&&◌, List, length, map, Bool}
 use lib.Pointwise.{pointwise}
 use Rattle.std.specs.List.{AllByRecursion}

@@ -24,7 +24,7 @@ id_cmp = id-order.it
 abbrev pub is_number : ℕ → Bool
 is_number n = nat_le 1 n && nat_le n last_transaction
 
--- what the test of a number says
+-- a number that passes the test is in range
 pub number_from : (n : ℕ) → is_number n ≡ true → IsTransactionNumber n
 number_from n e = let h = both (nat_le 1 n) (nat_le n last_transaction) e in (leb-true 1 n h.0, leb-true n last_transaction h.1)
   where

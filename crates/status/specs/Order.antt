@@ -1,4 +1,4 @@
--- What an order to transfer units asks for.
+-- The parts of an order to transfer units.
 use Rattle.std.specs.Prelude.{ℕ, ◌<◌, ◌==◌, ◌&&◌, Bool, List}
 use Rattle.std.specs.List.{AllByRecursion}
 use Rattle.units.specs.Code.{same_code}
@@ -13,7 +13,7 @@ pub record Order : Type 0 where
   pub to_account : ℕ
   pub units : List RawBlock
 
--- numbers of at most `most_digits` digits, whatever they are
+-- numbers of at most `most_digits` digits; nothing else is checked
 pub record IsOrder (o : Order) : Type 0 where
   pub account : o.account < too_long
   pub to_account : o.to_account < too_long

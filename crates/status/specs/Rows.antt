@@ -1,4 +1,4 @@
--- The three status tables: what an input does to a transaction, by what the node has recorded of it.
+-- The three status tables: the result for an input about a transaction, by the status that the node has recorded.
 use Rattle.status.specs.declared.status.Status.TheVariants.{Proposed, Checked, Accepted, Rejected, Terminated, Cancelled, Completed}
 use Rattle.status.specs.declared.rows.Role.{Role}
 use Rattle.status.specs.declared.rows.Role.TheVariants.{Initiator, Itl, Acquirer}

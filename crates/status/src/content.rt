@@ -1,4 +1,4 @@
-//! What a transfer is about.
+//! The content of a transfer.
 ghost use Rattle.std.specs.Prelude.{◌≡◌, ◌≤◌, ◌↔◌, IsTrue, IfOk, IfSome, IfNone, length};
 ghost use Rattle.units.specs.Facts.{IsAccountNumber};
 ghost use Rattle.status.specs.Content.{IsContent, raws, same_blocks, same_content};
@@ -7,8 +7,8 @@ use std::marker::Model;
 use units::limits::{LAST_ACCOUNT, MOST_BLOCKS};
 use units::{Block, Code, Items, NoMemory};
 
-/// What a transfer is about, beside its identifier, whose code is the initiator: the account that
-/// the units leave, the acquirer and its account that they go to, and 1 to `MOST_BLOCKS` blocks.
+/// The content of a transfer: the account that the units leave, the acquirer and its account that they go to, and 1 to
+/// `MOST_BLOCKS` blocks. The transfer's identifier isn't a part of it; the code of the identifier is the initiator.
 /// Accounts are 1 to `LAST_ACCOUNT`.
 #[derive(Debug)]
 pub struct Content {
@@ -56,8 +56,8 @@ fn are_same_blocks(a: &[Block], b: &[Block]) -> bool
 }
 
 impl Content {
-    /// A content of these parts, or `None` where an account is out of range, or there is no block
-    /// or more than `MOST_BLOCKS`.
+    /// A content with these parts, or `None` where an account is out of range, or there is no block or more than
+    /// `MOST_BLOCKS`.
     pub fn new(
         account: u64,
         acquirer: Code,

@@ -43,7 +43,7 @@ impl TransactionId {
         }
     }
 
-    /// The identifier that a text writes, as `NZ1`: the code, then the number without leading zeros.
+    /// The identifier that a text writes, such as `NZ1`: the code, then the number without leading zeros.
     pub fn read(text: &str) -> Option<TransactionId>
         ensures some { IfSome result (λ t. text.now ≡ id_text t) }
         ensures none { IfNone result ((t : TransactionId) → text.now ≡ id_text t → ⊥) }

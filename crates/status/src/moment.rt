@@ -1,4 +1,4 @@
-//! Whole seconds since the epoch, and the texts that name them.
+//! Whole seconds since the epoch, and their texts.
 ghost use Rattle.std.specs.Prelude.{◌≡◌, ◌≤◌, IfOk, IfErr, IfSome, IfNone};
 ghost use Rattle.units.specs.Limits.{last_moment};
 
@@ -15,7 +15,7 @@ pub struct Moment {
     pub ghost in_range: { seconds ≤ last_moment },
 }
 
-/// The moment as RFC 3339 has it, in UTC: `2026-11-29T05:00:00Z`. What `jiff` prints has no contract.
+/// The moment as in RFC 3339, in UTC: `2026-11-29T05:00:00Z`. The text that `jiff` prints has no contract.
 impl fmt::Display for Moment {
     fn fmt<W: fmt::Write>(&self, f: &mut fmt::Formatter<W>) -> fmt::Result {
         match Timestamp::from_second(self.seconds as i64) {
@@ -41,7 +41,7 @@ impl Moment {
     ghost use Rattle.status.specs.declared.moment.Moment.{Moment};
     ghost use Rattle.status.specs.declared.moment.MomentFault.TheVariants.{Text};
 
-    /// The moment that many seconds after the epoch, where it lies in the range.
+    /// The moment that number of seconds after the epoch, where it lies in the range.
     pub fn new(seconds: u64) -> Option<Moment>
         ensures some { IfSome result (λ m. m.seconds ≡ seconds) }
         ensures none { IfNone result (seconds ≤ last_moment → ⊥) }

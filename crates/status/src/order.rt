@@ -9,8 +9,8 @@ use std::marker::Model;
 use units::limits::TOO_LONG;
 use units::{Code, Items, NoMemory, RawBlock};
 
-/// An order to transfer units, as it was given: none of its parts is checked, except that its
-/// numbers have at most `MOST_DIGITS` digits.
+/// An order to transfer units, as it was given. None of its parts is checked, except that its numbers have at most
+/// `MOST_DIGITS` digits.
 #[derive(Debug)]
 pub struct Order {
     account: u64,
@@ -62,7 +62,7 @@ fn are_same_blocks(a: &[RawBlock], b: &[RawBlock]) -> bool
 }
 
 impl Order {
-    /// An order of these parts, or `None` where a number has more than `MOST_DIGITS` digits.
+    /// An order with these parts, or `None` where a number has more than `MOST_DIGITS` digits.
     pub fn new(
         account: u64,
         acquirer: Code,

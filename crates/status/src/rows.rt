@@ -1,4 +1,4 @@
-//! The rows of the status tables: what they are asked, and what they say.
+//! The rows of the status tables: their inputs and their results.
 
 use crate::status::Status;
 
@@ -11,18 +11,18 @@ pub enum Role {
     Acquirer,
 }
 
-/// What a node has recorded of a transaction.
+/// The status of a transaction that a node has recorded.
 #[derive(Clone, Copy, Debug, PartialEq, Eq)]
 pub enum RecordedStatus {
     /// No record names it.
     Unknown,
-    /// A record without content: it was cancelled before its proposal came.
+    /// It has a record without content: it was cancelled before its proposal came.
     Bare,
-    /// It stands so, with its content.
+    /// It has this status, with its content.
     Stands(Status),
 }
 
-/// What happens to a transaction at a node, by the input columns of the tables.
+/// An input about a transaction at a node, by the input columns of the tables.
 #[derive(Clone, Copy, Debug, PartialEq, Eq)]
 pub enum RowInput {
     /// A propose order that passed all checks.
@@ -33,7 +33,7 @@ pub enum RowInput {
     ProposalWithFindings,
     /// A proposal equal to the one recorded.
     EqualProposal,
-    /// A notification of that status. One of Completed at the acquirer is meant where none of the
+    /// A notification of that status. At the acquirer, one of Completed is in this column only where none of the
     /// transaction's units is held there.
     Notified(Status),
     /// A clean-up that finds the transaction expired.
@@ -46,15 +46,15 @@ pub enum RowInput {
     Request,
 }
 
-/// What the tables say to an input.
+/// The result of a table for an input.
 #[derive(Clone, Copy, Debug, PartialEq, Eq)]
 pub enum Row {
-    /// It is recorded, and the transaction then stands so.
+    /// The input is recorded, and the transaction then has this status.
     Move(Status),
-    /// It was acted on before. Nothing moves.
+    /// The input was acted on before. Nothing moves.
     Repeat,
-    /// It comes too late to act on. Nothing moves.
+    /// The input comes too late to act on. Nothing moves.
     Late,
-    /// The tables have no such pair: refusal `NO_ROW`.
+    /// The table has no such pair: refusal `NO_ROW`.
     Refused,
 }

@@ -96,7 +96,7 @@ fn acquirer_row(old: RecordedStatus, input: RowInput) -> Row
     }
 }
 
-/// What the table of that role says to an input for a transaction of which the node knows `old`.
+/// The result of that role's table for an input about a transaction whose recorded status is `old`.
 pub fn row(role: Role, old: RecordedStatus, input: RowInput) -> Row
     ensures { result ≡ row_of role old input }
 {

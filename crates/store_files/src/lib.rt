@@ -1,5 +1,5 @@
 //! A node's store at a path: opens the two files there, and hands them to `durable`. No clause ties what a path names
-//! to what is opened, so that this crate is to be read, and has nothing else.
+//! to the files that are opened: this crate must be read, and does nothing else.
 #![tactic(auto)]
 
 ghost use Rattle.std.specs.Prelude.{◌≡◌, ◌≢◌, ◌⊎◌, true, false, IfOk, IfErr};
@@ -16,11 +16,11 @@ use std::io::ErrorKind;
 use stores::StoreFault;
 use units::Node;
 
-/// How many pages of 4,096 bytes a store keeps in memory: appending reads the last ones alone, and loading reads each
+/// How many pages of 4,096 bytes a store keeps in memory. Appending reads only the last ones, and loading reads each
 /// once.
 const CACHE_PAGES: usize = 256;
 
-/// How a store is kept in memory, and a seed for its log.
+/// The options of a store: its pages in memory, and a seed for its log.
 ///
 /// Fails with `Device` where the system has no random number.
 fn options(rt: &HostRuntime) -> Result<Options, StoreFault>
@@ -37,7 +37,7 @@ fn options(rt: &HostRuntime) -> Result<Options, StoreFault>
 
 /// Opens the database file at the path and its log beside it, and makes those that are missing.
 ///
-/// Fails with `NoMemory` where memory ran out, and else with `Device`.
+/// Fails with `NoMemory` for lack of memory, and else with `Device`.
 fn files_at(rt: &HostRuntime, path: &str) -> Result<Files<File>, StoreFault>
     ensures fresh { IfOk result (λ files. IsFresh true files.log × IsFresh false files.db) }
     ensures named { IfErr result (λ e. (e ≡ StoreFault.NoMemory) ⊎ (e ≡ StoreFault.Device)) }
@@ -56,7 +56,7 @@ fn files_at(rt: &HostRuntime, path: &str) -> Result<Files<File>, StoreFault>
 /// store of format One to format Two.
 ///
 /// Fails as `SqlStore::open_files` does, and with `Device` where the file can't be opened or another handle has it
-/// open. No clause ties the result to what stands at the path.
+/// open. No clause ties the result to the files at the path.
 pub fn open_path(rt: &HostRuntime, path: &str, node: Node) -> Result<SqlStore<File>, StoreFault>
     ensures runs { IfOk result (λ s. must_reopen _ s ≡ false) }
     ensures node { IfOk result (λ s. node_of _ s ≡ node) }
@@ -68,7 +68,7 @@ pub fn open_path(rt: &HostRuntime, path: &str, node: Node) -> Result<SqlStore<Fi
     open_path_watched(rt, path, node, &mut Nobody)
 }
 
-/// As `open_path`, and tells how far a migration of the store has come.
+/// As `open_path`, and reports to the watch how far a migration of the store is.
 ///
 /// Fails as `open_path` does.
 pub fn open_path_watched<W: Watch>(
@@ -92,5 +92,5 @@ pub fn open_path_watched<W: Watch>(
     }
 }
 
-// What is opened at a path.
+// The crate of the stores that are opened at a path.
 pub use durable;

@@ -1,4 +1,4 @@
--- What a statement of a migration leaves of a connection to a store.
+-- The state of a connection to a store after a statement of a migration.
 use Rattle.std.proofs.Common.{◌≡◌, ℕ, zero, suc, ◌+◌, ◌-◌, ◌<◌, ◌≤◌, pos, List, [], ◌∷◌, ◌++◌, Bor, length, map, take, drop, get_or, Option, Some, None, Ok, IsTrue, refl, sym, ap, subst, ◌∙◌, arith, append_assoc}
 use Rattle.std.proofs.lemmas.List.{drop-drop, length-drop, length-take-le, length-map, get_or-map}
 use Rattle.std.proofs.lemmas.Slice.{drop-append-drop}
@@ -96,7 +96,7 @@ front-length place before now m low =
 pub rest_is : (place : ℕ) (before now : Trees) → IsMigrating place before now → place ≤ length (slots_in before) → drop place (slots_in now) ≡ drop place (slots_in before)
 rest_is place before now m low = ap (drop place) m.has.slots ∙ drop-append-drop place (slots_in before) m.front place (omega arith) (front-length place before now m low)
 
--- one more has its new body
+-- one more record has its new body
 pub migrating_next : (place : ℕ) (before now new : Trees) (rest : Places) (body text : List ℕ) (input : Input) → IsRecordText One body input → IsRecordText Two text input
     → HasPlaces One now (with_body place text (slots_in now)) new → IsMigrating place before now → drop place (slots_in before) ≡ Some body ∷ rest → IsMigrating (place + 1) before new
 migrating_next place before now new rest body text input one two put m here =
@@ -121,12 +121,12 @@ migrating_next place before now new rest body text input one two put m here =
       };
     } in subst (λ n. IsMigrating n before new) on it
 
--- the next of them has no record
+-- the next place has no record
 pub damaged_next : (place : ℕ) (before now : Trees) (slot : Option (List ℕ)) (rest : Places) → IsMigrating place before now → drop place (slots_in before) ≡ slot ∷ rest → HasNoRecordIn One slot
     → IsDamagedIn One place (slots_in before)
 damaged_next place before now slot rest m here not = damaged-place One place (slots_in before) m.migrated.0 slot rest m.migrated.1 here not
 
--- ---- the bodies of a page, of which those before it are migrated
+-- ---- the bodies of a page; those before it are migrated
 
 abbrev pub nows : List (Bor (List ℕ)) → List (List ℕ)
 nows bodies = map (λ (b : Bor (List ℕ)). b.now) bodies
@@ -144,7 +144,7 @@ module _ (first until : ℕ) (before now : Trees) (bodies : List (Bor (List ℕ)
       let same = get_or-map (λ (b : Bor (List ℕ)). b.now) bodies k d d.now less in
       (it.0, sym (drop-drop k first (slots_in before)) ∙ it.1 ∙ ap (λ text. Some text ∷ it.0) same)
 
-  -- behind the last body there is none
+  -- after the last body there is none
   pub page_gap : length bodies < until - first → (rest : Places) × (drop (first + length bodies) (slots_in before) ≡ None ∷ rest)
   page_gap less =
       let counted = length-map bodies (λ (b : Bor (List ℕ)). b.now) in

@@ -1,4 +1,4 @@
--- What the texts of the statements of a migration mean under the schema of a store.
+-- The meaning of the texts of a migration's statements under the schema of a store.
 use Rattle.std.proofs.Common.{◌≡◌, ℕ, List, [], ◌∷◌, codes, None, false, pos, refl}
 use Rattle.std.specs.Prelude.{negsuc}
 use Rattle.sqlite.specs.declared.types.Value.TheVariants.{Null, Int}
@@ -17,7 +17,7 @@ body_text = codes "UPDATE entries SET body = ?2 WHERE place = ?1"
 abbrev pub format_text : List ℕ
 format_text = codes "UPDATE about SET format = ?1"
 
--- the rows of a table that a statement finds, and what it puts for each: the old rowid, and then the new row
+-- the rows of a table that a statement finds, and the row that it writes for each: the old rowid, and then the new row
 abbrev pub rewriting : ℕ → List Term → List Term → Query
 rewriting tree filter project = record {
   from = inner tree end;

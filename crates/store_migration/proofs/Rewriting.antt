@@ -1,4 +1,4 @@
--- What the UPDATE of a record's body, and that of the owner's format, do to a store.
+-- The effect on a store of the UPDATE of a record's body, and of that of the owner's format.
 use Rattle.std.proofs.Common.{◌≡◌, inl, inr, ℕ, ◌+◌, pos, List, [], ◌∷◌, ◌++◌, map, flat_map, filter, Bool, true, false, cond, None, Some, Option, Ok, refl, sym, ap, subst, ◌∙◌, arith}
 use Rattle.std.specs.Prelude.{◌==◌, ◌&&◌, slice_get}
 use Rattle.std.specs.List.Sorted.{IsPermutation}
@@ -72,7 +72,7 @@ edits order table query limit text params db after tally here schema does =
       others = λ tree other. ap (λ (d : Database). d.trees tree) now ∙ ap (λ (t : Trees). t tree) trees ∙ applied.others tree other tt;
     }
 
--- each table stands at its tree, and they are two
+-- each table is at its own tree, and the two trees differ
 entries-here : (order : TableOrder) → slice_get (store_schema order).tables (entries_tree order) ≡ Some (entries_table (entries_tree order))
 entries-here AboutFirst = refl
 entries-here EntriesFirst = refl
@@ -85,7 +85,7 @@ two-trees : (order : TableOrder) → about_tree order ≡ entries_tree order →
 two-trees AboutFirst e = omega (arith, e)
 two-trees EntriesFirst e = omega (arith, e)
 
--- ---- what the query finds
+-- ---- the rows that the query finds
 
 from-truth : (b : Bool) → is_true (from_truth (Some b)) ≡ b
 from-truth true = refl
@@ -161,7 +161,7 @@ module _ (tree place : ℕ) (body : List ℕ) (db : Database) (found : List Row)
 
 -- ---- the record at a place
 
--- one row is taken out, and put again with the other body
+-- one row is taken out, and inserted again with the other body
 edited_one : (tree place : ℕ) (body : List ℕ) (db : Trees) (row : Row) → column row 0 ≡ Int (pos place)
     → edited db (edit_of db (entries_table tree) (ids_of (seen body row ∷ [])) Given 1 (seen body row ∷ [])) ≡ put_row (entry place body) (without_rowid (pos place) (db tree))
 edited_one tree place body db row is =
@@ -185,7 +185,7 @@ rows_after order limit text place body db after tally schema are does =
           ∙ edited_one tree place body db.trees it.row (row_id it.row it.is_entry ∙ ap (λ n. Int (pos n)) it.at) ∙ it.put
     ] in (e.schema, entries, e.others (about_tree order) (two-trees order))
 
--- a store of the same format and node, of which one place has the other body, if it had one
+-- a store of the same format and node, where one place has the other body, if it had one
 pub body_put : (format : RecordFormat) (limit : Option ℕ) (text : List ℕ) (place : ℕ) (body : List ℕ) (db after : Database) (tally : Tally) → HasStore format db
     → Does limit enforced (given place body) db text None (body_command (entries_tree (order_in db.trees))) (Ok (tally, after))
     → HasStore format after × HasPlaces format db.trees (with_body place body (slots_in db.trees)) after.trees × (after.schema ≡ db.schema)

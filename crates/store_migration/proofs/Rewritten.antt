@@ -1,4 +1,4 @@
--- Rows of entries, of which one has another body.
+-- Rows of entries, one of which has another body.
 use Rattle.std.proofs.Common.{◌≡◌, ◌⊎◌, inl, inr, ℕ, ◌+◌, ◌-◌, ◌≤◌, ◌<◌, pos, List, [], ◌∷◌, ◌++◌, filter, Bool, true, false, cond, None, Some, Option, refl, sym, ap, subst, ◌∙◌, arith}
 use Rattle.std.specs.Prelude.{◌==◌, zero, suc}
 use Rattle.std.specs.Ordering.{is_eq}
@@ -28,7 +28,7 @@ equal m n e = value_cmp-Int (pos m) (pos n) ∙ sym (int_cmp_is (pos m) (pos n) 
 behind_it : (m n : ℕ) → n < m → value_cmp (Int (pos m)) (Int (pos n)) ≡ Greater
 behind_it m n low = value_cmp-Int (pos m) (pos n) ∙ sym (int_cmp_is (pos m) (pos n) Greater (omega (arith, ints, low)))
 
--- places compare as values just as they do as numbers
+-- places compare as values in the same way as they do as numbers
 pub cmp_is : (m n : ℕ) → is_eq (value_cmp (Int (pos m)) (Int (pos n))) ≡ (m == n)
 cmp_is m n = elim (cases_lt m n) [
   | inl low ↦ ap is_eq (before m n low) ∙ sym (ne_eqb m n (λ e. omega (arith, low, e)))
@@ -44,7 +44,7 @@ is_at place row = place_of row == place
 pub row_id : (row : Row) → row ≡ entry (place_of row) (body_of row) → column row 0 ≡ Int (pos (place_of row))
 row_id row e = ap (λ (r : Row). column r 0) e
 
--- rows behind the place stay, and none is found
+-- rows after the place stay, and none of them is found
 record AreBehind (place : ℕ) (body : List ℕ) (rows : List Row) : Type 0 where
   none : filter (is_at place) rows ≡ []
   rewritten_is : rewritten place body rows ≡ rows
@@ -69,7 +69,7 @@ put_before place from body (row ∷ rows) h low =
     subst (λ (r : Row). put_row (entry place body) (r ∷ rows) ≡ entry place body ∷ r ∷ rows) (sym h.1)
     (rw (behind_it (place_of row) place (omega (arith, low, h.0))) refl)
 
--- one row is at the place, and put again with the other body it stands where it stood
+-- exactly one row is at the place; with the other body it is inserted at the same position
 pub record IsOne (place from : ℕ) (body : List ℕ) (rows : List Row) : Type 0 where
   pub row : Row
   pub bound : from ≤ place

@@ -1,4 +1,4 @@
--- How a store of format One becomes one of format Two.
+-- The migration of a store of format One to format Two.
 use Rattle.std.specs.Prelude.{◌≡◌, ◌⊎◌, ℕ, zero, suc, List, [], ◌∷◌, ◌++◌, take, drop, Some, None}
 use Rattle.sqlite.specs.Tree.{Trees}
 use Rattle.wire.specs.declared.input.Input.{Input}
@@ -11,14 +11,14 @@ use Rattle.store_tables.specs.Held.{slots_in, node_in, IsStoreIn}
 abbrev pub AreMigrated : Places → Places → Type 0
 AreMigrated old new = (inputs : List Input) × AreRecordsIn One old inputs × AreRecordsIn Two new inputs
 
--- a store of format One became one of format Two, of the same node and with the same inputs
+-- a store of format One was migrated to format Two, of the same node and with the same inputs
 pub record IsMigrated (old new : Trees) : Type 0 where
   pub before : IsStoreIn One old
   pub after : IsStoreIn Two new
   pub node : node_in new ≡ node_in old
   pub places : AreMigrated (slots_in old) (slots_in new)
 
--- what an opening makes of a database: the places that it has or, of a store of format One, those that are migrated
+-- the places after an opening of a database: those that it has or, for a store of format One, the migrated ones
 abbrev pub IsOpenedAs : Trees → Places → Type 0
 IsOpenedAs db places = ((IsStoreIn One db → ⊥) × (places ≡ slots_in db)) ⊎ (IsStoreIn One db × AreMigrated (slots_in db) places)
 
@@ -37,7 +37,7 @@ with_body zero body (None ∷ places) = None ∷ places
 with_body zero body (Some old ∷ places) = Some body ∷ places
 with_body (suc place) body (slot ∷ places) = slot ∷ with_body place body places
 
--- the first places are migrated, and the others as they were
+-- the first places are migrated, and the others are as they were
 pub record IsMigrating (done : ℕ) (old new : Trees) : Type 0 where
   pub front : Places
   pub migrated : AreMigrated (take done (slots_in old)) front

@@ -1,5 +1,4 @@
-//! A store of format One, by whose records an older version wrote its journal, becomes one of format Two, in one
-//! transaction.
+//! The migration of a store of format One, whose records an older version wrote, to format Two, in one transaction.
 #![tactic(auto)]
 
 mod migrating;

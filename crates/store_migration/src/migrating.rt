@@ -1,4 +1,4 @@
-//! A store of format One becomes one of format Two: its records are rewritten, and then its owner's row.
+//! The migration of a store of format One to format Two: its records are rewritten, and then its owner's row.
 ghost use Rattle.std.specs.Prelude.{◌≡◌, ◌⊎◌, ◌<◌, ◌≤◌, ◌+◌, ◌^◌, ℕ, [], ◌∷◌, drop, false, length, Some, IfOk, IfErr, OnOk, IsTrue};
 ghost use Rattle.sqlite.specs.State.{HasCleanDisk, KeepsCommit, Survives};
 ghost use Rattle.sqlite.specs.Held.{state};
@@ -20,7 +20,7 @@ use store_tables::{bodies, fault_of, rows_inside};
 use stores::{PAGE, StoreFault};
 use wire::{RecordFormat, TextFault, decode_input_v1, encode_input};
 
-/// Another body for the record at a place, within the transaction.
+/// Gives the record at a place another body, within the transaction.
 fn put_body<S: Alter>(tx: &mut Transaction<'_, S>, place: u64, body: &[u8]) -> Result<(), SqlError>
     requires small { place < 2 ^ 63 }
     requires inside { HasCleanDisk (state S.Store tx.old.conn.now)
@@ -45,7 +45,7 @@ fn put_body<S: Alter>(tx: &mut Transaction<'_, S>, place: u64, body: &[u8]) -> R
     Ok(())
 }
 
-/// Format Two for the store, within the transaction.
+/// Gives the store format Two, within the transaction.
 fn put_format<S: Alter>(tx: &mut Transaction<'_, S>) -> Result<(), SqlError>
     requires inside { HasCleanDisk (state S.Store tx.old.conn.now)
         → IsWithin (state S.Store tx.old.conn.now) (HasStore One) }
@@ -68,7 +68,8 @@ fn put_format<S: Alter>(tx: &mut Transaction<'_, S>) -> Result<(), SqlError>
     Ok(())
 }
 
-/// The text in format Two of the input that the text writes in format One. `Shape`: it writes none.
+/// Reads the text as an input in format One, and returns its text in format Two. Fails with `Shape` where it writes
+/// none.
 fn migrated_text(alloc: Global, text: &[u8]) -> Result<Vec<u8>, TextFault>
     ensures ok { IfOk result (λ new. (input : Input) × IsRecordText One text.now input
         × IsRecordText Two new.items input) }
@@ -84,8 +85,8 @@ fn migrated_text(alloc: Global, text: &[u8]) -> Result<Vec<u8>, TextFault>
     }
 }
 
-/// The record at a place, with that body, in format Two, within the transaction: one place more is migrated. Fails
-/// with `Damaged(place)` where the body is no record's in format One.
+/// Rewrites the record at a place, which has that body, in format Two, within the transaction: one more place is
+/// migrated. Fails with `Damaged(place)` where the body is no record's in format One.
 fn migrate_record<S: Alter>(
     tx: &mut Transaction<'_, S>,
     alloc: Global,
@@ -123,9 +124,9 @@ fn migrate_record<S: Alter>(
     }
 }
 
-/// The records of the places from the first one up to another, of which there is at least one, within the transaction,
-/// where those before them are migrated. Fails with `Damaged(p)` for the first of these places that has no record in
-/// format One.
+/// Rewrites the records of the places from the first one up to, but not including, another one, within the transaction.
+/// There is at least one such place, and those before them are migrated. Fails with `Damaged(p)` for the first of these
+/// places that has no record in format One.
 fn migrate_page<S: Alter>(
     tx: &mut Transaction<'_, S>,
     alloc: Global,
@@ -170,8 +171,8 @@ fn migrate_page<S: Alter>(
     Ok(())
 }
 
-/// All records, of which there are `count`, in format Two, within the transaction. Fails with `Damaged(p)` for the
-/// first place that has no record in format One.
+/// Rewrites all `count` records in format Two, within the transaction. Fails with `Damaged(p)` for the first place that
+/// has no record in format One.
 fn migrate_records<S: Alter, W: Watch>(
     tx: &mut Transaction<'_, S>,
     alloc: Global,
@@ -209,7 +210,7 @@ fn migrate_records<S: Alter, W: Watch>(
     Ok(())
 }
 
-/// All records and the owner's row in format Two, within the transaction.
+/// Rewrites all records and the owner's row in format Two, within the transaction.
 fn migrate_inside<S: Alter, W: Watch>(
     tx: &mut Transaction<'_, S>,
     alloc: Global,
@@ -243,11 +244,11 @@ fn migrate_inside<S: Alter, W: Watch>(
     }
 }
 
-/// Makes a store of format One, which has `count` places, one of format Two with the same inputs, in one transaction.
+/// Migrates a store of format One, which has `count` places, to format Two with the same inputs, in one transaction.
 ///
 /// Fails with `Damaged(p)` for the first place that has no record in format One, and with `Device`, `Full` or
 /// `NoMemory` at any call of the database. After `Damaged` the store has format One with its records as they were;
-/// after the others it has, or is migrated.
+/// after the other faults it has, or it is migrated.
 pub fn migrate<S: Alter, W: Watch>(
     conn: &mut Connection<S>,
     alloc: Global,

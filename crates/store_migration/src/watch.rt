@@ -1,12 +1,13 @@
-//! Who is told how far a migration has come.
+//! Watches for the progress of a migration.
 
-/// What is told of a store while it is migrated. It changes nothing of what comes of it.
+/// A watch that gets reports while a store is migrated. It has no effect on the result.
 pub trait Watch {
-    /// `records` of the store's `count` records were rewritten: called after every 256 records, and after the last one.
+    /// `records` of the store's `count` records have been rewritten. Called after every 256 records, and after the last
+    /// one.
     fn migrated(&mut self, records: u64, count: u64);
 }
 
-/// Nobody, who is told nothing.
+/// A watch that ignores all reports.
 #[derive(Clone, Copy, Debug)]
 pub struct Nobody;
 

@@ -1,4 +1,4 @@
--- The query of a stretch of places shows the entries of that stretch, in the order of their places.
+-- The query for a stretch of places returns the entries of that stretch, in the order of their places.
 use Rattle.std.proofs.Common.{◌≡◌, ℕ, suc, ◌+◌, ◌≤◌, ◌<◌, inl, inr, pos, Bool, true, false, cond, List, [], ◌∷◌, ◌++◌, map, flat_map, filter, get_or, refl, sym, ap, subst, subst₂, ◌∙◌, arith}
 use Rattle.std.specs.Prelude.{nat_le, ◌&&◌}
 use Rattle.std.specs.declared.cmp.Ordering.{Ordering}
@@ -109,7 +109,7 @@ filtered first last from (row ∷ rows) h =
 
 -- ---- ORDER BY
 
--- what a row is sorted by and shown as: in whichever tree the entries are
+-- the key by which a row is sorted, and the result that it gives, for either tree of the entries
 abbrev out : Row → Output
 out row = (column row 0 ∷ [], shown row)
 
@@ -132,7 +132,7 @@ rise first last from (row ∷ rows) h = go (is_within first last row) (rise firs
     go true rest = (h.0, rest)
     go false rest = weaker from (place_of row + 1) (map out (filter (is_within first last) rows)) (let a = h.0 in omega (arith, a)) rest
 
--- what is sorted by is a place
+-- the key of the sort is a place
 abbrev HasPlace : Output → Type 0
 HasPlace o = column o.0 0 ≡ Int (pos (key o))
 
@@ -163,7 +163,7 @@ sorted-tail x xs up = λ k d low lt.
     subst (λ n. is_lt (output_cmp (page_query 1) (get_or (x ∷ xs) n d) (get_or (x ∷ xs) (suc k) d)) ≡ false) f
     (subst (λ m. is_lt (output_cmp (page_query 1) (get_or (x ∷ xs) (k + 1 + 1) d) (get_or (x ∷ xs) m d)) ≡ false) e (up (k + 1) d (omega arith) (omega (arith, lt))))
 
--- in the order of a sort, keys never fall
+-- in the order of a sort, keys never decrease
 never : (low : ℕ) (x : Output) (xs : List Output) → AllByRecursion HasPlace (x ∷ xs) → IsSorted (output_cmp (page_query 1)) (x ∷ xs) → low ≤ key x → NeverFall key low (x ∷ xs)
 never low x [] at up least = (least, tt)
 never low x (y ∷ ys) at up least =
@@ -173,7 +173,7 @@ never-any : (xs : List Output) → AllByRecursion HasPlace xs → IsSorted (outp
 never-any [] at up = tt
 never-any (x ∷ xs) at up = never 0 x xs at up (omega arith)
 
--- ---- the answer
+-- ---- the result
 
 all-is : {X : Type 0} (P : X → Type 0) (xs : List X) → AllByRecursion P xs → (x : X) → In x xs → P x
 all-is P [] h x i = absurd i

@@ -1,4 +1,4 @@
--- What an INSERT of the next record does to a store.
+-- The effect of an INSERT of the next record on a store.
 use Rattle.std.proofs.Common.{◌≡◌, ◌⊎◌, inl, inr, ℕ, pos, List, [], ◌∷◌, ◌++◌, length, Bool, true, false, cond, None, Option, Ok, Err, Result, refl, sym, ap, subst, ◌∙◌, arith}
 use Rattle.sqlite.specs.declared.types.Value.{Value}
 use Rattle.sqlite.specs.declared.types.Value.TheVariants.{Null, Int}
@@ -43,7 +43,7 @@ went (inr on) = on
 pub same_value : {B E : Type 0} {a b : B} → ◌≡◌ {A = Result B E} (Ok a) (Ok b) → a ≡ b
 same_value e = cc
 
--- one row more in the tree of entries, and the other tree as it was
+-- the tree of entries has one more row, and the other tree is as it was
 pub record HasRowPut (order : TableOrder) (row : Row) (db after : Database) : Type 0 where
   pub schema : after.schema ≡ store_schema order
   pub entries : after.trees (entries_tree order) ≡ put_row row (db.trees (entries_tree order))

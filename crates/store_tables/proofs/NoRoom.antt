@@ -26,7 +26,7 @@ no-memory e = cc (e)
 no-device : Device ≡ Full → ⊥
 no-device e = cc (e)
 
--- an error that tells another fault
+-- an error that gives another fault
 other : (e f : Error) (fault : StoreFault) → e ≡ f → store_fault_of f ≡ fault → (fault ≡ Full → ⊥) → store_fault_of e ≡ Full → ⊥
 other e f fault is tells never full = never (sym tells ∙ ap store_fault_of (sym is) ∙ full)
 

@@ -13,7 +13,7 @@ use Rattle.wire.specs.Records.{number_of}
 use Rattle.store_tables.specs.Held.{slots_in, node_in, IsStoreIn}
 use Rattle.store_tables.specs.Rows.{IsEntry, HoldsRows}
 
--- how many columns the first table has
+-- the number of columns of the first table
 abbrev first_columns : List Table → ℕ
 first_columns [] = 0
 first_columns (table ∷ tables) = length table.columns
@@ -52,7 +52,7 @@ of_entries : (from : ℕ) (rows : List Row) → AreEntries from rows → order_o
 of_entries from [] are = refl
 of_entries from (row ∷ rows) are = ap (λ (r : Row). order_of (r ∷ rows)) are.1
 
--- rows that the tables of an order hold tell that order
+-- rows that the tables of an order hold determine that order
 pub told_order : (order : TableOrder) (format : ℕ) (node : List ℕ) (from : ℕ) (db : Trees) → db (about_tree order) ≡ about format node ∷ [] → AreEntries from (db (entries_tree order)) → order_in db ≡ order
 told_order AboutFirst format node from db owner entries = of_entries from (db 1) entries
 told_order EntriesFirst format node from db owner entries = ap order_of owner
@@ -64,7 +64,7 @@ no_entry row (first ∷ rows) format node are is =
     let three : length first ≡ 3 = ap length are.0.2 in
     omega (arith, four, three)
 
--- the order that a store's rows tell is that of its tables
+-- the order that a store's rows determine is that of its tables
 pub found_order : (format : RecordFormat) (order : TableOrder) (db : Trees) → HoldsRows order db → IsStoreIn format db → order_in db ≡ order
 found_order format AboutFirst db holds store = of_records (db 1) holds.entries
 found_order format EntriesFirst db holds store = elim (holds.owner) [

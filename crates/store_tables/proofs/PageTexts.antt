@@ -1,4 +1,4 @@
--- What the text of a page's query means under the schema of a store, whichever of its tables was made first.
+-- The meaning of the text of a page's query under the schema of a store, whichever of its tables was made first.
 use Rattle.std.proofs.Common.{◌≡◌, ℕ, pos, negsuc, None, List, [], ◌∷◌, codes, false, refl}
 use Rattle.sqlite.specs.declared.types.Value.TheVariants.{Int}
 use Rattle.sqlite.specs.Collation.TheVariants.{Binary}
@@ -16,7 +16,7 @@ use Rattle.store_tables.specs.Tables.{TableOrder, AboutFirst, EntriesFirst, entr
 abbrev pub page_text : List ℕ
 page_text = codes "SELECT place, body FROM entries WHERE place >= ?1 AND place <= ?2 ORDER BY place"
 
--- of the entries in that tree
+-- the query for the entries in that tree
 abbrev pub page_query : ℕ → Query
 page_query tree = record {
   from = inner tree end;

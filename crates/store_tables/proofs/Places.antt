@@ -1,4 +1,4 @@
--- A row put after rows of entries.
+-- A row that is inserted after rows of entries.
 use Rattle.std.proofs.Common.{◌≡◌, ℕ, ◌+◌, ◌-◌, ◌≤◌, ◌<◌, pos, List, [], ◌∷◌, ◌++◌, length, Some, refl, sym, ap, subst, ◌∙◌, arith, append_assoc}
 use Rattle.std.specs.Prelude.{Option, zero, suc}
 use Rattle.std.specs.declared.cmp.Ordering.TheVariants.{Less}
@@ -12,7 +12,7 @@ use Rattle.sqlite.specs.Tree.{put_row}
 use Rattle.store_tables.specs.Tables.{entry}
 use Rattle.store_tables.specs.Slots.{place_of, body_of, missing, slots_from, AreEntries}
 
--- a place below another is less as a value
+-- a smaller place is also less as a value
 pub before : (m n : ℕ) → m < n → value_cmp (Int (pos m)) (Int (pos n)) ≡ Less
 before m n lt = value_cmp-Int (pos m) (pos n) ∙ sym (int_cmp_is (pos m) (pos n) Less (omega (arith, ints)))
 
@@ -23,7 +23,7 @@ length-missing (suc n) = ap suc (length-missing n)
 none-missing : (m n : ℕ) → m ≤ n → n ≤ m → missing (m - n) ≡ []
 none-missing m n up down = let same : m - n ≡ 0 = omega arith in ap missing same
 
--- how many places there are up to the last row's
+-- the number of places up to that of the last row
 pub length-slots : (from : ℕ) (row : Row) (rows : List Row) → length (slots_from from (row ∷ rows)) ≡ (place_of row - from) + (1 + length (slots_from (place_of row + 1) rows))
 length-slots from row rows =
     let a = length-append (missing (place_of row - from)) (Some (body_of row) ∷ slots_from (place_of row + 1) rows) in

@@ -1,4 +1,4 @@
--- The bodies that were read are those of the places that were asked for.
+-- The bodies that were read are those of the requested places.
 use Rattle.std.proofs.Common.{◌≡◌, ◌≤◌, ◌<◌, ◌+◌, ◌-◌, ℕ, zero, suc, Bor, List, [], ◌∷◌, Some, None, map, take, drop, get_or, length, refl, sym, ap, ap₂, ◌∙◌, arith}
 use Rattle.std.proofs.lemmas.List.{length-take-le, length-drop}
 use Rattle.sqlite.specs.Order.{Row}

@@ -1,4 +1,4 @@
--- What a query of a stretch of places leaves of a connection to a store.
+-- The state of a connection to a store after a query for a stretch of places.
 use Rattle.std.proofs.Common.{◌≡◌, inl, inr, ℕ, List, sym, subst}
 use Rattle.sqlite.specs.Order.{Row}
 use Rattle.sqlite.specs.Tree.{Trees}
@@ -36,7 +36,7 @@ query-crash old new first last ready only survives clean db left = elim (survive
   | inr commits ↦ absurd (never_commits page_text (between first last) old db (is-plain old ready) commits)
 ]
 
--- the same within a transaction, of what it sees
+-- the same within a transaction, for the database that it sees
 pub query-inside : {format : RecordFormat} (old new : State) (first last : ℕ) (rows : List Row) → IsWithin old (HasStore format) → Shown page_text (between first last) old new rows
     → (rows ≡ rows_within first last (entry_rows old.now.trees)) × IsUnchanged old new
 query-inside old new first last rows within h =

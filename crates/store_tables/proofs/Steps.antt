@@ -1,4 +1,4 @@
--- What a statement leaves of a connection to a store.
+-- The state of a connection to a store after a statement.
 use Rattle.std.proofs.Common.{◌≡◌, ◌⊎◌, inl, inr, ℕ, List, [], ◌∷◌, ◌++◌, length, false, None, Some, Option, Ok, Err, IsTrue, refl, sym, ap, subst, ◌∙◌, append_assoc, map, Result, arith}
 use Rattle.std.proofs.lemmas.Bool.{cases_Bool}
 use Rattle.sqlite.specs.Order.{Row}
@@ -21,7 +21,7 @@ use Rattle.store_tables.specs.Held.{slots_in, IsReadyIn, IsReady, IsInside, HasM
 use Rattle.store_tables.proofs.Texts.{insert_text, insert_terms, insert_is, insert_plain}
 use Rattle.store_tables.proofs.Inserting.{given, inserted}
 
--- a statement that gave an error left the connection as it was, or rolled it back
+-- a statement that failed left the connection as it was, or rolled it back
 pub left : (sql : List ℕ) (params : Row) (old new : State) (e : Error) → Executes sql params old new (Err e) → IsUnchanged old new ⊎ IsRolledBack old new
 unfolding ExecutesIn IsNotRun
 left sql params old new e (inl (inl none)) = inl none.1
@@ -97,7 +97,7 @@ left_shown old new sql c params e None h = inl h.3
 left_shown old new sql c params e (Some what) (inl refused) = inl refused.1
 left_shown old new sql c params e (Some what) (inr fails) = inr fails.3
 
--- a query that gave an error left the connection as it was, or rolled it back
+-- a query that failed left the connection as it was, or rolled it back
 pub left_by_query : (sql : List ℕ) (params : Row) (old new : State) (e : Error) → FailsToQuery sql params old new e → IsUnchanged old new ⊎ IsRolledBack old new
 unfolding FailsToQuery IsNotRun
 left_by_query sql params old new e (inl (inl none)) = inl none.1

@@ -1,4 +1,4 @@
--- The bodies of a stretch of places, by the rows that are there and by the slots.
+-- The bodies of a stretch of places, from the rows that are there and from the slots.
 use Rattle.std.proofs.Common.{◌≡◌, ℕ, zero, suc, ◌+◌, ◌-◌, ◌≤◌, ◌<◌, inl, inr, true, false, List, [], ◌∷◌, ◌++◌, Option, Some, map, filter, take, drop, refl, sym, ap, subst, ◌∙◌, arith}
 use Rattle.std.specs.Prelude.{nat_le, ◌==◌}
 use Rattle.std.proofs.lemmas.Bool.{cond-true, cond-false, cases_Bool, cases_lt, le-leb, leb-true, and_from, and_left, and_right, eq-eqb, eqb-true}
@@ -28,7 +28,7 @@ take-row first last row rows y = ap (map shown) (cond-true (is_within first last
 pass-row : (first last : ℕ) (row : Row) (rows : List Row) → is_within first last row ≡ false → rows_within first last (row ∷ rows) ≡ rows_within first last rows
 pass-row first last row rows n = ap (map shown) (cond-false (is_within first last row) (row ∷ filter (is_within first last) rows) (filter (is_within first last) rows) n)
 
--- rows after the last place are none of it
+-- rows after the last place are not in the stretch
 none-behind : (first last at : ℕ) (rows : List Row) → AreEntries at rows → last < at → rows_within first last rows ≡ []
 none-behind first last at [] h low = refl
 none-behind first last at (row ∷ rows) h low =
@@ -117,7 +117,7 @@ no-rows first last n = go (last + 1 - first) n
     go (suc k) zero = refl
     go (suc k) (suc n) = refl
 
--- from a first place on, whatever stands before
+-- from a first place on, regardless of the places before it
 pub stretch : (first last from : ℕ) (rows : List Row) → from ≤ first → AreEntries from rows
     → bodies_from first (rows_within first last rows) ≡ unbroken (take (last + 1 - first) (drop (first - from) (slots_from from rows)))
 stretch first last from [] low h = no-rows first last (first - from)

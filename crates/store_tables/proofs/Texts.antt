@@ -1,4 +1,4 @@
--- What the texts of statements mean under the schema of a store, whichever of its tables was made first.
+-- The meaning of the texts of statements under the schema of a store, whichever of its tables was made first.
 use Rattle.std.proofs.Common.{◌≡◌, ℕ, List, [], ◌∷◌, codes, Ok, refl}
 use Rattle.sqlite.specs.declared.types.Value.TheVariants.{Null}
 use Rattle.sqlite.specs.Compile.{table_defined_by}

@@ -2,6 +2,6 @@
 use Rattle.wire.specs.declared.record_format.RecordFormat.{RecordFormat}
 use Rattle.wire.specs.declared.record_format.RecordFormat.TheVariants.{Two}
 
--- the format in which a store is made, and which it has while it runs
+-- the format in which stores are made, and which each store has while it runs
 abbrev pub newest : RecordFormat
 newest = Two

@@ -1,4 +1,4 @@
--- What a connection to a store holds.
+-- The content of a connection to a store.
 use Rattle.std.specs.Prelude.{◌≡◌, ◌⊎◌, false, [], ◌∷◌, ◌++◌, List, ℕ, map, slice_index_or, IsTrue, Option, Some}
 use Rattle.sqlite.specs.Order.{column, bytes}
 use Rattle.sqlite.specs.Tree.{Trees}
@@ -13,11 +13,11 @@ use Rattle.store_tables.specs.Slots.{slots_from, AreEntries}
 abbrev pub slots_in : Trees → List (Option (List ℕ))
 slots_in db = slots_from 0 (entry_rows db)
 
--- the node of the row of about
+-- the node of the row of `about`
 abbrev pub node_in : Trees → List ℕ
 node_in db = bytes (column (slice_index_or (about_rows db) 0 []) 3)
 
--- one row of about, of that format, and entries
+-- one row of `about`, of that format, and entries
 pub record IsStoreIn (format : RecordFormat) (db : Trees) : Type 0 where
   pub owner : about_rows db ≡ about (number_of format) (node_in db) ∷ []
   pub entries : AreEntries 0 (entry_rows db)
@@ -38,11 +38,11 @@ pub record IsReadyIn (format : RecordFormat) (s : State) : Type 0 where
 abbrev pub IsReady : State → Type 0
 IsReady s = IsReadyIn newest s
 
--- the bodies stand after what was there
+-- the bodies stand after the earlier ones
 abbrev pub followed_by : List (Option (List ℕ)) → List (List ℕ) → List (Option (List ℕ))
 followed_by slots bodies = slots ++ map (λ body. Some body) bodies
 
--- a store of the same node, with the whole batch after what was there
+-- a store of the same node, with the whole batch after its earlier records
 pub record HasMore (old : Trees) (batch : List (List ℕ)) (new : Trees) : Type 0 where
   pub store : IsStore new
   pub node : node_in new ≡ node_in old

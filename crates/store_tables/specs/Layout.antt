@@ -1,4 +1,4 @@
--- What the tables of a database are compared with, part by part.
+-- The comparison of a database's tables with those of a store, part by part.
 use Rattle.std.specs.Prelude.{◌≡◌, ℕ, List, pos, slice_index_or}
 use Rattle.sqlite.specs.declared.types.Value.TheVariants.{Null, Int}
 use Rattle.sqlite_sql.specs.declared.ops.BinaryOp.{BinaryOp}

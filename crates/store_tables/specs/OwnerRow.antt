@@ -1,4 +1,4 @@
--- What the first row that a query returns says.
+-- The values in the first row that a query returns.
 use Rattle.std.specs.Prelude.{◌≡◌, ℕ, ℤ, pos, List, [], slice_get, Option, Some, None}
 use Rattle.sqlite.specs.declared.types.Value.TheVariants.{Int, Text as Words}
 use Rattle.sqlite.specs.Order.{Row, column}
@@ -11,7 +11,7 @@ use Rattle.store_tables.specs.declared.owner_row.FileOwner.TheVariants.{Nobody, 
 abbrev pub HasFormat : RecordFormat → Row → Type 0
 HasFormat format row = column row 0 ≡ Int (pos (number_of format))
 
--- whose a file is, by its format and its node
+-- the owner of a file, by its format and its node
 abbrev pub IsOwnerIn : List ℕ → List Row → FileOwner → Type 0
 IsOwnerIn node rows Nobody = rows ≡ []
 IsOwnerIn node rows OtherFormat = (row : Row) × (slice_get rows 0 ≡ Some row) × ((format : RecordFormat) → HasFormat format row → ⊥)

@@ -17,7 +17,7 @@ use Rattle.store_tables.specs.Held.{IsStore, slots_in}
 use Rattle.stores.specs.Records.{Places, written}
 use Rattle.store_tables.specs.Tables.{store_schema, order_in}
 
--- the statement that puts a record
+-- the statement that inserts a record
 abbrev pub insert_text : List ℕ
 insert_text = codes "INSERT INTO entries (place, body) VALUES (?1, ?2)"
 
@@ -28,7 +28,7 @@ given place body = Int (pos place) ∷ Text body ∷ []
 abbrev pub enforced : Mode
 enforced = record { keys = Enforced; in_doubt = false; may_wait = false }
 
--- SQLite itself refuses to put a record with this body into some store, at the first place after the others
+-- SQLite itself refuses to insert a record with this body into some store, at the first place after the others
 pub record IsRefused (body : List ℕ) : Type 0 where
   pub db : Database
   pub schema : db.schema ≡ store_schema (order_in db.trees)

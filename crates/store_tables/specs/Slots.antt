@@ -1,4 +1,4 @@
--- What a list of stored rows says of each place: a body, or that it is missing.
+-- The places of a list of stored rows: each has a body, or is missing.
 use Rattle.std.specs.Prelude.{◌≡◌, ◌≤◌, ◌+◌, ◌-◌, ℕ, zero, suc, pos, List, [], ◌∷◌, ◌++◌, Option, Some, None}
 use Rattle.sqlite.specs.declared.types.Value.{Value}
 use Rattle.sqlite.specs.declared.types.Value.TheVariants.{Int}
@@ -15,7 +15,7 @@ place_of row = whole_number (column row 0)
 abbrev pub body_of : Row → List ℕ
 body_of row = bytes (column row 2)
 
--- that many places without a body
+-- that number of places without a body
 abbrev pub missing : ℕ → List (Option (List ℕ))
 missing zero = []
 missing (suc n) = None ∷ missing n

@@ -1,4 +1,4 @@
--- What a transaction sees.
+-- The database that a transaction sees.
 use Rattle.std.specs.Prelude.{◌≡◌, IsTrue}
 use Rattle.sqlite.specs.Effect.{Database}
 use Rattle.sqlite.specs.State.{State}
@@ -6,7 +6,7 @@ use Rattle.wire.specs.declared.record_format.RecordFormat.{RecordFormat}
 use Rattle.store_tables.specs.Tables.{store_schema, order_in}
 use Rattle.store_tables.specs.Held.{IsStoreIn}
 
--- a transaction is open, and sees this
+-- a transaction is open, and `Holds` holds for the database that it sees
 pub record IsWithin (s : State) (Holds : Database → Type 0) : Type 0 where
   pub is_open : IsTrue s.is_open
   pub inside : IsTrue s.in_transaction

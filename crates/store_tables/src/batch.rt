@@ -15,7 +15,7 @@ use sqlite::types::ValueRef;
 use sqlite::{Alter, Connection, Error as SqlError, Transaction};
 use stores::StoreFault;
 
-/// One more body, at the place after the last one, within the transaction.
+/// Inserts one more body, at the place after the last one, within the transaction.
 fn put<S: Alter>(tx: &mut Transaction<'_, S>, place: u64, body: &[u8]) -> Result<(), SqlError>
     requires small { place < 2 ^ 63 }
     requires inside { HasCleanDisk (state S.Store tx.old.conn.now) → IsInside (state S.Store tx.old.conn.now) }
@@ -42,7 +42,7 @@ fn put<S: Alter>(tx: &mut Transaction<'_, S>, place: u64, body: &[u8]) -> Result
     Ok(())
 }
 
-/// The bodies of a batch in their order, within the transaction.
+/// Inserts the bodies of a batch in their order, within the transaction.
 fn put_all<S: Alter>(
     tx: &mut Transaction<'_, S>,
     place: u64,
@@ -73,7 +73,7 @@ fn put_all<S: Alter>(
     Ok(())
 }
 
-/// The whole batch in one transaction.
+/// Appends the whole batch in one transaction.
 fn append_all<S: Alter>(
     conn: &mut Connection<S>,
     place: u64,
@@ -104,7 +104,7 @@ fn append_all<S: Alter>(
     tx.commit()
 }
 
-/// Whether the connection is open, tried by a statement that changes nothing.
+/// Whether the connection is open. It tries a statement that changes nothing.
 pub fn is_still_open<S: Alter>(conn: &mut Connection<S>) -> bool
     ensures idle { conn.old.in_transaction ≡ false → conn.new.in_transaction ≡ false }
     ensures same { HasCleanDisk (state S.Store conn.new) → IsTrue result
@@ -117,7 +117,7 @@ pub fn is_still_open<S: Alter>(conn: &mut Connection<S>) -> bool
 /// Appends the whole batch at `place`, the first place after the content, in one transaction.
 ///
 /// After `Device` and `Full` the batch may be there as a whole or not at all, and the connection may be shut. After
-/// `NoMemory` it is not there, and the connection is as it was.
+/// `NoMemory` nothing of the batch is there, and the connection is as it was.
 pub fn append<S: Alter>(
     conn: &mut Connection<S>,
     place: u64,

@@ -17,7 +17,7 @@ use sqlite_value::keys::Collation;
 pub enum Tables {
     /// No table at all.
     None,
-    /// The two of a store, made in either order, and no index or view.
+    /// The two tables of a store, made in either order, and no index or view.
     Store,
     Foreign,
 }
@@ -70,7 +70,8 @@ fn is_free(table: &Table) -> bool
         && !table.is_counted
 }
 
-/// Whether it is the table of that name and tree with no other key and no reference, whatever its columns and checks.
+/// Whether it is the table of that name and tree with no other key and no reference, regardless of its columns and
+/// checks.
 fn is_plain_table(table: &Table, name: &[u8], tree: u32) -> bool
     ensures { IsTrue result ↔ (table.now ≡ plain_table name.now tree table.now.columns table.now.checks) }
 {
@@ -140,7 +141,7 @@ fn is_equality(op: &BinaryOp) -> bool
     matches!(op, BinaryOp::Compare(CompareOp::Eq, Collation::Binary))
 }
 
-/// Whether the comparison is that of the first column with 1.
+/// Whether the comparison is between the first column and 1.
 fn compares_id(ops: &[Op], op: &BinaryOp, left: usize, right: usize) -> bool
     ensures { IsTrue result ↔ IsFirst ops.now op.now left right }
 {
@@ -202,7 +203,7 @@ fn has_tables_alone(schema: &Schema) -> bool
     schema.indexes.is_empty() && schema.views.is_empty()
 }
 
-/// Which tables the schema has.
+/// The tables that the schema has.
 pub fn tables_of(schema: &Schema) -> Tables
     ensures { AreTables schema.now result }
 {

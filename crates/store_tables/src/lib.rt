@@ -1,5 +1,6 @@
-//! The two tables of a node's store in a database of SQLite, `entries` with its records and `about` with its owner and
-//! their format: how they look, what stands in them, and the statements on them, one a function, over any connection.
+//! The two tables of a node's store in a database of SQLite: `entries` with its records, and `about` with its owner and
+//! their format. The crate has their layout, their content, and the statements on them, one function for each, over any
+//! connection.
 #![tactic(auto)]
 
 mod batch;

@@ -1,4 +1,4 @@
-//! What the rows that a query returns say.
+//! The values in the rows that a query returns.
 ghost use Rattle.std.specs.Prelude.{◌≡◌, ◌⊎◌, ◌↔◌, IfOk, IfErr, IfSome, IfNone, IsTrue};
 ghost use Rattle.sqlite.specs.Order.{column};
 ghost use Rattle.sqlite.specs.declared.types.Value.TheVariants.{Text as Words};
@@ -12,14 +12,14 @@ use sqlite::types::ValueRef;
 use stores::StoreFault;
 use wire::RecordFormat;
 
-/// Whose the file is, where one node asks.
+/// The owner of the file, as seen by one node.
 #[derive(Clone, Copy)]
 pub enum FileOwner {
-    /// There is no owner's row.
+    /// There is no row of an owner.
     Nobody,
-    /// The format is none of a store.
+    /// The format is not one of a store.
     OtherFormat,
-    /// The format is one of a store, and the node another.
+    /// The format is one of a store, and the node is another one.
     OtherNode,
     /// It is a store of this node in that format.
     ThisNode(RecordFormat),
@@ -59,7 +59,7 @@ fn has_node(row: &Row, node: &str) -> bool
     }
 }
 
-/// Whose the file is, by the format and the node in the owner's row.
+/// The owner of the file, by the format and the node in the owner's row.
 pub fn owner_in(rows: &[Row], node: &str) -> FileOwner
     ensures { IsOwnerIn node.now rows.now result }
 {
@@ -76,7 +76,7 @@ pub fn owner_in(rows: &[Row], node: &str) -> FileOwner
     }
 }
 
-/// The place in the first row.
+/// The place in the first row, if there is a row.
 pub fn place_in(rows: &[Row]) -> Result<Option<i64>, StoreFault>
     ensures place { IfOk result (IsPlaceIn rows.now) }
     ensures named { IfErr result (λ e. (e ≡ StoreFault.NoMemory) ⊎ IsTrue (is_device_fault e)) }

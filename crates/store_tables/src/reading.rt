@@ -113,8 +113,8 @@ pub fn rows_inside<S: Alter>(
     )
 }
 
-/// The body of a row, where the row is at that place: `None` where it is at another. Fails with `Device` where the
-/// row has no place or no body, which takes no memory to tell.
+/// The body of a row that is at that place, or `None` where it is at another. Fails with `Device` where the row has no
+/// place or no body; this needs no memory.
 fn body_at(row: &Row, place: u64) -> Result<Option<&[u8]>, StoreFault>
     ensures ok { IfOk result (λ body. option_copied body ≡ cond (place_of row.now == place) (Some (bytes
         (column row.now 1))) None) }
@@ -133,8 +133,8 @@ fn body_at(row: &Row, place: u64) -> Result<Option<&[u8]>, StoreFault>
     }
 }
 
-/// The bodies of the rows, up to the first row that isn't at the place that is next. Fails with `Device` where a row
-/// has no place or no body, and with `NoMemory` where there is no room for the bodies.
+/// The bodies of the rows, up to the first row that isn't at the next place. Fails with `Device` where a row has no
+/// place or no body, and with `NoMemory` where there is no room for the bodies.
 pub fn bodies<'a>(alloc: Global, rows: &'a [Row], first: u64) -> Result<Vec<&'a [u8]>, StoreFault>
     requires first { first < 2 ^ 63 }
     ensures ok { IfOk result (λ all. map (λ body. body.now) all.items ≡ bodies_from first rows.now) }

@@ -26,7 +26,7 @@ pub written-append : (inputs others : List Input) → AreRecords (written inputs
 written-append inputs others are behind =
     subst (λ places. AreRecords places (inputs ++ others)) (sym (map-append (λ input. Some (record_text input)) inputs others)) (records-append Two (written inputs) inputs (written others) others are behind)
 
--- as many records as places
+-- there are as many places as records
 pub records-length : (format : RecordFormat) (places : Places) (inputs : List Input) → AreRecordsIn format places inputs → length places ≡ length inputs
 records-length format [] [] are = refl
 records-length format [] (i ∷ inputs) are = absurd are
@@ -34,7 +34,7 @@ records-length format (None ∷ places) inputs are = absurd are
 records-length format (Some t ∷ places) [] are = absurd are
 records-length format (Some t ∷ places) (i ∷ inputs) are = ap suc (records-length format places inputs are.1)
 
--- that many records, and then a place that has none
+-- that number of records, and then a place that has none
 pub damaged-place : (format : RecordFormat) (p : ℕ) (places : Places) (inputs : List Input) (place : Option (List ℕ)) (rest : Places) → AreRecordsIn format (take p places) inputs → drop p places ≡ place ∷ rest
     → HasNoRecordIn format place → IsDamagedIn format p places
 damaged-place format zero [] inputs place rest are e not = absurd cc
@@ -61,7 +61,7 @@ records-drop format (suc n) (None ∷ places) inputs are = absurd are
 records-drop format (suc n) (Some t ∷ places) [] are = absurd are
 records-drop format (suc n) (Some t ∷ places) (i ∷ inputs) are = records-drop format n places inputs are.1
 
--- as many bodies as places: no place is missing
+-- there are as many bodies as places: no place is missing
 pub whole-front : (places : Places) (bodies : List (List ℕ)) → unbroken places ≡ bodies → length bodies ≡ length places → places ≡ map (λ b. Some b) bodies
 whole-front [] bodies e n = ap (map (λ b. Some b)) e
 whole-front (None ∷ places) bodies e n = let none : 0 ≡ length bodies = ap length e in absurd (omega (arith, none, n))
@@ -72,7 +72,7 @@ whole-front (Some text ∷ places) (body ∷ bodies) e n =
     let more = whole-front places bodies rest (omega (arith, n)) in
     cc (same, more)
 
--- that many records, and then a body that is no record's
+-- that number of records, and then a body that is no record's
 pub damaged-body : {format : RecordFormat} (places : Places) (front : List (List ℕ)) (inputs : List Input) (body : List ℕ) (rest : List (List ℕ)) → AreRecordsIn format (map (λ b. Some b) front) inputs
     → HasNoRecordIn format (Some body) → unbroken places ≡ front ++ body ∷ rest → IsDamagedIn format (length front) places
 damaged-body [] [] inputs body rest are not e = absurd cc
@@ -86,7 +86,7 @@ damaged-body {format} (Some text ∷ places) (b ∷ front) (i ∷ inputs) body r
     let more : unbroken places ≡ front ++ body ∷ rest = cc (e) in
     ((i, subst (λ t. IsRecordText format t i) same are.0), damaged-body places front inputs body rest are.1 not more)
 
--- that many records, and then a place that is missing
+-- that number of records, and then a place that is missing
 pub damaged-gap : (format : RecordFormat) (places : Places) (front : List (List ℕ)) (inputs : List Input) → AreRecordsIn format (map (λ b. Some b) front) inputs → unbroken places ≡ front → length front < length places
     → IsDamagedIn format (length front) places
 damaged-gap format [] front inputs are e n = absurd (omega (arith, n))

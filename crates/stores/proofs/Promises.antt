@@ -1,4 +1,4 @@
--- What a user of a store relies on, from what its calls may leave.
+-- What a user of a store relies on, from the states that its calls may leave.
 use Rattle.std.proofs.Common.{◌≡◌, ℕ, Bool, true, false, List, Vec, Global, Result, Ok, Err, refl, sym, ◌∙◌, ap}
 use Rattle.std.proofs.Math.Logic.{∥∥₁_map}
 use Rattle.wire.specs.declared.input.Input.{Input}
@@ -12,7 +12,7 @@ module _ {S : Type 0} (is_honest : S → Type 0) (content : S → Places) (may_h
   whole old stopped new batch fault runs appended reopened honest =
       ∥∥₁_map (reopened.settles honest) (λ held. appended.crash (reopened.honest honest) runs (content new) held)
 
-  -- whether it waited before
+  -- with a store that may have had to be reopened before
   loaded_from : (old new : S) (first : ℕ) (places : Places) (result : Result (Vec Input Global) StoreFault) (waits : Bool) → must_reopen old ≡ waits
       → Loads is_honest content may_hold must_reopen old new first places result → IsSettled is_honest content may_hold must_reopen new
   loaded_from old new first places result true was loads = λ honest runs next held.

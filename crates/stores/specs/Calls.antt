@@ -1,5 +1,5 @@
--- What a call of a store may return, and what it may leave, whatever the store is made of: by what is known of a
--- store at one moment.
+-- What a call of a store may return, and the state that it may leave, regardless of the kind of store, from the ghost
+-- fields of a store at one moment.
 use Rattle.std.specs.Prelude.{◌≡◌, ◌≢◌, ◌⊎◌, ◌++◌, ◌-◌, ◌≤◌, ℕ, Bool, false, List, [], Vec, Result, Ok, Err, IfOk, IfErr, OnOk, OnErr, IsTrue}
 use Rattle.std.specs.declared.alloc.Global.{Global}
 use Rattle.wire.specs.declared.input.Input.{Input}
@@ -8,8 +8,8 @@ use Rattle.stores.specs.Records.{Places, AreRecords, IsDamagedAt, IsAllOrNone, w
 use Rattle.stores.specs.declared.fault.StoreFault.{StoreFault}
 use Rattle.stores.specs.declared.fault.StoreFault.TheVariants.{Reopen, NoMemory, Damaged}
 
--- the store is honest; what each place has while it runs; what a crash or a reopening may find; a fault stopped it, and
--- it must be reopened first
+-- a store's ghost fields: whether it is honest; the text at each place while it runs; the contents that a crash or a
+-- reopening may find; whether a fault stopped it and it must be reopened first
 module _ {S : Type 0} (is_honest : S → Type 0) (content : S → Places) (may_hold : S → Places → Type 0) (must_reopen : S → Bool) where
   -- a store that runs and is honest holds its content
   abbrev pub IsSettled : S → Type 0
@@ -28,7 +28,7 @@ module _ {S : Type 0} (is_honest : S → Type 0) (content : S → Places) (may_h
     pub crash : is_honest new → must_reopen old ≡ false → (next : Places) → may_hold new next → IsAllOrNone (content old) batch next
     pub settled : IsSettled new
 
-  -- the records of these places were read, of which the first is at that place of the content
+  -- the records of these places were read; the first is at that place of the content
   pub record Loads (old new : S) (first : ℕ) (places : Places) (result : Result (Vec Input Global) StoreFault) : Type 0 where
     pub reopen : IsTrue (must_reopen old) → (result ≡ Err Reopen) × (new ≡ old)
     pub honest : is_honest new → is_honest old
@@ -41,7 +41,7 @@ module _ {S : Type 0} (is_honest : S → Type 0) (content : S → Places) (may_h
     pub crash : is_honest new → must_reopen old ≡ false → (next : Places) → may_hold new next → next ≡ content old
 
   -- the store was opened again: its content is one that it could hold before. A store that was found and refused holds
-  -- what it could hold before
+  -- a content that it could hold before
   pub record Reopens (old new : S) (result : Result Unit StoreFault) : Type 0 where
     pub named : IfErr result (λ e. e ≢ Reopen)
     pub runs : OnOk result (must_reopen new ≡ false)

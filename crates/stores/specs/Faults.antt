@@ -8,14 +8,14 @@ is_device_fault Device = true
 is_device_fault Full = true
 is_device_fault _ = false
 
--- the store was looked at, and is none of this node
+-- the store was examined, and is none of this node
 abbrev pub is_judgement : StoreFault → Bool
 is_judgement (Damaged place) = true
 is_judgement WrongNode = true
 is_judgement WrongVersion = true
 is_judgement _ = false
 
--- a store was found, and is none of this node, has another format, or has a place without a record; at place 0 the fault
+-- a store was found that is another node's, has another format, or has a place without a record; at place 0 the fault
 -- may also be that there is no store
 abbrev pub refuses_a_store : StoreFault → Bool
 refuses_a_store (Damaged place) = not (place == 0)

@@ -7,7 +7,7 @@ use Rattle.stores.specs.declared.memory_store.Kept.TheVariants as kept
 use Rattle.stores.specs.declared.memory_store.Fuse.{Fuse}
 
 pub record MemoryStoreView : Type 0 where
-  -- whose records they are
+  -- the node whose records they are
   pub node : Node
   pub inputs : List Input
   -- a fault stopped it, and it must be reopened first
@@ -15,7 +15,7 @@ pub record MemoryStoreView : Type 0 where
   pub fuse : Option Fuse
   pub faults : ℕ
 
--- the fuse burns at an append of the batch
+-- the fuse burns at an append of this batch
 abbrev pub burns : Option Fuse → List Input → Bool
 burns None batch = false
 burns (Some fuse) [] = false
@@ -27,27 +27,27 @@ after_pass None batch = None
 after_pass (Some fuse) [] = Some fuse
 after_pass (Some fuse) (input ∷ rest) = Some (record { passes = fuse.passes - 1; keeps = fuse.keeps })
 
--- what is kept of the batch at which the fuse burns
+-- the records that are kept of the batch at which the fuse burns
 abbrev pub part_of : Kept → List Input → List Input
 part_of kept.All batch = batch
 part_of kept.None batch = []
 
--- after an append that passed: the batch stands after what was there
+-- the store after an append that passed: the batch stands after the earlier records
 abbrev pub passed : List Input → MemoryStoreView → MemoryStoreView
 passed batch m = record { node = m.node; inputs = m.inputs ++ batch; must_reopen = m.must_reopen; fuse = after_pass m.fuse batch; faults = m.faults }
 
--- after the append at which the fuse burned
+-- the store after the append at which the fuse burned
 abbrev pub burned : Kept → List Input → MemoryStoreView → MemoryStoreView
 burned keeps batch m = record { node = m.node; inputs = m.inputs ++ part_of keeps batch; must_reopen = true; fuse = None; faults = (m.faults + 1) % 2 ^ 64 }
 
--- as it was, but that it must be reopened
+-- the store as it was, except that it must be reopened
 abbrev pub stopped : MemoryStoreView → MemoryStoreView
 stopped m = record { node = m.node; inputs = m.inputs; must_reopen = true; fuse = m.fuse; faults = m.faults }
 
--- as it was, and it need not be reopened
+-- the store as it was, except that it need not be reopened
 abbrev pub reopened : MemoryStoreView → MemoryStoreView
 reopened m = record { node = m.node; inputs = m.inputs; must_reopen = false; fuse = m.fuse; faults = m.faults }
 
--- the fuse was to burn at the batch, and burned
+-- the fuse was to burn at the batch, and it has burned
 abbrev pub HasBurned : List Input → MemoryStoreView → MemoryStoreView → Type 0
 HasBurned batch old new = (keeps : Kept) × (old.fuse ≡ Some (record { passes = 0; keeps = keeps })) × (batch ≢ []) × (new ≡ burned keeps batch old)

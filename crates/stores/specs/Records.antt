@@ -5,7 +5,7 @@ use Rattle.wire.specs.declared.input.Input.{Input}
 use Rattle.wire.specs.declared.record_format.RecordFormat.{RecordFormat}
 use Rattle.wire.specs.declared.record_format.RecordFormat.TheVariants.{Two}
 
--- how many records are read at once at most: a page
+-- the greatest number of records that are read at once: a page
 abbrev pub page_size : ℕ
 page_size = 256
 
@@ -24,13 +24,13 @@ abbrev pub HasNoRecordIn : RecordFormat → Option (List ℕ) → Type 0
 HasNoRecordIn format None = Unit {0}
 HasNoRecordIn format (Some text) = (input : Input) → IsRecordText format text input → ⊥
 
--- that many places have records, and the next one has none
+-- that number of places have records, and the next one has none
 abbrev pub IsDamagedIn : RecordFormat → ℕ → Places → Type 0
 IsDamagedIn format zero (place ∷ places) = HasNoRecordIn format place
 IsDamagedIn format (suc p) (Some text ∷ places) = ((input : Input) × IsRecordText format text input) × IsDamagedIn format p places
 IsDamagedIn format _ _ = ⊥
 
--- the same of a running store, whose records are of format Two
+-- the same for a running store, whose records are of format Two
 abbrev pub AreRecords : Places → List Input → Type 0
 AreRecords places inputs = AreRecordsIn Two places inputs
 

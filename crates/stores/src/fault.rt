@@ -1,4 +1,4 @@
-//! Why a store can't do what it was asked.
+//! Why a store can't do what it is asked.
 ghost use Rattle.std.specs.Prelude.{◌≡◌};
 
 use std::alloc::AllocFailed;
@@ -19,7 +19,7 @@ pub enum StoreFault {
     WrongNode,
     /// The store has another format.
     WrongVersion,
-    /// A fault came before, and the store was not reopened since.
+    /// A fault came before, and the store has not been reopened since.
     Reopen,
     /// Out of memory.
     NoMemory,

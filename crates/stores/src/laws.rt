@@ -18,8 +18,8 @@ pub fn append_is_whole<S: NodeStore>()
         → S.is_honest new → ∥ IsAllOrNone (S.content old) batch (S.content new) ∥₁ }
 {}
 
-/// A crash of a store that runs and is honest leaves its content: so it is after an append, after loading and after a
-/// reopening.
+/// A crash of a store that runs and is honest leaves its content. The same holds after an append, after loading and
+/// after a reopening.
 pub fn running_store_holds_its_content<S: NodeStore>()
     ensures appended { (old new : S) (batch : List Input) (result : Result Unit StoreFault)
         → Appends S.is_honest S.content S.may_hold S.must_reopen old new batch result

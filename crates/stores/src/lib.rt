@@ -1,4 +1,5 @@
-//! Journals that outlive what wrote them: what a node's store does, whatever it is made of, and a store in memory.
+//! Journals that outlive the process that wrote them: the calls of a node's store, for any kind of store, and a store
+//! in memory.
 #![tactic(auto)]
 
 mod fault;

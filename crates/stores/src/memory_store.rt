@@ -13,7 +13,7 @@ use std::marker::Model;
 use units::{NoMemory, Node};
 use wire::Input;
 
-/// What is kept of the batch of an append that fails with `Device`.
+/// The part that is kept of the batch of an append that fails with `Device`.
 #[derive(Clone, Copy, Debug, PartialEq, Eq)]
 pub enum Kept {
     /// The whole batch.
@@ -40,7 +40,7 @@ pub struct MemoryStore {
     alloc: Global,
 }
 
-// Written out, since a derived destructor is proved anew in each crate that lets a value go.
+// Written out, since a derived destructor is proved anew in each crate that drops a value.
 impl Drop for MemoryStore {
     fn drop(self) {
         let MemoryStore {
@@ -81,7 +81,7 @@ fn copies(alloc: Global, inputs: &[Input]) -> Result<Vec<Input>, NoMemory>
     Ok(copies)
 }
 
-/// Puts the batch after the records, if each input of it has a text. After `NoMemory` the records are as they were.
+/// Appends the batch to the records, if each input of it has a text. After `NoMemory` the records are as they were.
 fn grow(alloc: Global, records: &mut Vec<Input>, batch: &[Input]) -> Result<(), NoMemory>
     ensures ok { OnOk result (records.new.items ≡ records.old.items ++ batch.now) }
     ensures records { OnOk result (AreRecords (written batch.now) batch.now) }
@@ -109,9 +109,9 @@ impl MemoryStore {
         }
     }
 
-    /// An empty store that lets `passes` appends of at least one record pass. The next such append fails with
-    /// `Device`, and the whole batch is kept or none of it, as `keeps` says. The fuse burns once: after a reopening
-    /// all appends pass.
+    /// An empty store that lets `passes` appends of at least one record pass. The next such append fails with `Device`,
+    /// and keeps the whole batch or none of it, as `keeps` says. The fuse burns once: after a reopening all appends
+    /// pass.
     pub fn fused(alloc: Global, node: Node, passes: u64, keeps: Kept) -> MemoryStore
         ensures { result ≡ record {
           node = node;
@@ -133,15 +133,15 @@ impl MemoryStore {
         }
     }
 
-    /// Whose records they are.
+    /// The node whose records they are.
     pub fn node(&self) -> Node
         ensures { result ≡ self.now.node }
     {
         self.node
     }
 
-    /// Puts the batch after the records, whatever the fuse. After `NoMemory` the store must be reopened, and all else
-    /// is as it was.
+    /// Appends the batch to the records, without regard to the fuse. After `NoMemory` the store must be reopened, and
+    /// all else is as it was.
     fn keep(&mut self, batch: &[Input]) -> Result<(), StoreFault>
         ensures ok { OnOk result (self.new ≡ record self.old { inputs = self.old.inputs ++ batch.now }) }
         ensures refused { OnErr result (self.new ≡ stopped self.old) }
@@ -156,7 +156,7 @@ impl MemoryStore {
         }
     }
 
-    /// The fuse burns at the batch, of which it keeps all or nothing.
+    /// The fuse burns at the batch. All of the batch is kept, or nothing.
     fn burn(&mut self, batch: &[Input], keeps: Kept) -> Result<(), StoreFault>
         ensures named { (result ≡ Err Device) ⊎ (result ≡ Err OutOfMemory) }
         ensures device { result ≡ Err Device → self.new ≡ burned keeps batch.now self.old }
@@ -190,7 +190,7 @@ impl NodeStore for MemoryStore {
 
     ghost is_own = { λ _. Unit {0} };
 
-    /// `Device` comes where the fuse burns, and nowhere else, and `Full` never.
+    /// Fails with `Device` only where the fuse burns, and never with `Full`.
     fn append(&mut self, batch: &[Input]) -> Result<(), StoreFault>
         ensures reopen { IsTrue self.old.must_reopen → (result ≡ Err Reopen) × (self.new ≡ self.old) }
         ensures empty { self.old.must_reopen ≡ false → batch.now ≡ [] → result ≡ Ok tt }
@@ -217,7 +217,7 @@ impl NodeStore for MemoryStore {
         }
     }
 
-    /// Never `Damaged`.
+    /// Never fails with `Damaged`.
     fn load(&mut self) -> Result<Vec<Input>, StoreFault>
         ensures reopen { IsTrue self.old.must_reopen → (result ≡ Err Reopen) × (self.new ≡ self.old) }
         ensures ok { IfOk result (λ inputs. inputs.items ≡ self.old.inputs) }
@@ -231,7 +231,7 @@ impl NodeStore for MemoryStore {
         Ok(copies(self.alloc, &self.records)?)
     }
 
-    /// Never `Damaged`.
+    /// Never fails with `Damaged`.
     fn load_page(&mut self, from: u64, max: u64) -> Result<Vec<Input>, StoreFault>
         ensures reopen { IsTrue self.old.must_reopen → (result ≡ Err Reopen) × (self.new ≡ self.old) }
         ensures ok { IfOk result (λ inputs. inputs.items ≡ take max (drop from self.old.inputs)) }

@@ -1,4 +1,4 @@
-//! Between places with bodies and records.
+//! Conversions between records and the bodies at places.
 ghost use Rattle.std.specs.Prelude.{◌≡◌, ◌≤◌, ◌+◌, ◌-◌, ◌⊎◌, ℕ, IfOk, IfErr, OnOk, map, length, Some};
 ghost use Rattle.stores.specs.Bodies.{items};
 ghost use Rattle.stores.specs.Records.{Places, AreRecords, IsDamagedAt, written};
@@ -23,8 +23,9 @@ pub fn encode_records(alloc: Global, batch: &[Input]) -> Result<Vec<Vec<u8>>, No
     Ok(texts)
 }
 
-/// The records of bodies at places from `first` on, of which there should be one at each place up to `until`.
-/// `Damaged(p)`: the body at place p is no record's, or there is none at p.
+/// The records of bodies at the places from `first` on. There should be a body at each place up to `until`.
+///
+/// Fails with `Damaged(p)` where the body at place `p` is no record's, or is missing.
 pub fn decode_records(
     alloc: Global,
     bodies: &[&[u8]],

@@ -25,7 +25,7 @@ joined_over limit a b ls ms r x y = record {
 
 -- ---- one way only
 
--- what follows the lines of a stream is no line of the limit itself
+-- the bytes after the lines of a stream are no line of the limit themselves
 abbrev IsNoLine : ℕ → List ℕ → Type 0
 IsNoLine limit rest = (l t : List ℕ) → IsWithin limit l → rest ≢ l ++ 10 ∷ t
 

@@ -1,4 +1,4 @@
--- Bytes as lines and what follows them, cut at one newline after another.
+-- Bytes as lines and the bytes after them, cut at one newline after another.
 use Rattle.std.proofs.Common.{◌≡◌, ℕ, zero, suc, ◌+◌, ◌-◌, ◌<◌, ◌≤◌, List, [], ◌∷◌, ◌++◌, Some, None, length, get_or, take, drop, refl, sym, ap, subst, ◌∙◌, arith, add-one, append_assoc, length-append}
 use Rattle.std.proofs.Math.Seq.{split_at}
 use Rattle.std.proofs.lemmas.List.{take-append-drop, take-append-le, take_all, length-take-le, get_or-take, length-drop}
@@ -21,7 +21,7 @@ pub lines_join : (limit : ℕ) (ls ms : List (List ℕ)) → AllByRecursion (IsW
 lines_join limit [] ms a b = b
 lines_join limit (l ∷ ls) ms a b = (a.0, lines_join limit ls ms a.1 b)
 
--- ---- what is held after lines
+-- ---- the bytes held after lines
 
 rest_pushed : (held : List ℕ) (ls : List (List ℕ)) (l tail : List ℕ) → rest_after held (ls ++ l ∷ []) tail ≡ tail
 rest_pushed held [] l tail = refl
@@ -103,7 +103,7 @@ pub over_left : (limit : ℕ) (held piece : List ℕ) (ls : List (List ℕ)) (be
     → Cutting limit held piece ls begun left → IsOver limit (held ++ piece) ls
 over_left limit held piece ls begun left free long s = over_front limit held piece ls begun left (length left) (free_front (length left) left free) (omega arith) long s
 
--- what is left has no newline and is within the limit
+-- the bytes that are left have no newline and are within the limit
 pub cut_up : (limit : ℕ) (held piece : List ℕ) (ls : List (List ℕ)) (begun left : List ℕ) → HasNoNewline left → length begun + length left ≤ limit
     → Cutting limit held piece ls begun left → Splits limit (held ++ piece) ls (rest_after held ls left)
 cut_up limit held piece ls begun left free room s = record {

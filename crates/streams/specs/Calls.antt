@@ -1,5 +1,5 @@
--- How often a reader or a writer was called, how those calls went, and when they failed. Counts go round: 0 follows the
--- greatest number of 64 bits.
+-- How often a reader or a writer was called, how those calls went, and when they failed. Counts wrap around to 0 after
+-- the greatest number of 64 bits.
 use Rattle.std.specs.Prelude.{◌≡◌, ◌⊎◌, ◌≤◌, ◌+◌, ◌%◌, ◌^◌, ℕ, Result, Ok, Err}
 use Rattle.streams.specs.declared.calls.CallFault.{CallFault}
 use Rattle.streams.specs.declared.calls.CallFault.TheVariants.{Interrupted, Failed}
@@ -23,7 +23,7 @@ no_calls = record { count = 0; failures = 0; interruptions = 0 }
 abbrev pub most_reads : ℕ
 most_reads = 16_777_217
 
--- how many interrupted calls are taken for a fault
+-- how many interrupted calls count as a fault
 abbrev pub most_interruptions : ℕ
 most_interruptions = 20_000
 
@@ -35,7 +35,7 @@ FailsAfter most old new = (new.failures ≡ next old.failures) ⊎ ((new.failure
 abbrev pub Fails : Calls → Calls → Type 0
 Fails old new = FailsAfter most_interruptions old new
 
--- a read failed, or there were as many as there may be; or memory ran out, while no read had failed
+-- a read failed, or there were as many reads as are allowed; or memory ran out, while no read had failed
 abbrev pub IsReadingFault : ReadFault → Type 0
 IsReadingFault (reading.Read calls) = (calls.failures ≡ 1) ⊎ (most_reads ≤ calls.count)
 IsReadingFault (reading.NoMemory calls) = calls.failures ≡ 0

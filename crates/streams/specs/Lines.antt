@@ -1,4 +1,4 @@
--- The lines of a stream: the pieces that byte 10 ends, and what follows the last of them.
+-- The lines of a stream: the pieces that byte 10 ends, and the bytes after the last of them.
 use Rattle.std.specs.Prelude.{◌≡◌, ◌≢◌, ℕ, ◌+◌, ◌<◌, ◌≤◌, List, [], ◌∷◌, ◌++◌, length, take}
 use Rattle.std.specs.List.{AllByRecursion}
 

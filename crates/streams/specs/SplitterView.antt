@@ -1,4 +1,4 @@
--- What a splitter holds.
+-- The contents of a splitter.
 use Rattle.std.specs.Prelude.{ℕ, List, Bool}
 
 pub record SplitterView : Type 0 where

@@ -11,7 +11,7 @@ pub enum CallFault {
     Failed,
 }
 
-/// The calls of a reader or a writer so far. Each count is a `u64`, and 0 follows the greatest one.
+/// The calls of a reader or a writer so far. Each count is a `u64`, and wraps around to 0.
 #[derive(Clone, Copy, Debug, PartialEq, Eq)]
 pub struct Calls {
     /// How many there were.
@@ -61,7 +61,7 @@ impl Calls {
         self.interruptions
     }
 
-    /// Counts the error of a call, and returns which fault it is.
+    /// Counts the error of a call, and returns its kind.
     fn count_fault(&mut self, error: &Error) -> CallFault
         ensures kind { (result ≡ CallFault.Interrupted) ↔ (error_kind error.now ≡ ErrorKind.Interrupted) }
         ensures counts { CountsFault self.old self.new result }
@@ -80,7 +80,7 @@ impl Calls {
     ///
     /// # Errors
     ///
-    /// Fails with `Interrupted` where the reader was interrupted, and with `Failed` where it failed. Nothing was read.
+    /// Fails with `Interrupted` if the reader was interrupted, and with `Failed` if it failed. Nothing was read.
     pub fn read<R: Read>(&mut self, reader: &mut R, piece: &mut [u8]) -> Result<usize, CallFault>
         requires { 0 < length piece.old }
         ensures bytes { ReadConsumes (R.remaining reader.old) (R.remaining reader.new) result piece.new }
@@ -94,13 +94,13 @@ impl Calls {
         }
     }
 
-    /// Writes once, counts the call, and returns how many of the first bytes were taken: none only where there are
-    /// none.
+    /// Writes once, counts the call, and returns how many of the first bytes were taken: none only if there are no
+    /// bytes.
     ///
     /// # Errors
     ///
-    /// Fails with `Interrupted` where the writer was interrupted, and with `Failed` where it failed or took none of
-    /// some bytes. Nothing was written.
+    /// Fails with `Interrupted` if the writer was interrupted, and with `Failed` if it failed or took none of some
+    /// bytes. Nothing was written.
     pub fn write<W: Write>(&mut self, writer: &mut W, bytes: &[u8]) -> Result<usize, CallFault>
         ensures bytes { WriteAppends (W.contents writer.old) (W.contents writer.new) result bytes.now }
         ensures bound { IfOk result (λ n. n ≤ length bytes.now) }

@@ -1,5 +1,5 @@
-//! What is read from streams and written to them: lines of a stream that comes in pieces, all that a reader gives, all
-//! of some bytes, and how the calls for it went.
+//! Reading streams and writing to them: the lines of a stream that comes in pieces, all bytes of a reader, writing all
+//! of some bytes, and how the calls went.
 #![tactic(auto)]
 
 mod calls;

@@ -1,4 +1,4 @@
-//! A stream's lines, each ended by a newline (byte 10), whatever pieces the stream comes in.
+//! A stream's lines, each ended by a newline (byte 10), regardless of the pieces in which the stream comes.
 ghost use Rattle.std.specs.Prelude.{◌≡◌, ◌↔◌, ℕ, List, [], ◌++◌, IsTrue, is_ok, IfOk, OnOk, OnErr, true, false};
 ghost use Rattle.streams.specs.Lines.{IsWithin, Splits, IsOver};
 ghost use Rattle.streams.specs.Splitting.{IsCut, Feeds, rest_after};
@@ -55,8 +55,8 @@ pub enum LineFault {
     NoMemory,
 }
 
-/// A piece cut at its newlines: the lines that end in it and what follows the last of them, or the
-/// lines before one that is over the limit.
+/// A piece cut at its newlines: the lines that end in it and the bytes after the last of them, or the lines before one
+/// that is over the limit.
 #[derive(Drop)]
 enum Cut<'a> {
     Whole(Items<Line>, &'a [u8]),
@@ -73,7 +73,7 @@ fn join_line(alloc: Global, begun: &[u8], part: &[u8]) -> Result<Line, AllocErro
     Ok(Line { bytes })
 }
 
-/// Cuts `piece` behind what is held: its first line begins with `held`.
+/// Cuts `piece`, which follows the held bytes: its first line begins with `held`.
 fn cut_lines<'a>(
     alloc: Global,
     limit: usize,
@@ -100,7 +100,7 @@ fn cut_lines<'a>(
     Ok(Cut::Whole(Items::from_vec(lines), left))
 }
 
-/// Holds `tail`: behind what is held, or in its place where lines have ended.
+/// Holds `tail`: after the held bytes, or in their place if lines have ended.
 fn hold(rest: &mut BytesMut, lines: &[Line], tail: &[u8]) -> Result<(), AllocError>
     ensures ok { OnOk result (rest.new.items ≡ rest_after rest.old.items lines.now tail.now) }
     ensures err { OnErr result (rest.new.items ≡ rest.old.items) }
@@ -108,7 +108,7 @@ fn hold(rest: &mut BytesMut, lines: &[Line], tail: &[u8]) -> Result<(), AllocErr
     if lines.is_empty() {
         return rest.extend_from_slice(tail);
     }
-    // The room of what is held is free once a line has ended.
+    // The room of the held bytes is free once a line has ended.
     rest.reserve(tail.len().saturating_sub(rest.len()))?;
     rest.clear();
     rest.extend_reserved(tail);
@@ -148,13 +148,13 @@ impl Splitter {
         }
     }
 
-    /// Takes the next piece of the stream, and returns the lines that end in it, in their order.
-    /// What follows the last newline is kept for the next call.
+    /// Takes the next piece of the stream, and returns the lines that end in it, in their order. The bytes after the
+    /// last newline are kept for the next call.
     ///
-    /// - `TooLong` where more than `limit` bytes follow one another without a newline. It has the
-    ///   lines before them. The splitter is closed, and keeps what it kept before.
-    /// - `Closed` where the splitter was closed. It stays as it was.
-    /// - `NoMemory` where an allocation was refused. The splitter stays as it was.
+    /// - `TooLong` if more than `limit` bytes follow one another without a newline. It has the lines before them. The
+    ///   splitter is closed, and keeps the bytes that it kept before.
+    /// - `Closed` if the splitter was closed. It stays as it was.
+    /// - `NoMemory` if an allocation was refused. The splitter stays as it was.
     pub fn feed(&mut self, piece: &[u8]) -> Result<Items<Line>, LineFault>
         ensures { Feeds self.old self.new piece.now result }
     {
@@ -175,8 +175,8 @@ impl Splitter {
         }
     }
 
-    /// Whether the stream may end here. `Truncated` where bytes follow its last newline, and where
-    /// the splitter is closed.
+    /// Whether the stream may end here. Fails with `Truncated` if bytes follow its last newline, or if the splitter is
+    /// closed.
     pub fn finish(&self) -> Result<(), Truncated>
         ensures { IsTrue (is_ok result) ↔ ((self.now.closed ≡ false) × (self.now.rest ≡ [])) }
     {
@@ -193,9 +193,9 @@ impl Splitter {
 #[error("the stream ends without a newline, or has a line that is longer than the limit")]
 pub struct Truncated;
 
-/// How a stream is cut into pieces doesn't matter: the lines of two pieces, one after the other,
-/// are the lines of both as one piece. Bytes are lines and a rest in one way at most, or lines and
-/// one that is over the limit in one way at most, and never both. Does nothing.
+/// How a stream is cut into pieces doesn't matter: the lines of two pieces, one after the other, are the lines of both
+/// as one piece. There is at most one way to divide bytes into lines and a rest, at most one into lines and one that is
+/// over the limit, and never both. Does nothing.
 pub fn cuts()
     ensures joined { (limit : ℕ) (a b : List ℕ) (ls ms : List (List ℕ)) (r s : List ℕ)
         → Splits limit a ls r → Splits limit (r ++ b) ms s → Splits limit (a ++ b) (ls ++ ms) s }

@@ -1,4 +1,4 @@
-//! All of a reader, and all of some bytes to a writer.
+//! Reading all of a reader, and writing all of some bytes.
 ghost use Rattle.std.specs.Prelude.{◌<◌, length, take, IfOk, IfErr, MatchResult, OnOk};
 ghost use Rattle.std.specs.Io.KnownBytes.{Appends};
 ghost use Rattle.streams.specs.Calls.{Fails, FailsAfter, GoesOn, IsReadingFault, no_calls};
@@ -8,13 +8,13 @@ use crate::calls::{CallFault, Calls};
 use std::alloc::Global;
 use std::io::{Read, Write};
 
-/// The greatest length of a line of an input in bytes, its newline left out.
+/// The greatest length of a line of an input in bytes, without its newline.
 pub const LONGEST_INPUT_LINE: usize = 1_048_576;
 
 /// The greatest length of an input in bytes.
 pub const LONGEST_INPUT: usize = 16_777_216;
 
-/// How many interrupted calls in all are taken for a fault.
+/// How many interrupted calls in all count as a fault.
 pub const MOST_INTERRUPTIONS: u32 = 20_000;
 
 /// How often an input is read at most, interrupted reads included.
@@ -25,29 +25,30 @@ const PIECE: usize = 65_536;
 /// Why a reader was not read to its end.
 #[derive(Clone, Copy, Debug, PartialEq, Eq)]
 pub enum ReadFault {
-    /// A read failed and was not interrupted, or the end didn't come in 16,777,217 reads. It has the reads that there
-    /// were.
+    /// A read failed and was not interrupted, or the end didn't come in 16,777,217 reads. It has the counts of the
+    /// reads.
     Read(Calls),
-    /// Out of memory. It has the reads that there were, of which none failed.
+    /// Out of memory. It has the counts of the reads; none of them failed.
     NoMemory(Calls),
 }
 
-/// Why not all was written: a write failed and was not interrupted, or took no byte, or `MOST_INTERRUPTIONS` of them
-/// were interrupted.
+/// Why not all bytes were written: a write failed and was not interrupted, or took no byte, or `MOST_INTERRUPTIONS` of
+/// them were interrupted.
 #[derive(Clone, Copy, Debug, PartialEq, Eq)]
 pub struct WriteFault {
     /// How many of the first bytes were written.
     pub written: usize,
-    /// The writes that there were.
+    /// The counts of the writes.
     pub calls: Calls,
 }
 
-/// All that the reader gives, up to one byte more than an input may have. An interrupted read is made again.
+/// All bytes of the reader, up to one byte more than an input may have. An interrupted read is made again.
 ///
 /// # Errors
 ///
-/// - `Read`: a read failed and was not interrupted, or the end didn't come in 16,777,217 reads; what was read is lost.
-/// - `NoMemory`: out of memory; what was read is lost.
+/// - `Read`: a read failed and was not interrupted, or the end didn't come in 16,777,217 reads; the bytes that were
+///   read are lost.
+/// - `NoMemory`: out of memory; the bytes that were read are lost.
 pub fn read_input<R: Read>(alloc: Global, reader: &mut R) -> Result<Vec<u8>, ReadFault>
     ensures ok { IfOk result (λ v. Takes (R.remaining reader.old) (R.remaining reader.new) v.items) }
     ensures err { IfErr result IsReadingFault }
@@ -74,13 +75,13 @@ pub fn read_input<R: Read>(alloc: Global, reader: &mut R) -> Result<Vec<u8>, Rea
     Err(ReadFault::Read(calls))
 }
 
-/// Writes the bytes, and counts the calls. An interrupted write is made again, and `left` says how many more of them
-/// there may be.
+/// Writes the bytes, and counts the calls. An interrupted write is made again, and `left` is how many more
+/// interruptions there may be.
 ///
 /// # Errors
 ///
-/// Fails where the writer failed or took no byte, and where the last of the interruptions that were left came. The
-/// error is how many of the first bytes were written; no others were.
+/// Fails if the writer failed or took no byte, or if it was interrupted that often. The error is how many of the first
+/// bytes were written; no others were.
 pub fn write_all<W: Write>(
     writer: &mut W,
     calls: &mut Calls,
@@ -114,8 +115,8 @@ pub fn write_all<W: Write>(
 ///
 /// # Errors
 ///
-/// Fails where a write failed and was not interrupted, or took no byte, and at the 20,000th interrupted one. The
-/// error has how many of the first bytes were written; no others were.
+/// Fails if a write failed and was not interrupted, or took no byte, and at the 20,000th interrupted one. The error has
+/// how many of the first bytes were written; no others were.
 pub fn write_text<W: Write>(writer: &mut W, bytes: &[u8]) -> Result<(), WriteFault>
     ensures ok { OnOk result (Appends (W.contents writer.old) (W.contents writer.new) bytes.now) }
     ensures err { IfErr result

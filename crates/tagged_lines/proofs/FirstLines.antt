@@ -1,4 +1,4 @@
--- The first line of some bytes, and what is given out of it.
+-- The first line of some bytes, and the line that is returned for it.
 use Rattle.std.proofs.Common.{◌≡◌, ℕ, zero, suc, ◌+◌, ◌<◌, ◌≤◌, inl, inr, leb, eqb, Bool, true, false, cond, List, [], ◌∷◌, ◌++◌, Option, Some, None, length, get_or, take, drop, refl, sym, ap, subst, ◌∙◌, arith, add-one, append_assoc, append-nil, length-append}
 use Rattle.std.proofs.Math.Seq.{split_at, drop-length}
 use Rattle.std.proofs.lemmas.Bool.{ne_eqb, eqb-true, eq-eqb, cases_lt}
@@ -41,7 +41,7 @@ cut_front bytes end first =
 pub whole_front : (bytes : List ℕ) → IsFirstByte (is_byte 10) bytes None → IsFront bytes bytes []
 whole_front bytes never = record { whole = sym (append-nil bytes); free = none_free bytes never }
 
--- what was added, where it fits and where it doesn't
+-- the added bytes, if they fit and if they don't
 pub added_whole : (limit : ℕ) (old bytes new front rest : List ℕ) (result : Added) → IsFront bytes front (10 ∷ rest) → (length old + length front ≤ limit → (new ≡ old ++ front) × (result ≡ Whole))
     → (limit < length old + length front → (new ≡ old) × (result ≡ TooLong)) → Adds limit old bytes new result
 added_whole limit old bytes new front rest result is fits long =
@@ -110,7 +110,7 @@ free_join (x ∷ xs) ys a b = (a.0, free_join xs ys a.1 b)
 
 -- ---- one read
 
--- where the bytes that are left are known, so are those after a read
+-- the bytes that are left after a read are known if those before it are
 pub fills_from : (old new : Option (List ℕ)) (bytes line line' : List ℕ) (s : Stage) → Consumes old new bytes
     → ((keys : List NodeKey) (node : Node) (left : List ℕ) → given_out keys node line' s left ≡ opened keys node (line ++ (bytes ++ left))) → Fills old new line line' s
 fills_from None new bytes line line' s c same keys node = tt
@@ -144,13 +144,13 @@ fills_end (Some xs) (Some ys) line line' free same c end keys node =
     let none : line ++ xs ≡ line = ap (λ (t : List ℕ). line ++ t) (c ∙ end) ∙ append-nil line in
     drop-length line' ∙ sym (opened_free keys node line free) ∙ ap (opened keys node) (sym none)
 
--- ---- giving out
+-- ---- returning the line
 
 pub drop_further : (line piece : List ℕ) (at n : ℕ) → take n piece ≡ take n (drop at line) → drop at line ≡ take n piece ++ drop (at + n) line
 drop_further line piece at n same =
     sym (take-append-drop n (drop at line)) ∙ ap (λ (t : List ℕ). t ++ drop n (drop at line)) (sym same) ∙ ap (λ (t : List ℕ). take n piece ++ t) (drop-drop n at line)
 
--- known bytes or none of a line from there on
+-- either the remaining bytes of a line from there on are known, or none are
 abbrev pub Left : List ℕ → ℕ → Option (List ℕ) → Option (List ℕ)
 Left line at inner = option_map (λ (left : List ℕ). drop at line) inner
 

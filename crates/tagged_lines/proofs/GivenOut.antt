@@ -1,4 +1,4 @@
--- Each line that is given out is empty, or the bytes begin with it behind its tag.
+-- Each line that is returned is empty, or the bytes begin with it behind its tag.
 use Rattle.std.proofs.Common.{◌≡◌, ℕ, ◌+◌, ◌⊎◌, inl, inr, leb, eqb, Bool, true, false, cond, List, [], ◌∷◌, ◌++◌, Option, Some, None, length, drop, refl, sym, ap, subst, ◌∙◌}
 use Rattle.std.proofs.lemmas.Bool.{eqb-true, eqb-false}
 use Rattle.std.specs.Prelude.{option_map, option_and_then, unwrap_or}
@@ -15,7 +15,7 @@ use Rattle.tags.specs.Tags.{hex_text, message_tag, tag_digits}
 use Rattle.tagged_lines.specs.Opened.{HasTag, line_of, longest_tagged, opened, opened_first, opened_line, opened_text, sender_text}
 use Rattle.tagged_lines.proofs.Senders.{says_read, found_key, opened_sender, right}
 
--- the first line and what follows it
+-- the first line and the bytes after it
 abbrev Cut : List ℕ → List ℕ → Type 0
 Cut raw line = (rest : List ℕ) × (raw ≡ line ++ 10 ∷ rest) × HasNoNewline line
 

@@ -1,4 +1,4 @@
--- The node that a text says it is from, among those with keys.
+-- The node that a text names as its sender, among those with keys.
 use Rattle.std.proofs.Common.{◌≡◌, ℕ, ◌+◌, eqb, Bool, true, false, ◌&&◌, cond, List, [], ◌∷◌, ◌++◌, Option, Some, None, length, take, drop, refl, sym, ap, ◌∙◌}
 use Rattle.std.proofs.Math.Seq.{drop-append-add, take-append_seam}
 use Rattle.std.proofs.lemmas.Bool.{false_from_ne_true}
@@ -20,7 +20,7 @@ use Rattle.tags.specs.Tags.{IsSplit, hex_text, tagged, message_tag, direction, t
 use Rattle.tagged_lines.specs.Opened.{sender_text, sender_of, named, opened_text}
 use Rattle.tagged_lines.specs.Opening.{IsSenderOf}
 
--- ---- what the text says
+-- ---- the sender in the text
 
 pub says_read : (text : List ℕ) (d : Data) → IsUtf8 text → read text ≡ Some d → sender_text text ≡ text_at (codes "from") d
 says_read text d utf8 e =

@@ -9,7 +9,7 @@ pub record IsFront (bytes front after : List ℕ) : Type 0 where
   pub whole : bytes ≡ front ++ after
   pub free : HasNoNewline front
 
--- what became of a line that bytes were added to
+-- how a line changes when bytes are added to it
 abbrev pub Adds : ℕ → List ℕ → List ℕ → List ℕ → Added → Type 0
 Adds limit old bytes new More = (new ≡ old ++ bytes) × HasNoNewline bytes
 Adds limit old bytes new Whole = (front rest : List ℕ) × IsFront bytes front (10 ∷ rest) × (new ≡ old ++ front)

@@ -1,4 +1,4 @@
--- What is given out of the bytes of a connection whose first line has to be a message with its tag.
+-- The line that is returned for the bytes of a connection whose first line has to be a message with its tag.
 use Rattle.std.specs.Prelude.{◌≡◌, ℕ, ◌+◌, List, [], ◌∷◌, ◌++◌, length, drop, codes, nat_le, if◌then◌else◌, ◌==◌, Option, None, Some, option_map, option_and_then, unwrap_or}
 use Rattle.std.specs.List.{find}
 use Rattle.std.specs.Str.{bytes_eq, is_utf8}
@@ -21,19 +21,19 @@ abbrev pub line_of : List ℕ → Option (List ℕ)
 line_of [] = None
 line_of (b ∷ bs) = if b == 10 then Some [] else option_map (λ l. b ∷ l) (line_of bs)
 
--- what the JSON text has at `from`
+-- the text at the key `from` of the JSON text
 abbrev pub sender_text : List ℕ → Option (List ℕ)
 sender_text text = if is_utf8 text then option_and_then (text_at (codes "from")) (read text) else None
 
--- the node of which that is the name, with its key
+-- the node with that name, with its key
 abbrev pub named : List NodeKey → List ℕ → Option NodeKey
 named keys name = find (λ entry. bytes_eq (node_text entry.node) name) keys
 
--- the node with its key that the text says it is from
+-- the node with its key that the text names as its sender
 abbrev pub sender_of : List NodeKey → List ℕ → Option NodeKey
 sender_of keys text = option_and_then (named keys) (sender_text text)
 
--- the text behind the tag, where the tag is that of a message to the node under its sender's key
+-- the text behind the tag, if the tag is that of a message to the node under its sender's key
 abbrev pub opened_text : List NodeKey → Node → List ℕ → Option (List ℕ)
 opened_text keys node line =
     let text = drop (tag_digits + 1) line in
@@ -43,7 +43,7 @@ opened_text keys node line =
 abbrev pub opened_line : List NodeKey → Node → List ℕ → List ℕ
 opened_line keys node line = unwrap_or (opened_text keys node line) [] ++ 10 ∷ []
 
--- the same of the first line of some bytes, and nothing where they have none or it is too long
+-- the same for the first line of some bytes, and nothing if they have none or it is too long
 abbrev pub opened_first : List NodeKey → Node → Option (List ℕ) → List ℕ
 opened_first keys node None = []
 opened_first keys node (Some line) = if nat_le (length line) longest_tagged then opened_line keys node line else []

@@ -1,4 +1,4 @@
--- What writers of lines with tags send. No public contract cites it.
+-- The lines that writers of lines with tags send. No public contract cites it.
 use Rattle.std.specs.Prelude.{◌≡◌, ◌≤◌, ℕ, List, [], ◌∷◌, ◌++◌, length, Option, None, Some}
 use Rattle.tags.specs.Tags.{tagged, message_tag, reply_tag}
 use Rattle.tagged_lines.specs.Views.{MessageView}
@@ -21,7 +21,7 @@ reply_tag_of m reply = reply_tag m.key m.from m.to m.text reply
 abbrev pub message_line : MessageView → List ℕ
 message_line m = tagged (tag_of m) m.text ++ 10 ∷ []
 
--- the line of a reply, with its tag where it replies to a message with one
+-- the line of a reply, with its tag if it replies to a message with one
 abbrev pub reply_line : Option MessageView → List ℕ → List ℕ
 reply_line None reply = reply ++ 10 ∷ []
 reply_line (Some m) reply = tagged (reply_tag_of m reply) reply ++ 10 ∷ []
@@ -30,7 +30,7 @@ reply_line (Some m) reply = tagged (reply_tag_of m reply) reply ++ 10 ∷ []
 abbrev pub IsTaggedReply : MessageView → List ℕ → Type 0
 IsTaggedReply m line = (reply : List ℕ) × (line ≡ tagged (reply_tag_of m reply) reply)
 
--- what a reader of a reply has, where it gives out the line from there on
+-- the line of a reader of a reply, if it returns the line from there on
 abbrev pub FitsCheck : Check → List ℕ → Type 0
 FitsCheck Reading line = length line ≤ longest_tagged_reply
 FitsCheck (Giving at) line = (at ≤ length line) × ((m : MessageView) × (text : List ℕ) × IsTaggedReply m text × (line ≡ text ++ 10 ∷ []))

@@ -11,7 +11,7 @@ pub record MessageView : Type 0 where
   pub to : Node
   pub text : List ℕ
 
--- a reader, what it has read of a line, and how far it is
+-- a reader, the part of a line that it has read, and how far it is
 pub record OpeningView (R : Type 0) : Type 0 where
   pub inner : R
   pub keys : List NodeKey
@@ -19,7 +19,7 @@ pub record OpeningView (R : Type 0) : Type 0 where
   pub line : List ℕ
   pub stage : Stage
 
--- a writer, and under which key, from which node and to which one it sends a message
+-- a writer, and the key, the sender and the receiver of the message that it sends
 pub record MessageWriterView (W : Type 0) : Type 0 where
   pub inner : W
   pub key : List ℕ

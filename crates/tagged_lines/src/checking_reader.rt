@@ -23,7 +23,7 @@ const PIECE: usize = 128;
 pub(crate) enum Check {
     /// The line isn't whole yet.
     Reading,
-    /// What is given out of the line is what stands in it from there on.
+    /// The bytes of the line from there on are returned.
     Giving(usize),
     /// The stream ended before a newline.
     Ended,
@@ -31,12 +31,11 @@ pub(crate) enum Check {
     Failed,
 }
 
-/// A reader of a connection over which one message goes. It reads a line from another reader, and gives out the
-/// reply's text and a newline where the line is a reply behind its tag to the message that the connection's writer has
-/// set.
+/// A reader of a connection over which one message goes. It reads a line from another reader, and returns the reply's
+/// text and a newline if the line is a reply, behind its tag, to the message that the connection's writer has set.
 ///
-/// Each read reads once from the other reader at most, and fails with `Interrupted` as long as there is nothing to give
-/// out.
+/// Each read reads at most once from the other reader, and fails with `Interrupted` as long as there is nothing to
+/// return.
 #[derive(Drop)]
 pub struct CheckingReader<'k, R> {
     inner: R,
@@ -66,11 +65,11 @@ fn is_reply<'k>(message: &KeyedMessage<'k>, line: &[u8]) -> bool
     }
 }
 
-/// Reads once, and adds what was read to the line. `None` where the stream ended.
+/// Reads once, and adds the bytes that were read to the line. `None` if the stream ended.
 ///
 /// # Errors
 ///
-/// Fails where the read failed.
+/// Fails if the read failed.
 fn read_piece<R: Read>(inner: &mut R, line: &mut Vec<u8>) -> io::Result<Option<Added>>
     requires within { length line.old.items ≤ longest_tagged_reply }
     requires room { longest_tagged_reply < vec_capacity line.old }
@@ -86,11 +85,11 @@ fn read_piece<R: Read>(inner: &mut R, line: &mut Vec<u8>) -> io::Result<Option<A
 }
 
 impl<'k, R: Drop> CheckingReader<'k, R> {
-    /// A reader of that one's bytes. It finds in `sent` the message whose reply it reads.
+    /// A reader of the bytes of `inner`. It finds in `sent` the message whose reply it reads.
     ///
     /// # Errors
     ///
-    /// Fails with `NoMemory` where memory ran out.
+    /// Fails with `NoMemory` if memory ran out.
     pub fn new(
         alloc: Global,
         inner: R,
@@ -115,7 +114,7 @@ impl<'k, R: Drop> CheckingReader<'k, R> {
     }
 }
 
-/// How far a reader is once the line is whole: it gives out the reply where the line is one to the message.
+/// How far a reader is once the line is whole: it returns the reply if the line is one to the message.
 fn checked<'k>(message: Option<&KeyedMessage<'k>>, line: &mut Vec<u8>) -> Check
     requires within { length line.old.items ≤ longest_tagged_reply }
     requires room { longest_tagged_reply < vec_capacity line.old }
@@ -132,8 +131,8 @@ fn checked<'k>(message: Option<&KeyedMessage<'k>>, line: &mut Vec<u8>) -> Check
 }
 
 impl<'k, R: Read> Read for CheckingReader<'k, R> {
-    /// Fails with `Interrupted` as long as nothing can be given out, and as the other reader does. Fails with
-    /// `InvalidData`, then and from then on, where the line isn't the reply.
+    /// Fails with `Interrupted` as long as nothing can be returned, and as the other reader does. Fails with
+    /// `InvalidData`, then and from then on, if the line isn't the reply.
     fn read(&mut self, piece: &mut [u8]) -> io::Result<usize> {
         match self.check {
             Check::Reading => {

@@ -4,7 +4,7 @@ ghost use Rattle.tagged_lines.specs.Lines.{Adds};
 
 use memchr::memchr;
 
-/// What became of a line that bytes were added to.
+/// The result of adding bytes to a line.
 #[derive(Clone, Copy, Debug, PartialEq, Eq)]
 pub(crate) enum Added {
     /// There was no newline.
@@ -15,7 +15,7 @@ pub(crate) enum Added {
     TooLong,
 }
 
-/// Adds the bytes to the line, which may have `limit` bytes, and returns `added`, or `TooLong` where they don't fit.
+/// Adds the bytes to the line, which may have `limit` bytes, and returns `added`, or `TooLong` if they don't fit.
 fn append(limit: usize, line: &mut Vec<u8>, bytes: &[u8], added: Added) -> Added
     requires within { length line.old.items ≤ limit }
     requires room { limit < vec_capacity line.old }
@@ -49,7 +49,7 @@ pub(crate) fn add(limit: usize, line: &mut Vec<u8>, bytes: &[u8]) -> Added
     }
 }
 
-/// Copies what stands in the line from there on, as far as there is room, and returns how many bytes that are.
+/// Copies the bytes of the line from there on, as far as there is room, and returns how many were copied.
 pub(crate) fn give(line: &[u8], at: usize, piece: &mut [u8]) -> usize
     requires { at ≤ length line.now }
     ensures bytes { take result piece.new ≡ take result (drop at line.now) }

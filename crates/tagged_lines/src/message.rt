@@ -1,4 +1,4 @@
-//! A message with the key under which it has its tag.
+//! A message with the key of its tag.
 ghost use Rattle.std.specs.Prelude.{◌≡◌};
 ghost use Rattle.tagged_lines.specs.Sent.{tag_of, reply_tag_of};
 
@@ -17,7 +17,8 @@ pub struct KeyedMessage<'k> {
     text: Vec<u8>,
 }
 
-/// Where the reader and the writer of a connection find the message that went over it, once one of them has set it.
+/// The cell in which the reader and the writer of a connection share the message that went over it, once one has set
+/// it.
 pub type MessageCell<'k> = Arc<OnceLock<KeyedMessage<'k>>>;
 
 impl<'k> Model for KeyedMessage<'k> {

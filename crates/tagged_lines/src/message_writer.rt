@@ -44,11 +44,11 @@ impl<'k, W> Model for MessageWriter<'k, W> {
 
 impl<'k, W: Drop> MessageWriter<'k, W> {
     /// A writer to that one, of a message under that key from one node to another. It sets `sent` to the message, once
-    /// it was sent.
+    /// the message was sent.
     ///
     /// # Errors
     ///
-    /// Fails with `NoMemory` where memory ran out.
+    /// Fails with `NoMemory` if memory ran out.
     pub fn new(
         alloc: Global,
         inner: W,
@@ -83,12 +83,12 @@ impl<'k, W: Drop> MessageWriter<'k, W> {
 }
 
 impl<'k, W: Write> Write for MessageWriter<'k, W> {
-    /// Takes the bytes up to the first newline, and sends the line with that one.
+    /// Takes the bytes up to the first newline, and sends the line with its newline.
     ///
     /// # Errors
     ///
-    /// Fails with `InvalidInput` where the line has more than `LONGEST_LINE` bytes, with `WriteZero` where it couldn't
-    /// be sent whole, and with `BrokenPipe` once a line was sent or a write failed.
+    /// Fails with `InvalidInput` if the line has more than `LONGEST_LINE` bytes, with `WriteZero` if it couldn't be
+    /// sent whole, and with `BrokenPipe` once a line was sent or a write failed.
     fn write(&mut self, bytes: &[u8]) -> io::Result<usize> {
         if self.closed {
             return Err(ErrorKind::BrokenPipe.into());

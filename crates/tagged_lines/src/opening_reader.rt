@@ -15,7 +15,7 @@ use tags::{Keys, TAG_DIGITS};
 use units::limits::LONGEST_LINE;
 use units::{NoMemory, Node};
 
-/// How many bytes stand before the text in a line with a tag: the tag's digits and a space.
+/// How many bytes come before the text in a line with a tag: the tag's digits and a space.
 pub(crate) const BEFORE_TEXT: usize = TAG_DIGITS + 1;
 
 /// How many bytes a line with a tag may have before its newline.
@@ -31,17 +31,17 @@ pub enum Stage {
     Reading,
     /// The line is whole, and wasn't looked at yet.
     Whole,
-    /// What is given out of the line is what stands in it from there on.
+    /// The bytes of the line from there on are returned.
     Giving(usize),
 }
 
-/// A reader of a connection over which one message goes. It reads a line from another reader, and gives out the
-/// message's text and a newline where the line is a message to its node behind its tag, under the key of the message's
-/// sender. It gives out a newline alone where the line isn't that, and nothing where the stream ends before a newline, or the line
-/// is longer than one with a tag may be.
+/// A reader of a connection over which one message goes. It reads a line from another reader, and returns the message's
+/// text and a newline if the line is a message to its node, behind its tag, under the key of the message's sender. For
+/// any other line it returns a newline alone, and it returns nothing if the stream ends before a newline, or if the
+/// line is longer than one with a tag may be.
 ///
-/// Each read reads once from the other reader at most, and fails with `Interrupted` as long as there is nothing to give
-/// out.
+/// Each read reads at most once from the other reader, and fails with `Interrupted` as long as there is nothing to
+/// return.
 #[derive(Drop)]
 pub struct OpeningReader<'k, R> {
     inner: R,
@@ -67,11 +67,11 @@ impl<'k, R> Model for OpeningReader<'k, R> {
 }
 
 impl<'k, R: Drop> OpeningReader<'k, R> {
-    /// A reader of that one's bytes, at `node`. It sets `heard` to the message, once it has read one with its tag.
+    /// A reader of the bytes of `inner`, at `node`. It sets `heard` to the message, once it has read one with its tag.
     ///
     /// # Errors
     ///
-    /// Fails with `NoMemory` where memory ran out.
+    /// Fails with `NoMemory` if memory ran out.
     pub fn new(
         alloc: Global,
         inner: R,
@@ -101,11 +101,11 @@ impl<'k, R: Drop> OpeningReader<'k, R> {
     }
 }
 
-/// Reads once, and adds what was read to the line. Returns how far the reader is then.
+/// Reads once, and adds the bytes that were read to the line. Returns how far the reader is then.
 ///
 /// # Errors
 ///
-/// Fails where the read failed. Nothing was read.
+/// Fails if the read failed. Nothing was read.
 fn fill<R: Read>(inner: &mut R, line: &mut Vec<u8>) -> io::Result<Stage>
     requires within { IsWithin longest_tagged line.old.items }
     requires room { longest_tagged + 1 ≤ vec_capacity line.old }
@@ -127,12 +127,12 @@ fn fill<R: Read>(inner: &mut R, line: &mut Vec<u8>) -> io::Result<Stage>
     })
 }
 
-/// Looks at the line, which is whole, and sets `heard` to the message where it is one with its tag. Returns from where
-/// on the line is given out then.
+/// Looks at the line, which is whole, and sets `heard` to the message if it is one with its tag. Returns the place from
+/// which on the line is returned.
 ///
 /// # Errors
 ///
-/// Fails with `NoMemory` where memory ran out. The line is as it was.
+/// Fails with `NoMemory` if memory ran out. The line is as it was.
 fn open_line<'k>(
     alloc: Global,
     keys: &'k Keys,
@@ -165,8 +165,8 @@ impl<'k, R: Read> Read for OpeningReader<'k, R> {
 
     ghost remaining = { λ r. opening_remaining R.remaining r };
 
-    /// Fails with `Interrupted` as long as nothing can be given out, as the other reader does, and with `OutOfMemory`
-    /// where memory ran out. Nothing is lost then.
+    /// Fails with `Interrupted` as long as nothing can be returned, as the other reader does, and with `OutOfMemory` if
+    /// memory ran out. Nothing is lost then.
     fn read(&mut self, piece: &mut [u8]) -> io::Result<usize> {
         match self.stage {
             Stage::Reading => {

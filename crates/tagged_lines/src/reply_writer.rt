@@ -14,8 +14,8 @@ use units::NoMemory;
 /// How many bytes the line of a reply may have, without its newline.
 pub(crate) const LONGEST_REPLY: usize = 30;
 
-/// A writer of a connection over which one message goes. It takes the reply's line, and sends it behind its tag where
-/// the connection's reader has set the message, and else as it is. Once a whole line was written, or a write failed,
+/// A writer of a connection over which one message goes. It takes the reply's line, and sends it behind its tag if the
+/// connection's reader has set the message, and otherwise as it is. Once a whole line was written, or a write failed,
 /// each later write fails.
 #[derive(Drop)]
 pub struct ReplyWriter<'k, W> {
@@ -41,7 +41,7 @@ impl<'k, W: Drop> ReplyWriter<'k, W> {
     ///
     /// # Errors
     ///
-    /// Fails with `NoMemory` where memory ran out.
+    /// Fails with `NoMemory` if memory ran out.
     pub fn new(
         alloc: Global,
         inner: W,
@@ -69,12 +69,12 @@ impl<'k, W: Drop> ReplyWriter<'k, W> {
 }
 
 impl<'k, W: Write> Write for ReplyWriter<'k, W> {
-    /// Takes the bytes up to the first newline, and sends the line with that one.
+    /// Takes the bytes up to the first newline, and sends the line with its newline.
     ///
     /// # Errors
     ///
-    /// Fails with `InvalidInput` where the line has more than `LONGEST_REPLY` bytes, with `WriteZero` where it couldn't
-    /// be sent whole, and with `BrokenPipe` once a line was sent or a write failed.
+    /// Fails with `InvalidInput` if the line has more than `LONGEST_REPLY` bytes, with `WriteZero` if it couldn't be
+    /// sent whole, and with `BrokenPipe` once a line was sent or a write failed.
     fn write(&mut self, bytes: &[u8]) -> io::Result<usize> {
         if self.closed {
             return Err(ErrorKind::BrokenPipe.into());

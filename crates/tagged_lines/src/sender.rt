@@ -21,7 +21,7 @@ pub(crate) struct Sender<'k> {
     pub(crate) key: &'k Key,
 }
 
-/// The node that the JSON text says it is from. `None` where the text is no JSON, or has no node's name there.
+/// The node that the JSON text names as its sender. `None` if the text is no JSON, or has no node's name there.
 fn text_sender(alloc: Global, text: &[u8]) -> Result<Option<Node>, NoMemory>
     ensures { IfOk result (λ node. IsSenderOf text.now node) }
 {
@@ -37,7 +37,7 @@ fn text_sender(alloc: Global, text: &[u8]) -> Result<Option<Node>, NoMemory>
     }
 }
 
-/// The node that the value says it is from.
+/// The node that the value names as its sender.
 fn node_in(value: &Value) -> Option<Node>
     ensures some { IfSome result (λ node. text_at (codes "from") (view value.now) ≡ Some (node_text node)) }
     ensures none { IfNone result ((node : Node) → text_at (codes "from") (view value.now) ≡ Some (node_text node) → ⊥) }
@@ -46,12 +46,12 @@ fn node_in(value: &Value) -> Option<Node>
     Node::read(name)
 }
 
-/// The sender of the line, a line without its newline, where it is a message to `node` behind its tag under the key of
-/// its sender, and `None` where it isn't.
+/// The sender of the line, which has no newline, if it is a message to `node` behind its tag under the key of its
+/// sender; otherwise `None`.
 ///
 /// # Errors
 ///
-/// Fails with `NoMemory` where memory ran out, which says nothing of the line.
+/// Fails with `NoMemory` if memory ran out; that says nothing about the line.
 pub(crate) fn line_sender<'k>(
     alloc: Global,
     keys: &'k Keys,

@@ -1,4 +1,4 @@
-//! Whole lines that are sent.
+//! Sending whole lines.
 ghost use Rattle.std.specs.Prelude.{◌≡◌, ◌<◌, ◌≤◌, ◌+◌, ◌++◌, ◌∷◌, [], Some, length, take, option_copied, IfErr, OnOk, vec_capacity};
 ghost use Rattle.std.specs.Io.KnownBytes.{Appends};
 ghost use Rattle.tags.specs.Tags.{tagged};
@@ -10,7 +10,7 @@ use std::io::Write;
 use streams::{WriteFault, write_text};
 use tags::Tag;
 
-/// Puts the tag, a space, the text and a newline behind what stands there.
+/// Appends the tag, a space, the text and a newline.
 fn put_tagged(out: &mut Vec<u8>, tag: &Tag, text: &[u8])
     requires room { length out.old.items + length text.now + 66 ≤ vec_capacity out.old }
     ensures { out.new.items ≡ out.old.items ++ (tagged tag.now text.now ++ 10 ∷ []) }
@@ -22,7 +22,7 @@ fn put_tagged(out: &mut Vec<u8>, tag: &Tag, text: &[u8])
     put_line(out, text);
 }
 
-/// Puts the text and a newline behind what stands there.
+/// Appends the text and a newline.
 fn put_line(out: &mut Vec<u8>, text: &[u8])
     requires room { length out.old.items + length text.now + 1 ≤ vec_capacity out.old }
     ensures { out.new.items ≡ out.old.items ++ (text.now ++ 10 ∷ []) }
@@ -33,12 +33,12 @@ fn put_line(out: &mut Vec<u8>, text: &[u8])
     out.push_reserved(b'\n');
 }
 
-/// Sends the line of a reply: behind its tag where it replies to a message that has one, and else as it is. `out` has
+/// Sends the line of a reply: behind its tag if it replies to a message that has one, and otherwise as it is. `out` has
 /// room for it.
 ///
 /// # Errors
 ///
-/// Fails where a write failed. The error says how many of the line's first bytes were written; no others were.
+/// Fails if a write failed. The error is how many of the line's first bytes were written; no others were.
 pub(crate) fn send_reply<'k, W: Write>(
     writer: &mut W,
     out: &mut Vec<u8>,
@@ -63,7 +63,7 @@ pub(crate) fn send_reply<'k, W: Write>(
 ///
 /// # Errors
 ///
-/// Fails where a write failed. The error says how many of the line's first bytes were written; no others were.
+/// Fails if a write failed. The error is how many of the line's first bytes were written; no others were.
 pub(crate) fn send_message<'k, W: Write>(
     writer: &mut W,
     out: &mut Vec<u8>,

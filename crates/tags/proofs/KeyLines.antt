@@ -49,7 +49,7 @@ lined (b ∷ bs) =
       | inr other ↦ lined_byte b bs rest.1.ended rest.1.last rest.1.whole rest.1.each rest.1.free other
     ]
 
--- bytes with no line are none
+-- if bytes have no line, there are no bytes
 no_lines : (bytes : List ℕ) (ended : List (List ℕ)) (last : List ℕ) → bytes ≡ stream_of ended last → [] ≡ with_last ended last → bytes ≡ []
 no_lines bytes [] [] whole all = whole
 no_lines bytes (l ∷ ls) [] whole all = cc (all)

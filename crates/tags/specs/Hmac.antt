@@ -14,7 +14,7 @@ used_key key = if nat_lt block_size (length key) then sha256 key else key
 abbrev pub padded : List ℕ → List ℕ
 padded bytes = bytes ++ replicate (block_size - length bytes) 0
 
--- each byte with that byte by exclusive or
+-- each byte combined with that byte by exclusive or
 abbrev pub xor_each : ℕ → List ℕ → List ℕ
 xor_each pad bytes = map (λ b. bit_xor b pad) bytes
 

@@ -1,4 +1,4 @@
--- The text of a file of keys, and what is wrong with one.
+-- The text of a file of keys, and the faults of such a text.
 use Rattle.std.specs.Prelude.{◌≡◌, ◌≤◌, ◌<◌, ◌+◌, ℕ, List, [], ◌∷◌, ◌++◌, length, Ok, None, IsSome}
 use Rattle.std.specs.List.{AllByRecursion}
 use Rattle.hex.specs.Hex.{decode_sized}
@@ -22,12 +22,12 @@ pub record IsKeyLine (line : List ℕ) (entry : NodeKey) : Type 0 where
   pub written : line ≡ node_text entry.node ++ 32 ∷ digits
   pub read : decode_sized digits key_bytes ≡ Ok entry.key
 
--- lines that were ended, and then one that wasn't, if there are bytes of it
+-- lines that were ended, and then one that wasn't, if it has bytes
 abbrev pub with_last : List (List ℕ) → List ℕ → List (List ℕ)
 with_last ended [] = ended
 with_last ended (b ∷ bs) = ended ++ (b ∷ bs) ∷ []
 
--- the lines of a text: a newline ends each of them, but that the last one may lack it
+-- the lines of a text: a newline ends each of them, except that the last one may lack it
 pub record HasLines (text : List ℕ) (lines : List (List ℕ)) : Type 0 where
   pub ended : List (List ℕ)
   pub last : List ℕ
@@ -36,7 +36,7 @@ pub record HasLines (text : List ℕ) (lines : List (List ℕ)) : Type 0 where
   pub free : HasNoNewline last
   pub all : lines ≡ with_last ended last
 
--- after the earlier keys, the lines write these, each of a node that had none yet
+-- after the earlier keys, the lines write these, each for a node that had none yet
 abbrev pub WriteKeys : List NodeKey → List (List ℕ) → List NodeKey → Type 0
 WriteKeys earlier [] [] = Unit {0}
 WriteKeys earlier (line ∷ lines) (entry ∷ entries) = IsKeyLine line entry × (key_of earlier entry.node ≡ None) × WriteKeys (earlier ++ entry ∷ []) lines entries
@@ -58,7 +58,7 @@ pub record IsLineAfter (text : List ℕ) (number : ℕ) (keys : List NodeKey) (l
   pub writes : WriteKeys [] lines keys
   pub count : number ≡ length lines + 1
 
--- what is wrong with the text of a file of keys
+-- the faults of the text of a file of keys
 abbrev pub IsKeysFault : List ℕ → KeysFault → Type 0
 IsKeysFault text (Form number) = (keys : List NodeKey) × (line : List ℕ) × IsLineAfter text number keys line × ((entry : NodeKey) → IsKeyLine line entry → ⊥)
 IsKeysFault text (Twice number) = (keys : List NodeKey) × (line : List ℕ) × IsLineAfter text number keys line × ((entry : NodeKey) × IsKeyLine line entry × IsSome (key_of keys entry.node))

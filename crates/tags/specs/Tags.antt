@@ -13,7 +13,8 @@ direction from to = node_text from ++ 32 ∷ node_text to ++ 32 ∷ []
 abbrev pub message_tag : List ℕ → Node → Node → List ℕ → List ℕ
 message_tag key from to text = hmac key (direction from to ++ text)
 
--- the tag of the reply to a message from one node to another, which goes the other way: that of the message, a newline and the reply
+-- the tag of the reply to a message from one node to another, which goes the other way: over the message, a newline and
+-- the reply
 abbrev pub reply_tag : List ℕ → Node → Node → List ℕ → List ℕ → List ℕ
 reply_tag key from to text reply = hmac key (direction to from ++ text ++ 10 ∷ reply)
 

@@ -12,10 +12,10 @@ const BLOCK: usize = 64;
 /// How many bytes a digest of SHA-256 has.
 const DIGEST: usize = 32;
 
-/// What each byte of the key is combined with for the inner hash: `ipad` of RFC 2104.
+/// The byte with which each byte of the key is combined for the inner hash: `ipad` of RFC 2104.
 const INNER_PAD: u8 = 0x36;
 
-/// What each byte of the key is combined with for the outer hash: `opad` of RFC 2104.
+/// The byte with which each byte of the key is combined for the outer hash: `opad` of RFC 2104.
 const OUTER_PAD: u8 = 0x5c;
 
 /// The bytes with zeros after them up to a block.
@@ -40,7 +40,7 @@ fn key_block(key: &[u8]) -> [u8; BLOCK]
     }
 }
 
-/// Each byte of the block with that byte by exclusive or.
+/// Each byte of the block combined with that byte by exclusive or.
 fn xor_each(pad: u8, block: &[u8; BLOCK]) -> [u8; BLOCK]
     ensures { result ≡ xor_each pad block.now }
 {

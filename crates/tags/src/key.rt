@@ -11,7 +11,7 @@ use units::Node;
 /// How many bytes a key has.
 pub const KEY_BYTES: usize = 32;
 
-/// The name of a node as bytes: its first ones, as many as the number says.
+/// The name of a node as bytes: the first `len` of these.
 #[derive(Drop)]
 struct Name {
     bytes: [u8; 3],

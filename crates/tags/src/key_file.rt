@@ -20,7 +20,7 @@ pub const MOST_KEYS: usize = 33;
 /// How many bytes follow a node's name in a line of a file of keys: a space, and two digits for each byte of a key.
 const AFTER_NAME: usize = 2 * KEY_BYTES + 1;
 
-/// What is wrong with the text of a file of keys. Lines are counted from 1.
+/// The faults of the text of a file of keys. Lines are counted from 1.
 #[derive(Clone, Copy, Debug, PartialEq, Eq, Error)]
 pub enum KeysFault {
     /// The line isn't a node's name, a space and 64 hexadecimal digits.
@@ -89,12 +89,12 @@ pub(crate) fn key_among(entries: &[Entry], node: Node) -> Option<&Key>
     Some(&entry.key)
 }
 
-/// Adds what the line writes to the entries.
+/// Adds the node and the key that the line writes to the entries.
 ///
 /// # Errors
 ///
-/// `Form` and `Twice` with the number of the line, which follows those of the entries. `NoMemory`: out of memory. The
-/// entries are as they were.
+/// Fails with `Form` and `Twice` with the number of the line, which follows those of the entries, and with `NoMemory`.
+/// The entries are as they were.
 fn add_line(entries: &mut Vec<Entry>, line: &[u8]) -> Result<(), KeysFault>
     requires few { vec_len entries.old < MOST_KEYS }
     ensures ok { OnOk result ((entry : NodeKey) × (entries.new.items ≡ entries.old.items ++ entry ∷ [])
@@ -115,8 +115,8 @@ fn add_line(entries: &mut Vec<Entry>, line: &[u8]) -> Result<(), KeysFault>
     Ok(())
 }
 
-/// Adds what the lines of the text write to the entries, of which there are none yet. Returns the bytes after the lines
-/// that were read: none, unless there are `MOST_KEYS` entries.
+/// Adds the nodes and keys that the lines of the text write to the entries, which must be empty. Returns the bytes
+/// after the lines that were read: none, unless there are `MOST_KEYS` entries.
 ///
 /// # Errors
 ///

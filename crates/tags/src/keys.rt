@@ -48,19 +48,20 @@ impl Keys {
     }
 
     /// The keys that the text of a file writes. It has a line `NODE SPACE DIGITS` for each node, where `NODE` is `ITL`
-    /// or the code of a registry, and `DIGITS` are 64 hexadecimal digits in either case. A newline ends each line, and
-    /// the last one may lack it. There are one line at least and `MOST_KEYS` at most, and no node is there twice.
+    /// or the code of a registry, and `DIGITS` are 64 hexadecimal digits in either case. A newline ends each line,
+    /// except that the last one may lack it. There is at least one line and there are at most `MOST_KEYS`, and no node
+    /// is there twice.
     ///
     /// # Errors
     ///
-    /// Each fault says of what line it is, counted from 1, and is the first one in the order of the lines. The lines
-    /// before it write keys of different nodes.
+    /// A fault of a line has the line's number, counted from 1. The fault is the first one in the order of the lines:
+    /// the lines before it write keys of different nodes.
     ///
     /// - `Form`: the line isn't such a line.
-    /// - `Twice`: the line is one, of a node that an earlier line has.
+    /// - `Twice`: the line has that form, and an earlier line has the same node.
     /// - `TooMany`: there are more than `MOST_KEYS` lines, and the first `MOST_KEYS` write keys of different nodes.
     /// - `Empty`: the text is empty.
-    /// - `NoMemory`: out of memory, which says nothing of the text.
+    /// - `NoMemory`: memory ran out; that says nothing about the text.
     pub fn read(alloc: Global, text: &[u8]) -> Result<Keys, KeysFault>
         ensures ok { IfOk result (λ keys. AreKeys text.now keys) }
         ensures fault { IfErr result (λ e. IsKeysFault text.now e) }

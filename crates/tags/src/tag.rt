@@ -24,8 +24,8 @@ impl Model for Tag {
     ghost view = { λ t. t.bytes };
 }
 
-/// Whether both have the same bytes. Goes through all of them where there are as many of both, whatever they are, so
-/// that the time that it takes doesn't depend on where they differ.
+/// Whether both have the same bytes. If the lengths are equal, always goes through all bytes, so that the time that it
+/// takes doesn't depend on where they differ.
 fn is_same(these: &[u8], those: &[u8]) -> bool
     ensures { IsTrue result ↔ (these.now ≡ those.now) }
 {
@@ -47,7 +47,7 @@ impl Tag {
         Tag { bytes }
     }
 
-    /// Its text: 64 lowercase hexadecimal digits.
+    /// The text of the tag: 64 lowercase hexadecimal digits.
     pub fn hex(&self) -> [u8; TAG_DIGITS]
         ensures { result ≡ hex_text self.now }
     {
@@ -57,8 +57,8 @@ impl Tag {
         digits
     }
 
-    /// Whether those digits are its text. Goes through all of them where they are `TAG_DIGITS`, whatever they are, so
-    /// that the time that it takes doesn't tell how many of the first digits of a guess are right.
+    /// Whether those digits are the text of the tag. If there are `TAG_DIGITS` of them, always goes through all, so
+    /// that the time that it takes doesn't reveal how many of the first digits of a guess are right.
     pub fn is_written(&self, digits: &[u8]) -> bool
         ensures { IsTrue result ↔ (digits.now ≡ hex_text self.now) }
     {
@@ -66,8 +66,8 @@ impl Tag {
     }
 }
 
-/// The 64 bytes with which a line begins, and what stands behind them and a space: the digits of a tag and a text, in a
-/// line that has them. `None` where the line is shorter, or has another byte there.
+/// Splits a line into its first 64 bytes and the bytes after a space behind them: the digits of a tag and a text, in a
+/// line that has them. `None` if the line is shorter, or has another byte in place of the space.
 pub fn split_tagged(line: &[u8]) -> Option<(&[u8], &[u8])>
     ensures some { IfSome result (λ parts. IsSplit line.now parts.0.now parts.1.now) }
     ensures none { IfNone result ((digits text : List ℕ) → IsSplit line.now digits text → ⊥) }

@@ -72,7 +72,7 @@ fn gives_the_values_of_rfc_4231(rt: HostRuntime) {
     }
 }
 
-/// The registry of that code, and the log where it is none.
+/// The registry of that code, or the log if it is no code.
 fn registry(first: u8, second: u8) -> Node {
     match Code::new(first, second) {
         Some(code) => Node::Registry(code),
@@ -80,7 +80,7 @@ fn registry(first: u8, second: u8) -> Node {
     }
 }
 
-/// Text of a file of keys, and what reading it returns.
+/// The text of a file of keys, and the result of reading it.
 struct File {
     text: &'static [u8],
     fault: Option<KeysFault>,

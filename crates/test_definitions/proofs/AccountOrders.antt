@@ -1,5 +1,5 @@
 -- Orders about accounts, eligibility, cancellation and acknowledgement: every cause of refusal at once, then one cause
--- less each time; and what follows closing and opening.
+-- less each time; and the effects of closing and opening.
 use Rattle.std.proofs.Common.{◌≡◌, ℕ, true, false, List, [], ◌∷◌, ◌++◌, Some, refl, lit<}
 use Rattle.units.specs.declared.code.Node.TheVariants.{Itl}
 use Rattle.status.specs.declared.id.TransactionId.{TransactionId}
@@ -49,7 +49,7 @@ told t status = comes (notification Itl jp_node t status)
 abbrev used_and_awaited : List Input
 used_and_awaited = passed_on nz1 7 1 ∷ told nz1 notified.Completed ∷ passed_on nz2 7 2 ∷ []
 
--- as if an account that isn't there had come to all of it, and was closed
+-- as if an account that isn't there were the receiver of all of it, and was closed
 abbrev into_nine : TransactionId → Status → Transition
 into_nine t status = record { id = t; new = status; content = Some (terms 1 jp 9 (block 1 1 ∷ [])); moment = 0; messages = [] }
 
@@ -107,7 +107,7 @@ pub open_unknown_before_open : (answers scheme_s nz_node [] (OpenAccount three �
 unfolding verdict
 open_unknown_before_open = (refl, refl, refl)
 
--- ---- what follows closing, and opening again
+-- ---- after closing, and after opening again
 
 abbrev closed : List Input
 closed = CloseAccount two ∷ []

@@ -45,7 +45,7 @@ pub proposed_by_origin : moves scheme_t jp_node credited (orders 7 nz 1 (block 3
 unfolding verdict
 proposed_by_origin = refl
 
--- ---- what is posted, what the log has of it and passes on, and what the record keeps
+-- ---- the posted message, the content that the log has and passes on, and the blocks that the record keeps
 
 abbrev halves : List WorldEvent
 halves = propose nz 1 jp 7 (block 51 60 ∷ block 1 20 ∷ block 21 50 ∷ []) ∷ commit nz_node 1 ∷ post nz_node 0 ∷ deliver 0 ∷ commit Itl 1 ∷ post Itl 0 ∷ []

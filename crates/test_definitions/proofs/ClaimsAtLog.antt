@@ -1,5 +1,5 @@
--- The claims of the log's journals, each of a journal that meets what it asks: a claim whose premises no journal met
--- would say nothing.
+-- The claims about the log's journals, each for a journal that satisfies its premises: a claim whose premises hold for
+-- no journal would state nothing.
 use Rattle.std.proofs.Common.{◌≡◌, [], ◌∷◌, ◌++◌, Some, inr, refl, arith}
 use Rattle.units.specs.declared.code.Node.TheVariants.{Itl}
 use Rattle.status.specs.declared.status.Status.{Status}

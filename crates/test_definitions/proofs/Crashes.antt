@@ -1,4 +1,5 @@
--- What a commit and a crash keep of a tail, what the node has afterwards, and what it takes once it runs again.
+-- The records of a tail that a commit and a crash keep, the node's state afterwards, and the inputs that it takes when
+-- it runs again.
 use Rattle.std.proofs.Common.{◌≡◌, true, false, List, [], ◌∷◌, ◌++◌, Some, None, refl, lit<}
 use Rattle.std.specs.Prelude.{take}
 use Rattle.units.specs.declared.code.Node.TheVariants.{Itl}
@@ -87,7 +88,7 @@ pub restarted_with_all : outcomes (after tail_of_three) (crash nz_node 3 ∷ res
 unfolding step verdict
 restarted_with_all = refl
 
--- ---- what was lost gives its units and its number back, what was kept has them, and its message may be posted
+-- ---- a lost record gives its units and its number back, a kept one has them, and its message may be posted
 
 abbrev two_orders : List WorldEvent
 two_orders = propose nz 1 jp 7 (block 1 10 ∷ []) ∷ propose nz 1 jp 7 (block 11 20 ∷ []) ∷ []

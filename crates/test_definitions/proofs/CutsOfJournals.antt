@@ -1,4 +1,4 @@
--- What events commit, and which of them commit the furthest cut of journals.
+-- The records that events commit, and which events commit the furthest cut of journals.
 use Rattle.std.proofs.Common.{◌≡◌, List, [], ◌∷◌, refl, sym, append-nil}
 use Rattle.units.specs.declared.code.Node.{Node}
 use Rattle.wire.specs.declared.input.Input.{Input}
@@ -26,7 +26,7 @@ pub none_elsewhere : committed_by scheme_s committed jp_node ≡ []
 unfolding step verdict
 none_elsewhere = refl
 
--- what a node took is no record of its journal before it is committed
+-- a record that a node took is not in its journal before it is committed
 pub not_before_the_commit : committed_by scheme_s taken nz_node ≡ []
 unfolding step verdict
 not_before_the_commit = refl

@@ -1,4 +1,5 @@
--- What single definitions come to where nothing is known: no registry, no owner, no content, no position and no moment.
+-- The values of single definitions where nothing is known: no registry, no owner, no content, no position and no
+-- moment.
 use Rattle.std.proofs.Common.{◌≡◌, false, [], ◌∷◌, None, map, refl}
 use Rattle.units.specs.declared.block.Kind.TheVariants.{Aau}
 use Rattle.wire.specs.declared.input.Input.TheVariants.{Request}

@@ -1,5 +1,5 @@
--- Histories of which a claim doesn't hold: a claim that could not fail would say nothing. Most are those of forged
--- journals, whose nodes received what nobody sent.
+-- Histories for which a claim doesn't hold: a claim that could not fail would state nothing. Most histories are those
+-- of forged journals, whose nodes received messages that nobody sent.
 use Rattle.std.proofs.Common.{◌≡◌, ◌⊎◌, ◌∙◌, ◌&&◌, ℕ, zero, suc, ◌+◌, ◌≤◌, ◌<◌, Bool, true, false, List, [], ◌∷◌, Option, Some, None, cond, inl, inr, refl, ap, subst, arith, get_or}
 use Rattle.std.specs.List.{count_by}
 use Rattle.std.specs.Option.{option_map_or}
@@ -23,7 +23,7 @@ use Rattle.protocol.proofs.WorkedScheme.{nz, jp, nz_node, jp_node, block, unit, 
 use Rattle.test_definitions.proofs.ShortNames.{au, jp1, nz9, terms, to_jp, proposes, comes, orders, has, world_with, both_have, told_jp, first_unit, completes, one_entry, both_made}
 use Rattle.test_definitions.proofs.ThreeRegistries.{au_node, scheme_t}
 
--- NZ orders a transfer of its first unit, and is told this of it
+-- NZ orders a transfer of its first unit, and gets this notification about it
 abbrev told_nz : NotifiedStatus → List Input
 told_nz status = orders 1 jp 7 (block 1 1 ∷ []) ∷ comes (notification Itl nz_node nz1 status) ∷ []
 
@@ -66,7 +66,7 @@ at_au =
     ∷ comes (notification Itl au_node au1 notified.Accepted)
     ∷ []
 
--- NZ has its first unit, JP has it too, and AU, which was told that it had it, owes it to JP
+-- NZ has its first unit, JP has it too, and AU owes it to JP after a notification that AU had it
 abbrev held_and_owed : Node → List Entry
 held_and_owed = committed_of (world_with scheme_t (has Itl [] ∷ has au_node at_au ∷ has jp_node (told_jp nz9 first_unit) ∷ has nz_node [] ∷ []))
 
@@ -123,7 +123,7 @@ completed_and_cancelled h =
     let e : Cancelled ≡ Completed = ap (λ o. option_map_or (λ (x : Transition). x.new) o Proposed) (h give (1, (omega arith), refl) refl).0 in
     cc (e)
 
--- what is completed counts, whatever else came before it
+-- a completed transfer counts, regardless of the records before it
 abbrev over_cancelled : List Transition
 over_cancelled = give ∷ cancels nz1 ∷ []
 

@@ -1,4 +1,5 @@
--- Findings of the log and of an acquirer: all at once, then one less each time; each alone, and next to what isn't one.
+-- Findings of the log and of an acquirer: all at once, then one less each time; each alone, and beside a case that is
+-- none.
 use Rattle.std.proofs.Common.{◌≡◌, ℕ, true, false, List, [], ◌∷◌, ◌++◌, Some, refl, lit<}
 use Rattle.units.specs.declared.block.Kind.TheVariants.{Rmu, Cer}
 use Rattle.units.specs.declared.block.RawBlock.{RawBlock}
@@ -20,7 +21,7 @@ use Rattle.test_definitions.proofs.ThreeRegistries.{au_node, jp_block, scheme_t}
 
 -- ---- at the log
 
--- what it finds in a proposal of that initiator
+-- its findings for a proposal of that initiator
 abbrev finds : List Input → Code → Content → List ℕ
 finds journal c k = log_findings scheme_t (ledger scheme_t (history scheme_t Itl journal)) c k
 
@@ -73,7 +74,7 @@ pub kind_before_eligible : (finds barred nz (to jp kind_differs) ≡ 206 ∷ 207
 unfolding verdict
 kind_before_eligible = (refl, refl, refl)
 
--- the acquirer is the initiator, or isn't in the scheme, of which AU isn't one
+-- the acquirer is the initiator, or isn't in the scheme; AU isn't in it
 pub wrong_acquirer : (finds [] nz (to nz (block 3 3 ∷ [])) ≡ 201 ∷ [])
     × (log_findings scheme_s (ledger scheme_s []) nz (to au (block 3 3 ∷ [])) ≡ 201 ∷ [])
     × (log_findings scheme_s (ledger scheme_s []) nz (to nz (block 3 3 ∷ [])) ≡ 201 ∷ [])
@@ -164,7 +165,7 @@ pub one_kind_of_two : (meets [] 7 not_taken ≡ 304 ∷ []) × (meets [] 7 (bloc
 unfolding verdict
 one_kind_of_two = (refl, refl, refl, refl, refl)
 
--- an account that isn't there isn't closed, whatever was ordered; one that was opened again is open
+-- an account that isn't there isn't closed, regardless of the orders; one that was opened again is open
 pub closed_accounts : (meets (CloseAccount (number 9 (lit< tt)) ∷ []) 9 (block 1 1 ∷ []) ≡ 301 ∷ [])
     × (meets (closed ++ OpenAccount (number 8 (lit< tt)) ∷ []) 8 (block 1 1 ∷ []) ≡ [])
     × (meets (closed ++ OpenAccount (number 8 (lit< tt)) ∷ closed) 8 (block 1 1 ∷ []) ≡ 302 ∷ [])
@@ -196,7 +197,7 @@ pub kinds_by_registry : (moves scheme_t au_node [] (comes (proposes Itl au_node 
 unfolding verdict
 kinds_by_registry = (refl, refl, refl)
 
--- what the findings come to: all of them, in their order, told to the log
+-- all of the findings, in their order, are sent to the log
 pub rejected_with_all : moves scheme_t jp_node closed (comes (proposes Itl jp_node nz2 proposal.Checked (terms 1 jp 8 (not_taken ++ jp_block 10 11 ∷ []))))
     ≡ record { id = nz2; new = Rejected; content = Some (terms 1 jp 8 (not_taken ++ jp_block 10 11 ∷ [])); messages = notification jp_node Itl nz2 (notified.Rejected (302 ∷ 303 ∷ 304 ∷ [])) ∷ [] } ∷ []
 unfolding verdict

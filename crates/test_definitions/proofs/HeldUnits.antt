@@ -1,5 +1,5 @@
--- Where a unit is held, of which kind, and for which transfer it is reserved; units of other origins and periods; and how
--- all of it is read off a tail.
+-- Where a unit is held, its kind, and the transfer for which it is reserved; units of other origins and periods; and
+-- how all of it is read from a tail.
 use Rattle.std.proofs.Common.{◌≡◌, ℕ, true, false, List, [], ◌∷◌, ◌++◌, map, Option, Some, None, refl, lit<}
 use Rattle.units.specs.declared.block.Kind.TheVariants.{Aau, Rmu, Cer}
 use Rattle.units.specs.declared.block.Period.TheVariants.{Second}
@@ -57,7 +57,7 @@ pub held_after_return : (answers scheme_t nz_node given (orders 1 jp 7 (block 2 
 unfolding verdict
 held_after_return = (refl, refl)
 
--- two transfers, of which one ends
+-- two transfers, one of which ends
 abbrev two_under_way : List Input
 two_under_way = orders 1 jp 7 (block 1 2 ∷ []) ∷ orders 1 jp 7 (block 3 4 ∷ []) ∷ comes (notification Itl nz_node nz1 (notified.Rejected (303 ∷ []))) ∷ []
 

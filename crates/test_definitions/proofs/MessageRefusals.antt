@@ -1,5 +1,5 @@
--- Messages: every cause of refusal at once, then one cause less each time, at the log and at a registry; and which party
--- may say what.
+-- Messages: every cause of refusal at once, then one cause less each time, at the log and at a registry; and which
+-- party may send which message.
 use Rattle.std.proofs.Common.{◌≡◌, List, [], ◌∷◌, ◌++◌, map, refl}
 use Rattle.units.specs.declared.block.Kind.TheVariants.{Cer}
 use Rattle.units.specs.declared.code.Node.{Node}
@@ -16,7 +16,7 @@ use Rattle.protocol.proofs.WorkedScheme.{nz, jp, nz_node, jp_node, block, block_
 use Rattle.test_definitions.proofs.ShortNames.{au, jp1, nz9, scheme_of_two, terms, to_jp, proposes, asks, comes, orders, Answer, recorded, again, refused, answers}
 use Rattle.test_definitions.proofs.ThreeRegistries.{au_node, jp_block, scheme_t}
 
--- what the node answers to each message after the journal
+-- the node's answer to each message after the journal
 abbrev replies : Scheme → Node → List Input → List Message → List Answer
 replies scheme n journal messages = answers scheme n journal (map comes messages)
 
@@ -176,7 +176,8 @@ pub passed_on_status_before_room : at_jp (proposes Itl jp_node nz2 proposal.Prop
 unfolding verdict
 passed_on_status_before_room = refl
 
--- each way in which it isn't for this registry, alone: another acquirer, an identifier of its own, blocks that share a unit
+-- each way in which it isn't for this registry, alone: another acquirer, an identifier of its own, and blocks that
+-- share a unit
 pub not_for_this_registry : replies scheme_s jp_node [] (proposes Itl jp_node nz1 proposal.Checked (terms 1 nz 7 (block 1 9 ∷ []))
     ∷ proposes Itl jp_node jp1 proposal.Checked nine
     ∷ proposes Itl jp_node nz1 proposal.Checked crossing

@@ -24,7 +24,7 @@ use Rattle.test_definitions.proofs.ShortNames.{au, nz3, to_jp, proposes, orders,
 abbrev before : List Input
 before = orders 1 jp 7 (block 91 100 ∷ []) ∷ CloseAccount (number 2 (lit< tt)) ∷ []
 
--- what each block offends against stands behind what comes later: reserved, not held, there twice, out of range
+-- the faults of each block, hidden behind a later one: reserved, not held, there twice, out of range
 abbrev reserved_block : List RawBlock
 reserved_block = block 95 95 ∷ []
 
@@ -71,7 +71,8 @@ pub acquirer_before_receiving_account : after (orders 1 au 0 (block 1 3 ∷ []) 
 unfolding verdict
 acquirer_before_receiving_account = refl
 
--- the same by the other half of each cause: no block, the number 0, an account that isn't there, a kind, this registry, a number too great
+-- the same by the other half of each cause: no block, the number 0, an account that isn't there, a kind, this registry,
+-- and a number that is too great
 pub other_halves : after (orders 3 nz 1_000_000_000 []
     ∷ orders 3 nz 1_000_000_000 (block 95 95 ∷ block_of Rmu 1 1 ∷ block 1 1 ∷ block 0 0 ∷ [])
     ∷ orders 3 nz 1_000_000_000 (block 95 95 ∷ block_of Rmu 1 1 ∷ block 1 1 ∷ [])
@@ -142,7 +143,7 @@ greatest = record { account = 1; acquirer = jp; to_account = 999_999_999; units 
 pub all_limits_at_once : codes_of (propose_refusals scheme_s nz all_free greatest) ≡ []
 all_limits_at_once = refl
 
--- ---- numbers are given in order, whatever else is recorded between
+-- ---- numbers are given in order, regardless of the records between them
 
 pub numbers_in_order : (moves scheme_s nz_node (CloseAccount (number 2 (lit< tt)) ∷ orders 1 jp 7 (block 1 1 ∷ []) ∷ OpenAccount (number 2 (lit< tt)) ∷ []) (orders 1 jp 7 (block 2 2 ∷ []))
     ≡ record { id = nz2; new = Proposed; content = Some (to_jp (block 2 2 ∷ [])); messages = proposes nz_node Itl nz2 proposal.Proposed (to_jp (block 2 2 ∷ [])) ∷ [] } ∷ [])

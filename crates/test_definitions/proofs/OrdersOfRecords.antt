@@ -1,5 +1,5 @@
--- Records that are next in their turn, and journals that can't be followed; journals that replay, and the first record of
--- one that doesn't; and codes by which nothing is refused.
+-- Records that are next in their turn, and journals that can't be followed; journals that replay, and the first record
+-- of one that doesn't; and codes with which nothing is refused.
 use Rattle.std.proofs.Common.{◌≡◌, ℕ, zero, suc, ◌<◌, true, false, List, [], ◌∷◌, Option, Some, inl, inr, refl, ap, subst, arith}
 use Rattle.std.specs.Prelude.{Result, Ok, Err, Contains, unwrap_or}
 use Rattle.units.specs.declared.code.Node.{Node}
@@ -36,7 +36,7 @@ placed n input = record { node = n; input = input }
 abbrev nothing : Node → List Input
 nothing n = []
 
--- ---- received after it was sent, by whom it was sent to
+-- ---- received after it was sent, by the node to which it was sent
 
 abbrev nz_ordered : Node → List Input
 nz_ordered = journals_of (placed nz_node order ∷ [])
@@ -112,7 +112,7 @@ letter (Registry c) = c.first
 pub given_to_another : Gives (opening scheme_s) (Take jp_node order) nz_node order → ⊥
 given_to_another h = let e : ◌≡◌ {A = ℕ} 74 78 = ap letter h.0 in omega arith
 
--- ---- journals that events come to, worlds that are stuck, and quiet ones
+-- ---- journals that events lead to, worlds that are stuck, and quiet ones
 
 abbrev ordered : Node → List Input
 ordered n = order ∷ []
@@ -152,7 +152,7 @@ pub second_not_recorded : IsFirstNotRecorded scheme_s nz_node (order ∷ order �
 unfolding verdict
 second_not_recorded = record { input = order; is = refl; refused = λ e. cc (e); before = replays_one }
 
--- what comes after it plays no part
+-- the inputs after it play no part
 pub second_of_three_not_recorded : IsFirstNotRecorded scheme_s nz_node (order ∷ order ∷ order ∷ []) 1
 unfolding verdict
 second_of_three_not_recorded = record { input = order; is = refl; refused = λ e. cc (e); before = replays_one }

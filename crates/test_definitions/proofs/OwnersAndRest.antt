@@ -1,4 +1,5 @@
--- Who owns a unit before a transfer, on the way and after it, histories with two owners, and worlds that are not at rest.
+-- Who owns a unit before a transfer, on the way and after it; histories with two owners; and worlds that are not at
+-- rest.
 use Rattle.std.proofs.Common.{◌≡◌, ◌⊎◌, ℕ, ◌+◌, ◌≤◌, Bool, true, false, List, [], ◌∷◌, Option, Some, None, inl, inr, refl, ap, ◌∙◌, arith}
 use Rattle.std.specs.Prelude.{take}
 use Rattle.std.specs.Option.{option_map_or}
@@ -41,7 +42,7 @@ owing = record { last = made Completed; is = refl; new = refl; has = refl; waits
 pub owned_after : Owns scheme_s at_the_end (unit 1) (At jp)
 owned_after = (refl, refl)
 
--- ---- no debt before it is completed, after it was received, and of a unit that isn't in it
+-- ---- no debt before it is completed, after it was received, and for a unit that isn't in it
 
 abbrev status_in : Option Transition → Status
 status_in last = option_map_or (λ x. x.new) last Checked
@@ -61,7 +62,7 @@ no_debt_after o = let e : true ≡ false = ap (is_received at_the_end nz1) (ap c
 pub no_debt_of_others : Owing on_the_way (unit 2) nz1 → ⊥
 no_debt_of_others o = let e : false ≡ true = ap has_second o.is ∙ o.has in cc (e)
 
--- ---- who doesn't hold it doesn't own it, nor does who is no registry of the scheme
+-- ---- a registry that doesn't hold it doesn't own it, nor does a node that is no registry of the scheme
 
 pub not_owned_by_jp : Owns scheme_s before (unit 1) (At jp) → ⊥
 not_owned_by_jp h = let e : false ≡ true = h.1 in cc (e)

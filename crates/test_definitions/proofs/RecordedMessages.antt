@@ -1,4 +1,4 @@
--- What a journal's records did to messages, the records with one more, and what becomes of an input at them.
+-- The effects of a journal's records on messages, the records with one more, and the results of inputs at them.
 use Rattle.std.proofs.Common.{◌≡◌, ℕ, zero, suc, true, false, List, [], ◌∷◌, length, Option, Some, None, ◌⊎◌, inl, inr, refl, ap, subst, arith}
 use Rattle.std.specs.Prelude.{Result, Ok, Err, unwrap_or}
 use Rattle.units.specs.declared.code.Node.TheVariants.{Itl}
@@ -20,7 +20,7 @@ use Rattle.test_definitions.proofs.ShortNames.{Answer, orders, proposes, recorde
 abbrev order : Input
 order = orders 1 jp 7 (block 1 1 ∷ [])
 
--- what NZ sends for it
+-- the message that NZ sends for it
 abbrev proposed : Message
 proposed = proposes nz_node Itl nz1 proposal.Proposed (to_jp (block 1 1 ∷ []))
 
@@ -28,7 +28,7 @@ proposed = proposes nz_node Itl nz1 proposal.Proposed (to_jp (block 1 1 ∷ []))
 abbrev acknowledged : Input
 acknowledged = Ack (number 0 (omega arith))
 
--- ---- what each record did
+-- ---- the effect of each record
 
 pub orders_send : did order (proposed ∷ []) ≡ Sends (proposed ∷ [])
 orders_send = refl
@@ -40,7 +40,7 @@ pub oldest_first : outgoing (history scheme_s nz_node (order ∷ acknowledged �
 unfolding verdict
 oldest_first = refl
 
--- only a record that acknowledges that very key, wherever it stands
+-- only a record that acknowledges exactly that key, wherever it stands
 abbrev second_key : List Sent
 second_key = Sends (proposed ∷ []) ∷ Acknowledges 1 ∷ Sends [] ∷ []
 
@@ -93,7 +93,7 @@ full_before_it_is h = full h.1
 pub failed_and_kept : admits none one (fails 50) → ⊥
 failed_and_kept h = let e : ◌≡◌ {A = ℕ} 1 0 = ap (λ (r : RecordsView). length r.inputs) h.0 in omega arith
 
--- ---- what becomes of an input
+-- ---- the results of inputs
 
 abbrev takes : RecordsView → RecordsView → Input → Answer → Type 0
 takes old new input result = TakesInto scheme_s nz_node old new input result
@@ -123,7 +123,7 @@ taken_and_not_kept h = let e : ◌≡◌ {A = ℕ} 0 1 = ap (λ (is : List Input
 pub failed_and_taken : takes none one order (refused 50) → ⊥
 failed_and_taken h = let e : ◌≡◌ {A = ℕ} 1 0 = ap (λ (is : List Input). length is) h.journal_is in omega arith
 
--- what a record sent has to be there
+-- a message that a record sent must be there
 abbrev silent : RecordsView
 silent = record { inputs = order ∷ []; sent = Sends [] ∷ [] }
 

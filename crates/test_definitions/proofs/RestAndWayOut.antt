@@ -1,5 +1,5 @@
--- What follows from claims of worlds at rest, of ways out and of stuck worlds, each at a world of its own; and worlds that
--- are not quiet.
+-- Consequences of the claims about worlds at rest, ways out and stuck worlds, each at a world of its own; and worlds
+-- that are not quiet.
 use Rattle.std.proofs.Common.{◌≡◌, ◌+◌, ◌≤◌, true, List, [], ◌∷◌, refl, ap, ◌∙◌}
 use Rattle.std.specs.Prelude.{Contains, take}
 use Rattle.units.specs.declared.code.Code.{Code}
@@ -23,7 +23,7 @@ use Rattle.test_definitions.proofs.ShortNames.{comes, orders, proposes, to_jp}
 abbrev first : World
 first = opening scheme_s
 
--- ---- at rest no transaction is open in what is committed, and each allotted unit is spendable in what is committed
+-- ---- at rest, by committed records, no transaction is open and each allotted unit is spendable
 
 pub none_open_at_rest : AtRest first → IsOpen (committed_of first) nz1 → ⊥
 none_open_at_rest rest = rest.closed nz1
@@ -45,7 +45,7 @@ pub room_beside_the_tail : HasRoom ordered 3 → 1 + 3 ≤ 1000
 unfolding step verdict
 room_beside_the_tail room = room nz_node
 
--- ---- what an event gives: the message by its number in the bag, to whom it is for
+-- ---- the input that an event gives: the message with its number in the bag, to its addressee
 
 abbrev proposal_posted : World
 proposal_posted = after (take 3 transfer)

@@ -1,5 +1,5 @@
--- What a role decides by its causes and its row, what a journal is after an answer, the codes by which messages are
--- refused, and journals told by an order of their records.
+-- The decision of a role by its causes and its row, the journal after an answer, the codes with which messages are
+-- refused, and journals given by an order of their records.
 use Rattle.std.proofs.Common.{◌≡◌, true, false, List, [], ◌∷◌, map, refl}
 use Rattle.std.specs.Prelude.{Result, Ok, Err}
 use Rattle.units.specs.declared.code.Node.TheVariants.{Itl}
@@ -24,7 +24,7 @@ use Rattle.protocol.specs.Weave.{Placed, journals_of}
 use Rattle.protocol.proofs.WorkedScheme.{jp, nz_node, jp_node, block, nz1, notification}
 use Rattle.test_definitions.proofs.ShortNames.{comes, orders, recorded, again, late, refused}
 
--- ---- the first cause that holds decides, else what follows
+-- ---- the first cause that holds decides, else the later part
 
 abbrev causes : Causes
 causes = (false, 101) ∷ (true, 103) ∷ (true, 102) ∷ (false, 104) ∷ []
@@ -43,7 +43,7 @@ decides decision = Ok decision
 pub decided_by_row : (decided (row.Move Completed) ≡ decides (decision.Moves Completed)) × (decided row.Repeat ≡ decides (decision.Stays stale.Repeat)) × (decided row.Late ≡ decides (decision.Stays stale.Late)) × (decided row.Refused ≡ Err (record { code = 46 }))
 decided_by_row = (refl, refl, refl, refl)
 
--- ---- what becomes of an input that changes nothing, and its outcome
+-- ---- the results of inputs that change nothing, and their outcomes
 
 pub step_of_stale : (step_of stale.Repeat ≡ stepped.Repeat) × (step_of stale.Late ≡ stepped.Late)
 step_of_stale = (refl, refl)

@@ -1,5 +1,5 @@
--- Each row of the log's table in a journal: what moves and which messages go out, what is a repeat, late or refused, and
--- what is still answered where the journal is full.
+-- Each row of the log's table in a journal: which status changes and which messages go out, what is a repeat, late or
+-- refused, and which inputs still have their answer where the journal is full.
 use Rattle.std.proofs.Common.{◌≡◌, List, [], ◌∷◌, ◌++◌, Some, None, refl}
 use Rattle.units.specs.declared.code.Node.TheVariants.{Itl}
 use Rattle.status.specs.declared.status.Status.TheVariants.{Checked, Accepted, Rejected, Terminated, Cancelled, Completed}
@@ -15,7 +15,7 @@ use Rattle.test_definitions.proofs.ShortNames.{scheme_of_two, to_jp, proposes, a
 abbrev proposed : Message
 proposed = proposes nz_node Itl nz1 proposal.Proposed (to_jp all_units)
 
--- a unit that nobody was allotted is among them
+-- the units include one that nobody was allotted
 abbrev with_finding : Message
 with_finding = proposes nz_node Itl nz1 proposal.Proposed (to_jp (block 100 101 ∷ []))
 
@@ -31,7 +31,7 @@ is_completed = notification nz_node Itl nz1 notified.Completed
 abbrev pub request : Message
 request = asks nz_node Itl nz1
 
--- ---- journals by which the transaction stands so
+-- ---- journals that bring the transaction to each status
 
 abbrev checked : List Input
 checked = comes proposed ∷ []
@@ -58,7 +58,7 @@ completed = accepted ++ comes is_completed ∷ []
 abbrev asked_alone : List Input
 asked_alone = comes request ∷ []
 
--- ---- what each record does
+-- ---- the effect of each record
 
 pub checking : moves scheme_s Itl [] (comes proposed)
     ≡ record { id = nz1; new = Checked; content = Some (to_jp all_units); messages = proposes Itl jp_node nz1 proposal.Checked (to_jp all_units) ∷ [] } ∷ []
@@ -102,7 +102,7 @@ cancelling_what_never_came = refl
 
 -- ---- the same inputs at each status
 
--- each from the party that may say so
+-- each from the party that may send it
 abbrev inputs : List Input
 inputs = comes is_accepted
     ∷ comes is_rejected
@@ -165,12 +165,12 @@ pub proposed_again : (answers scheme_s Itl checked checked ≡ again ∷ [])
 unfolding verdict
 proposed_again = (refl, refl, refl, refl, refl, refl, refl)
 
--- after a cancellation that came first it is late, whatever would be found
+-- after an earlier cancellation it is late, regardless of the findings
 pub proposed_after_cancellation : answers scheme_s Itl asked_alone (comes proposed ∷ comes with_finding ∷ []) ≡ late ∷ late ∷ []
 unfolding verdict
 proposed_after_cancellation = refl
 
--- ---- where the journal is full, what would be recorded is refused, and all else is answered as before
+-- ---- where the journal is full, recording is refused, and every other answer is as before
 
 pub full_after_checked : answers scheme_of_one Itl checked (comes proposed ∷ inputs) ≡ again ∷ refused 49 ∷ refused 49 ∷ refused 46 ∷ refused 46 ∷ refused 46 ∷ refused 49 ∷ refused 49 ∷ []
 unfolding verdict

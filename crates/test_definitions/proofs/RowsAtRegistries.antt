@@ -1,5 +1,5 @@
--- Each row of the initiator's and of the acquirer's table in a journal: what moves and which messages go out, what is a
--- repeat, late or refused, and what becomes of the units.
+-- Each row of the initiator's and of the acquirer's table in a journal: which status changes and which messages go out,
+-- what is a repeat, late or refused, and where the units are.
 use Rattle.std.proofs.Common.{◌≡◌, Bool, true, false, List, [], ◌∷◌, ◌++◌, map, Some, None, refl}
 use Rattle.units.specs.declared.code.Code.{Code}
 use Rattle.units.specs.declared.code.Node.TheVariants.{Itl, Registry}
@@ -57,7 +57,7 @@ pub requesting : moves scheme_s nz_node proposed (Request nz1)
 unfolding verdict
 requesting = refl
 
--- what the log may tell it, and the order to ask for cancellation
+-- the notifications that the log may send it, and the order to ask for cancellation
 abbrev at_nz : List Input
 at_nz = told_nz notified.Accepted ∷ told_nz rejection ∷ told_nz termination ∷ told_nz notified.Cancelled ∷ told_nz notified.Completed ∷ Request nz1 ∷ []
 
@@ -197,7 +197,7 @@ pub passed_on_again : (answers scheme_s jp_node accepted (comes passed_on ∷ []
 unfolding verdict
 passed_on_again = (refl, refl, refl, refl)
 
--- after a cancellation that came first it is late, whatever would be found
+-- after an earlier cancellation it is late, regardless of the findings
 pub passed_on_after_cancellation : answers scheme_s jp_node cancelled_first (comes passed_on ∷ comes to_nine ∷ []) ≡ late ∷ late ∷ []
 unfolding verdict
 passed_on_after_cancellation = refl

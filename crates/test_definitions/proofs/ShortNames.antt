@@ -1,4 +1,4 @@
--- Short names for messages and inputs, for what a node answers to inputs after a journal, and for worlds with given
+-- Short names for messages and inputs, for a node's answers to inputs after a journal, and for worlds with given
 -- journals.
 use Rattle.std.proofs.Common.{ℕ, true, List, [], ◌∷◌, map, Option, cond, refl, lit≤, lit<}
 use Rattle.std.specs.Prelude.{Result, Ok, Err}
@@ -85,7 +85,7 @@ comes m = input.Received m first_of_may
 abbrev pub orders : ℕ → Code → ℕ → List RawBlock → Input
 orders account to to_account units = input.Propose (record { account = account; acquirer = to; to_account = to_account; units = units })
 
--- ---- what a node answers to each of these inputs after the journal
+-- ---- the node's answer to each of these inputs after the journal
 
 abbrev pub Answer : Type 0
 Answer = Result Stepped Refusal
@@ -105,7 +105,7 @@ refused code = Err (record { code = code })
 abbrev pub answers : Scheme → Node → (journal inputs : List Input) → List Answer
 answers scheme n journal inputs = map (answer scheme n journal) inputs
 
--- ---- what it records of transactions, and the messages that go out
+-- ---- its records of transactions, and the messages that go out
 
 pub record Moved : Type 0 where
   pub id : TransactionId
@@ -128,7 +128,7 @@ world_with scheme stations = record { scheme = scheme; stations = stations; bag 
 abbrev pub both_have : (at_nz at_jp : List Input) → Node → List Entry
 both_have at_nz at_jp = committed_of (world_with scheme_s (has Itl [] ∷ has jp_node at_jp ∷ has nz_node at_nz ∷ []))
 
--- JP is told of a transfer of these units that it is completed
+-- JP gets the notification that a transfer of these units is completed
 abbrev pub told_jp : TransactionId → Content → List Input
 told_jp t k = comes (proposes Itl jp_node t proposal.Checked k) ∷ comes (notification Itl jp_node t notified.Completed) ∷ []
 

@@ -1,4 +1,5 @@
--- The three status tables whole: what each input does at all that a node can have recorded of a transaction.
+-- The three status tables as a whole: the effect of each input at every status that a node can have recorded for a
+-- transaction.
 use Rattle.std.proofs.Common.{◌≡◌, List, [], ◌∷◌, map, refl}
 use Rattle.status.specs.Rows.{row_of}
 use Rattle.status.specs.declared.rows.RecordedStatus.{RecordedStatus}
@@ -14,12 +15,12 @@ use Rattle.status.specs.declared.status.Status.TheVariants.{Proposed, Checked, A
 abbrev no : Row
 no = Refused
 
--- ---- the columns: what is proposed, what a notification tells, orders and requests
+-- ---- the columns: the proposal, the notifications, orders and requests
 
 abbrev proposals : List RowInput
 proposals = ProposalWithoutFinding ∷ ProposalWithFindings ∷ EqualProposal ∷ []
 
--- no proposal is equal to what a record without content holds
+-- no proposal equals the content of a record without content
 abbrev new_proposals : List RowInput
 new_proposals = ProposalWithoutFinding ∷ ProposalWithFindings ∷ []
 

@@ -1,5 +1,5 @@
--- A scheme of three registries as a value: AU, which has nothing and may not take part at the start, JP and NZ with units
--- of their own, NZ's of three kinds.
+-- A scheme of three registries as a value: AU, which has nothing and may not take part at the start, and JP and NZ with
+-- units of their own. NZ's units are of three kinds.
 use Rattle.std.proofs.Common.{◌≡◌, ℕ, ◌<◌, true, false, List, [], ◌∷◌, map, refl, ap, arith, lit≤, lit<}
 use Rattle.std.specs.List.{AllByRecursion}
 use Rattle.units.proofs.SharedUnits.{apart_from}

@@ -20,15 +20,15 @@ use trace::trace;
 use weave::Nobody;
 use world::World;
 
-/// What the audit of an example's journals comes to.
+/// The result of an audit of an example's journals.
 #[derive(Clone, Copy, Debug, PartialEq, Eq)]
 pub enum Audited {
-    /// It writes the table that `rehearse` wrote, of the furthest cut too, and the run that `events` writes is rehearsed
-    /// to the same table.
+    /// It writes the table that `rehearse` wrote, also for the furthest cut, and the run that `events` writes is
+    /// rehearsed to the same table.
     Same,
     /// It writes something else, or fails.
     Otherwise,
-    /// A node has records that aren't committed, or the input is none, so that there is nothing to audit.
+    /// There is nothing to audit: a node has uncommitted records, or the input isn't valid.
     Nothing,
 }
 
@@ -51,7 +51,7 @@ fn is_listed(alloc: Global, scheme: &Scheme, stores: &mut [MemoryStore], table: 
     rehearse(alloc, &mut reader, &mut report).is_ok() && report.as_slice().ends_with(table)
 }
 
-/// Whether nothing is left of these stores beyond their furthest cut, whose table is this one.
+/// Whether no record of these stores is left beyond their furthest cut, whose table is this one.
 fn is_whole(alloc: Global, scheme: &Scheme, stores: &mut [MemoryStore], table: &[u8]) -> bool
     requires { length stores.old ≡ length (nodes scheme.now) }
 {
@@ -60,7 +60,7 @@ fn is_whole(alloc: Global, scheme: &Scheme, stores: &mut [MemoryStore], table: &
         && cut.as_slice() == table
 }
 
-/// What an audit of the world's journals comes to.
+/// The result of an audit of the world's journals.
 fn audit_world(
     alloc: Global,
     scheme: &Scheme,
@@ -93,7 +93,7 @@ fn audit_of(alloc: Global, input: &str, output: &str) -> Option<Audited> {
     audit_world(alloc, &scheme, &world, lines, output)
 }
 
-/// What an audit of the journals comes to that the events of the input lead to, where `rehearse` wrote that output.
+/// The result of an audit of the journals that the events of the input lead to, where `rehearse` wrote that output.
 pub fn audit_journals(alloc: Global, input: &str, output: &str) -> Audited {
     match audit_of(alloc, input, output) {
         Some(outcome) => outcome,
@@ -101,8 +101,8 @@ pub fn audit_journals(alloc: Global, input: &str, output: &str) -> Audited {
     }
 }
 
-/// What `audit --cut` writes of the stores that the events of the input lead to, of which some keep first records alone,
-/// and its fault. `None` where there are no such stores.
+/// The text that `audit --cut` writes of the stores that the events of the input lead to, where some stores keep only
+/// first records, and the fault. Returns `None` where there are no such stores.
 pub fn cut_of(
     alloc: Global,
     input: &str,
@@ -124,18 +124,18 @@ pub fn cut_of(
     Some((written, done))
 }
 
-/// A command that writes what it finds in stores.
+/// A command that writes its findings in stores.
 #[derive(Clone, Copy, Debug, PartialEq, Eq)]
 pub enum Command {
     Audit,
     Events,
     Trace,
-    /// Of the initiator.
+    /// Shows the store of the initiator.
     Show,
 }
 
-/// Has the command write what it finds of the transaction in the stores. `None` where it fails, or there is no store of
-/// the initiator.
+/// Has the command write its findings about the transaction in the stores. Returns `None` where it fails, or the
+/// initiator has no store.
 fn write_found(
     alloc: Global,
     scheme: &Scheme,
@@ -161,8 +161,8 @@ fn write_found(
     Some(written)
 }
 
-/// What the command writes of the transaction in the stores that the events of the input lead to. `None` where there are
-/// no such stores, or it fails.
+/// The text that the command writes about the transaction in the stores that the events of the input lead to. Returns
+/// `None` where there are no such stores, or the command fails.
 pub fn found_in(
     alloc: Global,
     input: &str,

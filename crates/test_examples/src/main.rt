@@ -1,14 +1,17 @@
-//! Runs the examples that its words name, and tells of each whether it comes to what its folder has.
+//! Runs the examples that its words name, and prints for each whether the results are those in its folder.
 //!
-//! An example is a folder with the file `input`, and beside it `output`, what `rehearse` writes of it, or `error`,
-//! the line of its fault, and for some also `chart.mmd`, what `chart` writes of it; where all records are committed in
-//! the end, stores with the journals are audited to the table of that output. Or it is a folder with the file `words`,
-//! words of a command line, and beside it `output`, the help or the version that they ask for, or `error`, what is
-//! written of wrong words, before each line gets the program's name. Or it has the file `word`, a topic, and beside it
-//! `output`, what `explain` writes of it, or `error`; or `id`, a transaction, with `output`, its trace in the stores that
-//! the events of `input` lead to; or `kept`, how many records some of these stores have, with `output`, what `audit --cut`
-//! writes of them, and `error`. With the file `json`, which names a transaction, it has what commands write as JSON: in
-//! files named after them, or in `output` beside `kept`.
+//! An example is a folder with the file `input`, and beside it `output`, the text that `rehearse` writes for it, or
+//! `error`, the line of its fault. Some also have `chart.mmd`, the text that `chart` writes. Where all records are
+//! committed in the end, stores with the journals are audited to the table of that output.
+//!
+//! Or it is a folder with the file `words`, words of a command line, and beside it `output`, the help or the version
+//! that they ask for, or `error`, the text for wrong words, before each line gets the program's name.
+//!
+//! Or it has the file `word`, a topic, and beside it `output`, the text that `explain` writes, or `error`; or `id`, a
+//! transaction, with `output`, its trace in the stores that the events of `input` lead to; or `kept`, the numbers of
+//! records that some of these stores have, with `output`, the text that `audit --cut` writes, and `error`. With the
+//! file `json`, which names a transaction, it has the JSON texts of commands: in files named after them, or in `output`
+//! beside `kept`.
 #![tactic(auto)]
 
 mod audited;
@@ -85,13 +88,13 @@ fn is_so(rt: &HostRuntime, folder: &str) -> io::Result<bool> {
     }
 }
 
-/// Whether the error's text is what the folder's file of that name has.
+/// Whether the error's text is the content of the folder's file of that name.
 fn is_text(rt: &HostRuntime, folder: &str, name: &str, error: &impl Display) -> io::Result<bool> {
     let text = format!(in rt.alloc(); "{error}")?;
     Ok(text.as_str().as_bytes() == file_in(rt, folder, name)?.as_slice())
 }
 
-/// Whether the words come to what the folder has.
+/// Whether the result for the words is that in the folder.
 fn are_told(rt: &HostRuntime, folder: &str, words: &[&str]) -> io::Result<bool> {
     match parse_words(rt.alloc(), words) {
         Err(UsageFault::Help(error)) => is_text(rt, folder, "output", &error),
@@ -100,7 +103,7 @@ fn are_told(rt: &HostRuntime, folder: &str, words: &[&str]) -> io::Result<bool> 
     }
 }
 
-/// Whether the words, one a line, come to what the folder has.
+/// Whether the result for the words, one a line, is that in the folder.
 fn is_told(rt: &HostRuntime, folder: &str, lines: &str) -> io::Result<bool> {
     let alloc = rt.alloc();
     let mut words = Vec::new(alloc);
@@ -120,8 +123,8 @@ fn is_explained(rt: &HostRuntime, folder: &str, line: &str) -> io::Result<bool> 
     }
 }
 
-/// Whether the furthest cut of stores of which these lines say how many records are kept is as the folder has it, and
-/// fails with the fault that stands there.
+/// Whether the furthest cut of the stores is that in the folder, and fails with the fault there. The lines of `kept`
+/// give the number of records that each store keeps.
 fn is_cut(rt: &HostRuntime, folder: &str, kept: &str, form: Form) -> io::Result<bool> {
     let input = file_in(rt, folder, "input")?;
     let Ok(input) = str::from_utf8(input.as_slice()) else {
@@ -137,7 +140,7 @@ fn is_cut(rt: &HostRuntime, folder: &str, kept: &str, form: Form) -> io::Result<
     }
 }
 
-/// Whether the command writes what the folder's file of that name has, of the transaction of the line.
+/// Whether the command writes the content of the folder's file of that name, for the transaction of the line.
 fn is_found(
     rt: &HostRuntime,
     folder: &str,
@@ -159,7 +162,7 @@ fn is_found(
     }
 }
 
-/// Whether all commands write lines of JSON as the folder has them, of the transaction of the line.
+/// Whether all commands write the JSON lines in the folder, for the transaction of the line.
 fn are_json(rt: &HostRuntime, folder: &str, line: &str) -> io::Result<bool> {
     Ok(
         is_found(rt, folder, line, Command::Audit, Form::Json, "audit")?
@@ -169,7 +172,7 @@ fn are_json(rt: &HostRuntime, folder: &str, line: &str) -> io::Result<bool> {
     )
 }
 
-/// The text of the folder's file of that name. `None` where there is no such file.
+/// The text of the folder's file of that name, or `None` where there is no such file.
 fn text_in(rt: &HostRuntime, folder: &str, name: &str) -> io::Result<Option<String>> {
     let path = format!(in rt.alloc(); "{folder}/{name}")?;
     match fs::read_to_string(rt, path.as_str()) {

@@ -10,7 +10,8 @@ use std::alloc::Global;
 use stores::{MemoryStore, NodeStore};
 use world::World;
 
-/// How many first records of the node's store are kept, by the line `NODE COUNT`. `None` where no line names the node.
+/// How many first records of the node's store are kept, by the line `NODE COUNT`, or `None` where no line names the
+/// node.
 fn kept_of(kept: &str, node: Node) -> Option<usize> {
     for line in kept.lines() {
         let (name, count) = line.split_once(' ')?;
@@ -21,7 +22,7 @@ fn kept_of(kept: &str, node: Node) -> Option<usize> {
     None
 }
 
-/// The store of a node all of whose records are committed, with as many of them as are kept.
+/// The store of a node whose records are all committed, with the first records that are kept.
 fn store_of(alloc: Global, world: &World, node: Node, kept: &str) -> Option<MemoryStore> {
     let committed = world.committed(node)?;
     if world.journal(node)?.len() != committed.len() {
@@ -33,8 +34,8 @@ fn store_of(alloc: Global, world: &World, node: Node, kept: &str) -> Option<Memo
     Some(store)
 }
 
-/// The stores of all nodes. Of a node that a line `NODE COUNT` of `kept` names, the store has that many first records.
-/// `None` where a node has records that aren't committed, or memory ran out.
+/// The stores of all nodes. For a node that a line `NODE COUNT` of `kept` names, the store has that number of first
+/// records. Returns `None` where a node has uncommitted records, or memory ran out.
 pub fn stores_of(
     alloc: Global,
     scheme: &Scheme,

@@ -22,7 +22,7 @@ use world::Core;
 /// More bytes than a node writes here.
 const ROOM: usize = 4_096;
 
-/// An operator who writes these bytes, each of them after a while in which there is nothing to read.
+/// An operator who writes these bytes, each after a while in which there is nothing to read.
 #[derive(Drop)]
 struct Slow {
     bytes: &'static [u8],
@@ -60,14 +60,14 @@ impl Exporter for OnePath {
     }
 }
 
-/// Whether a line says that the node found no memory for it.
+/// Whether a line says that the node ran out of memory for it.
 fn lacks_memory(rt: &impl Abort, written: &[u8]) -> bool {
     let text = from_utf8(written).ok().expect(rt, "a text");
     text.lines().any(|line| line.ends_with(" refused 50"))
 }
 
-/// What one node of the worked scheme with an empty store returns, none of whose peers has an address, and what it writes
-/// to an operator who writes these lines. `NoMemory` where memory ran out in it.
+/// The result of one node of the worked scheme with an empty store, when none of its peers has an address, and the
+/// output that it writes for an operator who writes these lines. `NoMemory` if memory ran out in it.
 fn stood<R>(
     rt: &R,
     alloc: Global,

@@ -13,7 +13,7 @@ pub fn worked_scheme(rt: &impl Abort, alloc: Global) -> Scheme {
     read.ok().expect(rt, READING)
 }
 
-/// Asserts that both are one value, and prints both where they aren't.
+/// Asserts that both are one value, and prints both if they aren't.
 pub fn assert_same<T: PartialEq + Debug + Drop>(rt: &impl Abort, left: T, right: T) {
     assert_eq!(rt; left, right);
 }

@@ -9,7 +9,7 @@ use std::net::{Net, SocketAddr};
 use std::process::Abort;
 use test_support::{READING, again};
 
-/// The action that the program's words name, of which these come after its own name.
+/// The action that the program's words name; these words come after its own name.
 fn action(rt: &impl Abort, alloc: Global, text: &'static str) -> Action {
     let mut words = Vec::new(alloc);
     words.push("kyoto-link").expect(rt, READING);
@@ -45,7 +45,7 @@ fn setup_of<'a, R: Net + Abort>(
     }
 }
 
-/// Asserts that the words set nothing up, for that fault.
+/// Asserts that setting up with these words fails with that fault.
 fn assert_fault<R: Net + Abort>(rt: &R, alloc: Global, words: &'static str, wanted: SetupFault) {
     match setup_of(rt, alloc, words) {
         Ok(setup) => {
@@ -175,7 +175,7 @@ fn the_log_is_set_up(rt: HostRuntime) {
     assert_same(&rt, setup.clean_up, Some(60));
 }
 
-/// The sum of the worked scheme, as `sha256sum` tells it.
+/// The sum of the worked scheme, as `sha256sum` prints it.
 const SUM: &str = "e6e93efd8789c6ce02c4d77b69f1a56d782a739e517383b7ea2ce424461fda65";
 
 #[test]

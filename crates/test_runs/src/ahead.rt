@@ -7,7 +7,7 @@ use std::sync::Wait;
 use std::sync::atomic::{AtomicU64, Ordering};
 use std::time::Duration;
 
-/// That runtime, whose clock is so many seconds ahead.
+/// That runtime, with a clock that is this many seconds ahead.
 #[derive(Drop)]
 pub struct Ahead<'a, R> {
     pub rt: &'a R,

@@ -13,7 +13,7 @@ use std::rt::Clock;
 use std::sync::Wait;
 use test_support::{READING, again};
 
-/// Asserts that these answers refuse by these codes, one after the other, and which of them a journal judged.
+/// Asserts that these answers refuse with these codes, one after the other, and which of them a journal judged.
 fn assert_refused(rt: &impl Abort, answers: &[Answer], codes: &[u16]) {
     assert_same(rt, answers.len(), codes.len());
     for (answer, code) in answers.iter().zip(codes) {
@@ -22,8 +22,8 @@ fn assert_refused(rt: &impl Abort, answers: &[Answer], codes: &[u16]) {
     }
 }
 
-/// Asserts that these answers refuse by these codes, as far as there are any, or for memory. Where a node that has
-/// stopped refuses a line for memory, its session goes on, so that there may be an answer more.
+/// Asserts that these answers refuse with these codes, as far as there are answers, or for lack of memory. If a node
+/// that has stopped refuses a line for lack of memory, its session goes on, so there may be one more answer.
 fn assert_refused_so_far(rt: &impl Abort, answers: &[Answer], codes: &[u16]) {
     let without = refused(rt, OUT_OF_MEMORY);
     for (answer, code) in answers.iter().zip(codes) {
@@ -32,14 +32,14 @@ fn assert_refused_so_far(rt: &impl Abort, answers: &[Answer], codes: &[u16]) {
     }
 }
 
-/// Whether one of these answers refuses for memory.
+/// Whether one of these answers refuses for lack of memory.
 fn lacks_memory(rt: &impl Abort, answers: &[Answer]) -> bool {
     let without = refused(rt, OUT_OF_MEMORY);
     answers.iter().any(|answer| answer.reply() == without)
 }
 
-/// How a session at the desk over these bytes ends, whose answers have to refuse by these codes. `NoMemory` where there
-/// was none for it or for an answer.
+/// How a session at the desk over these bytes ends; its answers have to refuse with these codes. `NoMemory` if there
+/// was no memory for it or for an answer.
 fn served_once(
     rt: &(impl Wait + Clock + Abort),
     alloc: Global,
@@ -64,7 +64,7 @@ fn served_once(
     Ok(end)
 }
 
-/// The same, where a session that finds no memory leaves the desk as it was, and another one takes its place.
+/// The same, but a session that runs out of memory leaves the desk as it was, and another one takes its place.
 fn served(
     rt: &(impl Wait + Clock + Abort),
     alloc: Global,
@@ -99,7 +99,7 @@ fn node_session(rt: HostRuntime) {
     drop(desk);
 }
 
-/// Of two lines that write a message the first one is refused, and ends the session.
+/// Two lines that write a message: the first one is refused, and ends the session.
 #[test]
 fn session_of_a_stopped_node(rt: HostRuntime) {
     let alloc = rt.alloc();

@@ -14,7 +14,7 @@ use std::marker::Model;
 use std::process::Abort;
 use test_support::again;
 
-/// A store that counts what it is asked. In contracts it is the store.
+/// A store that counts its calls. In contracts it is the inner store.
 #[derive(Drop)]
 struct CountedStore<S> {
     store: S,
@@ -89,8 +89,8 @@ fn stored(rt: &impl Abort, alloc: Global) -> Stored<RegistryCore, Counted> {
     stored_over(rt, alloc, core, store)
 }
 
-/// A store of that many records, by which an account is closed and opened in turn, appended at once. `NoMemory` where
-/// it found none.
+/// A store of that many records, in which an account is closed and opened in turn, appended at once. `NoMemory` if it
+/// ran out of memory.
 fn store_of(rt: &impl Abort, alloc: Global, records: usize) -> Result<Counted, NoMemory> {
     let mut stored = stored(rt, alloc);
     for place in 0..records {
@@ -102,7 +102,7 @@ fn store_of(rt: &impl Abort, alloc: Global, records: usize) -> Result<Counted, N
     Ok(store)
 }
 
-/// How many records a state that is read from the store has, and for how many pages the store was asked.
+/// How many records a state that is read from the store has, and how many pages the store was asked for.
 fn records_read(
     rt: &impl Abort,
     alloc: Global,
@@ -115,7 +115,7 @@ fn records_read(
     Ok((records, store.pages.saturating_sub(before)))
 }
 
-/// How many pages a store of that many records is asked for, where they are read. It is asked for nothing else.
+/// How many pages a store of that many records is asked for, when they are read. It is asked for nothing else.
 fn pages_of(rt: &impl Abort, alloc: Global, records: usize) -> u32 {
     let made = again!(store_of(rt, alloc, records), Err(NoMemory) => ());
     let mut store = made.ok().expect(rt, "memory");

@@ -40,8 +40,7 @@ fn desk_of_two(rt: &(impl Wait + Abort), alloc: Global, a: &mut Seat, b: &mut Se
     desk
 }
 
-/// A desk that has committed two proposals, and the seats that were told of them. `NoMemory` where there was none for
-/// its store.
+/// A desk that has committed two proposals, and the seats that noted them. `NoMemory` if its store ran out of memory.
 fn committed_two(rt: &(impl Wait + Abort), alloc: Global) -> Result<(NzDesk, [Seat; 2]), NoMemory> {
     let (mut a, mut b) = (Seat::new(alloc), Seat::new(alloc));
     let desk = desk_of_two(rt, alloc, &mut a, &mut b);
@@ -50,7 +49,7 @@ fn committed_two(rt: &(impl Wait + Abort), alloc: Global) -> Result<(NzDesk, [Se
     Ok((desk, [a, b]))
 }
 
-/// Asserts that the message with that key is next for the log from it on, and is about that transaction.
+/// Asserts that the message with that key is the next one for the log from that key on, and is about that transaction.
 fn assert_about(rt: &(impl Wait + Abort), desk: &NzDesk, key: usize, id: &str) {
     let id = TransactionId::read(id).expect(rt, "an identifier");
     assert_same(rt, next_for_log(rt, desk, key), Some((key, id)));
@@ -67,7 +66,7 @@ fn messages_leave_after_their_commit(rt: HostRuntime) {
     drop((desk, seats));
 }
 
-/// Asserts that NZ1 stands proposed at the desk, of two records, and confirms that.
+/// Asserts that NZ1 has status Proposed at the desk, which has two records, and confirms the result.
 fn assert_proposed(
     rt: &(impl Wait + Clock + Abort),
     alloc: Global,
@@ -90,7 +89,7 @@ fn a_query_is_confirmed(rt: HostRuntime) {
     drop((desk, a, b));
 }
 
-/// What the first seat is told after that, up to the stop.
+/// The results that the first seat gets after that, up to the stop.
 const TOLD: &[(Given, Told)] = &[
     (CANCELLED, Told::Step(Stepped::Recorded(2))),
     (CANCELLED, Told::Step(Stepped::Repeat)),
@@ -107,7 +106,7 @@ fn assert_stops(rt: &(impl Wait + Abort), alloc: Global, desk: &NzDesk, seat: &m
     assert_next(rt, desk, [None, None, None]);
 }
 
-/// Asserts that the state settles with all seats, and not without the second one, which was told of record 1.
+/// Asserts that the state settles with all seats, and not without the second one, which has the ticket of record 1.
 fn assert_settles(rt: &impl Abort, state: &NzState, seats: &[Seat; 2]) {
     let life = Life {
         opening: 0,
@@ -132,7 +131,7 @@ fn a_stopped_desk_settles(rt: HostRuntime) {
     drop((state, seats));
 }
 
-/// Has the desk record that many inputs, by which an account is closed and opened in turn.
+/// Has the desk record that many inputs, which close and open an account in turn.
 fn record_many(rt: &(impl Wait + Abort), alloc: Global, desk: &NzDesk, records: usize) {
     let mut seat = Seat::new(alloc);
     for place in 0..records {
@@ -141,7 +140,7 @@ fn record_many(rt: &(impl Wait + Abort), alloc: Global, desk: &NzDesk, records: 
     drop(seat);
 }
 
-/// How many of 65 records each of three commits of a desk appends. `NoMemory` where its store found none.
+/// How many of 65 records each of three commits of a desk appends. `NoMemory` if its store ran out of memory.
 fn three_commits(rt: &(impl Wait + Abort), alloc: Global) -> Result<[usize; 3], NoMemory> {
     let desk = nz_desk(rt, alloc);
     record_many(rt, alloc, &desk, 65);
@@ -157,7 +156,7 @@ fn a_desk_commits_64_at_most(rt: HostRuntime) {
     assert_same(&rt, commits, Ok([64, 1, 0]));
 }
 
-/// Asserts what the state tells of an input.
+/// Asserts the state's result for an input.
 fn assert_stored(rt: &impl Abort, alloc: Global, stored: &mut NzStored, given: Given, told: Told) {
     let taken = take_stored(rt, alloc, stored, given);
     assert_same(rt, taken.told(), told);
@@ -172,7 +171,7 @@ fn stored_two(rt: &impl Abort, alloc: Global) -> NzStored {
     stored
 }
 
-/// How many records the state would commit next, where a batch has at most `max`.
+/// How many records the state would commit next, if a batch has at most `max`.
 fn next_batch(rt: &impl Abort, state: &NzState, max: usize) -> usize {
     let found = again!(state.batch(max), Err(NoMemory) => ());
     let batch = found.expect(rt, "memory");
@@ -198,7 +197,7 @@ fn committed_in(rt: &impl Abort, alloc: Global, batches: &[usize]) -> Result<NzS
 }
 
 /// Has a state of two records commit batches of at most these numbers of records, and asserts how many are committed
-/// then, which its store has.
+/// then, and that its store has them.
 fn assert_committed(rt: &impl Abort, alloc: Global, batches: &[usize], records: usize) {
     let committed = again!(committed_in(rt, alloc, batches), Err(NoMemory) => ());
     let (state, mut store) = committed.ok().expect(rt, "memory").into_parts();
@@ -218,7 +217,7 @@ fn a_state_commits_in_batches(rt: HostRuntime) {
     }
 }
 
-/// How many records the journal had when that was taken of which there is a receipt.
+/// How many records the journal had when the result was taken that this receipt confirms.
 fn received(rt: &impl Abort, state: &NzState, taken: Taken) -> usize {
     let receipt = state.receipt(taken).ok().expect(rt, "a receipt");
     let length = receipt.taken().length();
@@ -226,12 +225,12 @@ fn received(rt: &impl Abort, state: &NzState, taken: Taken) -> usize {
     length
 }
 
-/// What is given back, of which there is no receipt yet.
+/// The taken result, which is handed back if there is no receipt of it yet.
 fn not_received(rt: &impl Abort, state: &NzState, taken: Taken) -> Taken {
     state.receipt(taken).err().expect(rt, "what was taken")
 }
 
-/// Asserts that of the first there is a receipt once one record is committed, and of the second only after another.
+/// Asserts that there is a receipt of the first once one record is committed, and of the second only after another.
 fn assert_receipts(rt: &impl Abort, alloc: Global) -> Result<(), NoMemory> {
     let mut stored = nz_stored(rt, alloc);
     let first = take_stored(rt, alloc, &mut stored, TEN);

@@ -32,8 +32,8 @@ fn drip<W: Write, R: Clock>(rt: &R, writer: &mut W, count: u32) -> bool {
     true
 }
 
-/// Sends the node a line that doesn't end, and stops the node meanwhile. Returns whether it took the bytes until then,
-/// and not all of those after.
+/// Sends the node a line that doesn't end, and stops the node meanwhile. Returns whether the node took the bytes until
+/// then, and didn't take all of those after.
 fn drip_and_stop<D, R>(rt: &R, node: &TestNode<D, OpenGate>, dial: &D) -> bool
 where
     D: Dial + Send + Sync + Drop,
@@ -84,7 +84,7 @@ where
     (is_cut_off, records.expect(rt, "memory"))
 }
 
-/// The same of NZ, over a socket.
+/// The same for NZ, over a socket.
 fn dripped_on_nz<'a, R>(rt: &'a R, alloc: Global) -> (bool, (usize, usize))
 where
     R: Threads + Wait + Clock + Net<Listener = TcpListener, Stream = TcpStream> + Abort + Sync,
@@ -96,7 +96,7 @@ where
     dripped_on::<Ports<&'a R>, R>(rt, alloc, node, ports)
 }
 
-/// A session ends with its node, also where its client never lets a read wait for long.
+/// A session ends with its node, even if its client never lets a read wait for long.
 #[test]
 fn a_line_without_an_end(rt: HostRuntime) {
     let (is_cut_off, records) = dripped_on_nz(&rt, rt.alloc());

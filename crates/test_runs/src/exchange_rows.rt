@@ -11,7 +11,7 @@ use test_support::texts::{ACCEPTED, RECEIVED};
 
 const NEVER: usize = usize::MAX;
 
-/// Asserts that nothing was written, or all of the message's line, and forgets it.
+/// Asserts that nothing was written, or all of the message's line, and clears it.
 fn assert_all_or_nothing(rt: &impl Abort, written: &mut Vec<u8>) {
     if !written.is_empty() {
         assert_same(rt, written.strip_suffix(b"\n"), Some(ACCEPTED.as_bytes()));
@@ -19,7 +19,7 @@ fn assert_all_or_nothing(rt: &impl Abort, written: &mut Vec<u8>) {
     written.clear();
 }
 
-/// What an exchange comes to where the peer gives these bytes. It writes the message's line, which is forgotten.
+/// How an exchange ends if the peer gives these bytes. It writes the message's line, which is cleared.
 fn exchanged(
     rt: &impl Abort,
     alloc: Global,
@@ -55,7 +55,7 @@ fn an_exchange_ends_as_its_peer_does(rt: HostRuntime) {
     drop(message);
 }
 
-/// Asserts that the exchange of that row ended so.
+/// Asserts how the exchange of that row ended.
 fn assert_ended(rt: &impl Abort, row: usize, ended: Exchange, expected: Exchange) {
     assert_eq!(rt; ended, expected, "{row}");
 }
@@ -74,14 +74,14 @@ fn a_reply_that_is_cut_is_no_reply(rt: HostRuntime) {
     drop(message);
 }
 
-/// What an exchange comes to over a writer that takes that many bytes, and how many of its writes fail.
+/// How an exchange ends over a writer that takes that many bytes, and how many of its writes fail.
 fn exchanged_over(alloc: Global, room: usize, message: &Message) -> (Exchange, u64) {
     let mut writer = Counted::new(Full { room });
     let ended = exchange(alloc, &mut Counted::new(RECEIVED), &mut writer, message);
     (ended, writer.failures())
 }
 
-/// Asserts what an exchange comes to over a writer that takes that many bytes.
+/// Asserts how an exchange ends over a writer that takes that many bytes.
 fn assert_exchanged(
     rt: &impl Abort,
     alloc: Global,
@@ -125,7 +125,7 @@ fn a_long_reply_is_a_bad_one(rt: HostRuntime) {
     drop(message);
 }
 
-/// What an exchange comes to over a writer that is interrupted that often.
+/// How an exchange ends over a writer that is interrupted that often.
 fn interrupted(alloc: Global, interruptions: u32, message: &Message) -> Exchange {
     let halting = Halting {
         interruptions,

@@ -39,7 +39,7 @@ const LATER_ANSWERS: &str = "\
 4 status Accepted
 ";
 
-/// What the program writes of the fault, after its name.
+/// The line that the program writes about the fault, after its name.
 const FAULT_LINE: &str = "store NZ: device";
 
 /// NZ's store takes that many batches before one fails.

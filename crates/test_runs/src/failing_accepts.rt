@@ -27,7 +27,7 @@ use test_support::again;
 /// An order to close an account of NZ.
 const CLOSE: Given = Event("close NZ 2");
 
-/// How many accepts that fail in a row stop a node, less one.
+/// One less than the number of failed accepts in a row that stop a node.
 const MOST_FAILING: u64 = 99;
 
 /// Waits until a desk has stopped, at most `TURNS` turns of one millisecond. Returns whether it has.
@@ -41,7 +41,7 @@ fn wait_for_stop<R: Wait + Clock>(rt: &R, desk: &NodeDesk) -> bool {
     false
 }
 
-/// What became of a client and of an order once another node has stopped.
+/// The outcome for a client and for an order once another node has stopped.
 #[derive(Drop)]
 struct After {
     stopped: bool,
@@ -62,8 +62,7 @@ fn begin_and_stop<D: Dial + Send + Sync + Drop, R: Wait + Clock>(
     Ok(wait_for_stop(rt, &jp.station.desk))
 }
 
-/// Has the desk take an order, and waits for its receipt. Returns what was told, whether there is a receipt, and the
-/// seat.
+/// Has the desk take an order, and waits for its receipt. Returns the result, whether there is a receipt, and the seat.
 fn order_at<R: Wait + Clock>(
     rt: &R,
     alloc: Global,
@@ -115,7 +114,7 @@ fn call_and_stop<D: Dial + Send + Sync + Drop, R: Wait + Clock>(
     after
 }
 
-/// Two nodes, and what is done once one of them has stopped.
+/// Two nodes, and the work that is done once one of them has stopped.
 fn run_and_stop<D, R>(
     rt: &R,
     alloc: Global,
@@ -136,7 +135,7 @@ where
     )
 }
 
-/// Asserts that NZ has the record of the order, which that seat was told of, and JP none.
+/// Asserts that NZ has the record of the order, which that seat noted, and JP has none.
 fn assert_records<D: Dial + Send + Sync + Drop>(
     rt: &impl Abort,
     (nz, jp): (TestNode<D, OpenGate>, TestNode<D, OpenGate>),
@@ -153,7 +152,7 @@ fn assert_records<D: Dial + Send + Sync + Drop>(
     Ok(())
 }
 
-/// Asserts what became of the client and of the order. `NoMemory` where memory ran out for one of them, also at the
+/// Asserts the outcome for the client and for the order. `NoMemory` if memory ran out for one of them, also at the
 /// nodes.
 fn assert_after<D: Dial + Send + Sync + Drop>(
     rt: &impl Abort,
@@ -179,7 +178,7 @@ fn assert_after<D: Dial + Send + Sync + Drop>(
     Ok(())
 }
 
-/// Asserts what becomes of a client of NZ and of an order there, once JP has stopped.
+/// Asserts the outcome for a client of NZ and for an order there, once JP has stopped.
 fn assert_goes_on<D, R>(
     rt: &R,
     alloc: Global,
@@ -198,7 +197,7 @@ where
     assert_after(rt, (nz, jp), ran, after)
 }
 
-/// Asserts the same where at NZ all accepts fail but the last that may, and at JP all.
+/// Asserts the same when at NZ all accepts fail that may fail, and at JP all accepts.
 fn assert_accepts<'a, R>(
     rt: &'a R,
     alloc: Global,
@@ -217,7 +216,7 @@ where
     assert_goes_on::<Ports<&'a R>, R>(rt, alloc, (nz, jp), ports, message, order)
 }
 
-/// At NZ all accepts fail but the last that may, and it replies; at JP all fail, and it stops, and no other node does.
+/// At NZ all accepts fail that may fail, and it replies; at JP all fail, and it stops, and no other node does.
 #[test]
 fn hundred_accepts(rt: HostRuntime) {
     let alloc = rt.alloc();

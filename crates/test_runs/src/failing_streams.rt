@@ -5,7 +5,7 @@ use std::io::{self, ErrorKind, Read, Write};
 use std::process::Abort;
 use test_support::READING;
 
-/// Gives its bytes one by one, and fails in the place of the byte at `fails_at`.
+/// Gives its bytes one by one, and fails in place of the byte at `fails_at`.
 #[derive(Drop)]
 pub struct Dripping {
     pub bytes: &'static [u8],
@@ -67,7 +67,7 @@ impl Write for Halting {
     }
 }
 
-/// A line of that byte, that often, before its newline.
+/// A line of that byte, repeated that often before its newline.
 pub fn long_line(rt: &impl Abort, alloc: Global, byte: u8, count: usize) -> Vec<u8> {
     let mut line = Vec::new(alloc);
     for _ in 0..count {

@@ -18,7 +18,7 @@ use test_support::again;
 
 const STOPPED: Told = Told::Refused(Refusal { code: NODE_STOPPED });
 
-/// Asserts that a desk's commit fails, and that it has stopped then. `NoMemory` where the store found none before.
+/// Asserts that a desk's commit fails, and that it has stopped then. `NoMemory` if the store ran out of memory before.
 fn assert_stops(
     rt: &(impl Wait + Abort),
     alloc: Global,
@@ -36,8 +36,8 @@ fn assert_stops(
     Ok(())
 }
 
-/// Asserts that the desk leaves two records that aren't committed and the fault of its store, and that the seat was
-/// told what the state settles with. Returns the store.
+/// Asserts that the desk leaves two records that aren't committed and the fault of its store, and that the state
+/// settles with the notes of the seat. Returns the store.
 fn left_store(rt: &impl Abort, desk: NzDesk, seat: Seat) -> MemoryStore {
     let Ended { stored, fault } = desk.end();
     assert_same(rt, fault, Some(StoreFault::Device));
@@ -53,8 +53,8 @@ fn left_store(rt: &impl Abort, desk: NzDesk, seat: Seat) -> MemoryStore {
     store
 }
 
-/// The store after a desk's first commit to it failed, of which it keeps all or nothing. `NoMemory` where it found none
-/// for that.
+/// The store after a desk's first commit to it failed; it keeps all or nothing of the commit. `NoMemory` if it ran out
+/// of memory before.
 fn failed(
     rt: &(impl Wait + Clock + Abort),
     alloc: Global,
@@ -78,7 +78,7 @@ fn failed(
     }
 }
 
-/// The store after a desk's first commit to it failed, of which it keeps all or nothing, opened again.
+/// The store after a desk's first commit to it failed, opened again; it keeps all or nothing of the commit.
 fn failed_store(rt: &(impl Wait + Clock + Abort), alloc: Global, keeps: Kept) -> MemoryStore {
     let failed = again!(failed(rt, alloc, keeps), Err(NoMemory) => ());
     let mut store = failed.expect(rt, "memory");

@@ -1,4 +1,4 @@
-//! What rows give a node: the inputs of events by their lines, and messages by their texts.
+//! The inputs and messages that rows give a node: the inputs of events by their lines, and messages by their texts.
 
 use input_lines::event_of;
 use protocol::WorldEvent;
@@ -8,10 +8,11 @@ use std::alloc::Global;
 use std::process::Abort;
 use test_support::READING;
 
-/// What a row gives a node.
+/// An input or a message that a row gives a node.
 #[derive(Clone, Copy, Debug)]
 pub enum Given {
-    /// The input in the event of that line. The row gives it to its own node, whichever one the line names.
+    /// The input in the event of that line. The row gives it to its own node, regardless of the node that the line
+    /// names.
     Event(&'static str),
     /// The message of that text, at `MOMENT`.
     Message(&'static str),

@@ -94,7 +94,7 @@ impl Dial for NoDial {
     }
 }
 
-/// Of what types the node is.
+/// The types of the node.
 struct OneTypes;
 
 impl NodeTypes for OneTypes {
@@ -127,7 +127,7 @@ fn run_one<R: Threads + Wait + Clock + Sync>(
 }
 
 /// Waits until a connection was given back, at most `TURNS` turns of one millisecond, and stops the node. Returns how
-/// many were.
+/// many were given back.
 fn wait_and_stop<R: Wait + Clock>(rt: &R, station: &OneStation) -> u64 {
     for _ in 0..TURNS {
         if station.listener.given_back() > 0 {
@@ -139,7 +139,7 @@ fn wait_and_stop<R: Wait + Clock>(rt: &R, station: &OneStation) -> u64 {
     station.listener.given_back()
 }
 
-/// The node, and who waits for what it gives back.
+/// The node, and the thread that waits for the connections that it gives back.
 fn run_and_wait<R: Threads + Wait + Clock + Sync>(
     rt: &R,
     alloc: Global,
@@ -154,8 +154,7 @@ fn run_and_wait<R: Threads + Wait + Clock + Sync>(
     )
 }
 
-/// How many connections the node gives back. `NoMemory` where it gave back none, as it does where memory ran out for
-/// the session.
+/// How many connections the node gives back. `NoMemory` if it gave back none, as when memory ran out for the session.
 fn given_back_at<R>(rt: &R, alloc: Global, node: Node, desk: NodeDesk) -> Result<u64, NoMemory>
 where
     R: Threads + Wait + Clock + Sync,
@@ -180,7 +179,7 @@ where
     if count == 0 { Err(NoMemory) } else { Ok(count) }
 }
 
-/// The same of NZ, with an empty store.
+/// The same for NZ, with an empty store.
 fn given_back<R: Threads + Wait + Clock + Abort + Sync>(
     rt: &R,
     alloc: Global,

@@ -13,7 +13,7 @@ use std::alloc::Global;
 use std::process::Abort;
 use test_support::{again, texts};
 
-/// What NZ proposes.
+/// NZ's proposals.
 pub const PROPOSED: Given = Event("propose NZ 1 JP 7 NZ:1:1-100:AAU");
 
 /// The proposal at the log.
@@ -22,19 +22,19 @@ pub const ASKED: Given = Message(texts::PROPOSED);
 /// The proposal at JP, which the log has checked.
 pub const CHECKED: Given = Message(texts::CHECKED);
 
-/// That JP accepted, at the log.
+/// JP's Accepted, at the log.
 pub const ACCEPTED: Given = Message(texts::ACCEPTED);
 
 /// The same at NZ.
 pub const TOLD_NZ: Given = Message(texts::ACCEPTED_TO_NZ);
 
-/// That NZ completed, at the log.
+/// NZ's Completed, at the log.
 pub const COMPLETED: Given = Message(texts::COMPLETED);
 
 /// The same at JP.
 pub const TOLD_JP: Given = Message(texts::COMPLETED_TO_JP);
 
-/// The table where JP has the log's Completed and hasn't committed it.
+/// The table if JP has the log's Completed and hasn't committed it.
 pub const IN_TRANSIT: &str = "\
 transaction NZ1 NZ Completed ITL Completed JP Accepted
 registry JP held 0 spendable 0
@@ -68,7 +68,7 @@ pub fn records_in<S: NodeStore>(rt: &impl Abort, store: &mut S) -> usize {
     count
 }
 
-/// Reopens a store that found no memory, and asserts that it has that many records.
+/// Reopens a store that ran out of memory, and asserts that it has that many records.
 fn reopen(rt: &impl Abort, store: &mut MemoryStore, records: usize) {
     assert_same(rt, store.reopen(), Ok(()));
     assert_same(rt, records_in(rt, store), records);
@@ -94,7 +94,7 @@ fn store_of(rt: &impl Abort, alloc: Global, node: Node, journal: &[Given]) -> Me
     store
 }
 
-/// What an audit of stores with these records comes to, and what it writes.
+/// The result of an audit of stores with these records, and its output.
 pub fn audited(
     rt: &impl Abort,
     alloc: Global,
@@ -124,7 +124,7 @@ pub fn assert_table(rt: &impl Abort, alloc: Global, journals: Journals<'_>, tabl
     assert!(rt; written.as_slice() == table.as_bytes());
 }
 
-/// Asserts that the audit of these records fails so, and writes nothing.
+/// Asserts that the audit of these records fails with that fault, and writes nothing.
 pub fn assert_fault(rt: &impl Abort, alloc: Global, journals: Journals<'_>, fault: OpFault) {
     let (done, written) = audited(rt, alloc, journals);
     assert_same(rt, done, Err(fault));

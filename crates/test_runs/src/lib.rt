@@ -1,8 +1,7 @@
-//! Tests of what nodes do: a node's desk, with several threads at it and with stores that fail; exchanges and a
-//! node's sessions, over bytes in memory that end, fail or are interrupted anywhere, at a desk alone, and with the
-//! threads of nodes over sockets of this machine; `audit` and `weave`, over stores whose records one run leads to,
-//! forged ones and stores with a fault; and `run`, scripts over nodes with threads, sockets of this machine and stores
-//! in memory.
+//! Tests of nodes: a node's desk, with several threads at it and with stores that fail; exchanges and a node's
+//! sessions, over bytes in memory that end, fail or are interrupted anywhere, at a desk alone, and with the threads of
+//! nodes over sockets of this machine; `audit` and `weave`, over stores whose records one run leads to, forged ones and
+//! stores with a fault; and `run`, scripts over nodes with threads, sockets of this machine and stores in memory.
 #![tactic(auto)]
 
 #[cfg(test)]

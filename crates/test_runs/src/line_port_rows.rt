@@ -54,7 +54,7 @@ fn handed<L: Listen>(rt: &impl Abort, port: &L) -> (L::Reader, L::Writer) {
     handed_within(rt, port, MOST_ACCEPTS).expect(rt, "a connection with a line")
 }
 
-/// Reads to the end, and asserts that it was these bytes.
+/// Reads to the end, and asserts that it read these bytes.
 fn assert_reads<T: Read>(rt: &impl Abort, reader: &mut T, bytes: &[u8]) {
     let mut piece = [0u8; 64];
     let mut count = 0;
@@ -118,7 +118,7 @@ fn one_line_at_a_time(rt: HostRuntime) {
     drop(port);
 }
 
-/// Of a line that is too long more is read than a line may have. Of one with as many bytes as it may have it is not.
+/// Of a line that is too long, more bytes are read than a line may have; of one of the greatest length, no more.
 #[test]
 fn a_line_too_long(rt: HostRuntime) {
     let port = LinePort::open_at(&rt, rt.alloc(), any_port(), LONGEST).expect(&rt, "a port");
@@ -134,7 +134,7 @@ fn a_line_too_long(rt: HostRuntime) {
         let mut piece = [0u8; 64];
         let count = reader.read(&mut piece).expect(&rt, "a read");
         assert!(rt; &piece[..count] == read.as_bytes());
-        // One that was too long isn't kept, and neither is one of which not all was read.
+        // One that was too long isn't kept, nor is one that wasn't read to its end.
         port.give_back(reader, writer);
         drop(peer);
     }
@@ -215,7 +215,7 @@ fn many_idle_connections(rt: HostRuntime) {
     let port = LinePort::open_at(&rt, rt.alloc(), any_port(), LONGEST).expect(&rt, "a port");
     let mut clients = idle_clients(&rt, rt.alloc(), &port);
     assert!(rt; clients.len() > 100);
-    // Where the process has no descriptor left, this one's is the peer's.
+    // If the process has no descriptor left, this one's is the peer's.
     drop(clients.pop());
     let begun = Instant::now(&rt).expect(&rt, "a clock");
     let mut peer = client(&rt, port.address());
@@ -260,7 +260,7 @@ fn a_line_that_takes_too_long(rt: HostRuntime) {
 /// More connections than one accept looks at.
 const MANY: usize = 100;
 
-/// Lines that came in time are handed over, however late an accept looks at them.
+/// Lines that came in time are handed over, regardless of how late an accept looks at them.
 #[test]
 fn lines_that_came_in_time(rt: HostRuntime) {
     let seconds = AtomicU64::new(0);

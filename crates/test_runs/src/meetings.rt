@@ -35,7 +35,8 @@ enum Way {
     Whole,
 }
 
-/// What two clients send: the first to one node, and the second, once the first has begun, to that node or another.
+/// The lines that two clients send: the first to one node, and the second, once the first has begun, to that node or
+/// another.
 #[derive(Drop)]
 struct Plan {
     way: Way,
@@ -45,12 +46,12 @@ struct Plan {
     second_to: Node,
 }
 
-/// How the exchanges of the two clients end. `NoMemory` where memory ran out for one of them, and for the second also
-/// where the first hasn't begun.
+/// How the exchanges of the two clients end. `NoMemory` if memory ran out for one of them, and for the second also if
+/// the first hasn't begun.
 type Met = (Result<Exchange, NoMemory>, Result<Exchange, NoMemory>);
 
-/// A writer that says when it has taken the first bytes, `FEW` at most, and takes no more until the other client's
-/// exchange has ended. It fails where that takes longer than `TURNS` turns of one millisecond.
+/// A writer that reports when it has taken the first bytes, at most `FEW`, and takes no more until the other client's
+/// exchange has ended. It fails if that takes longer than `TURNS` turns of one millisecond.
 #[derive(Drop)]
 struct Halved<'a, W, R> {
     writer: W,
@@ -103,7 +104,7 @@ fn call_in_parts<D: Dial, R: Clock>(
     unless_no_memory(exchange_over(alloc, reader, halved, &plan.first))
 }
 
-/// What the first client does.
+/// The work of the first client.
 fn send_first<D: Dial, R: Clock>(
     rt: &R,
     alloc: Global,
@@ -117,7 +118,7 @@ fn send_first<D: Dial, R: Clock>(
     }
 }
 
-/// Sends the second message once the first client has begun, and says when it has a reply.
+/// Sends the second message once the first client has begun, and reports when it has a reply.
 fn send_second<D: Dial, R: Clock>(
     rt: &R,
     alloc: Global,
@@ -217,7 +218,7 @@ fn records_of_both<D: Dial + Send + Sync + Drop, G: Gate + Send + Sync + Drop>(
 /// How the exchanges of two clients end, and how many records the two nodes have then.
 type Meeting = ((Exchange, Exchange), (usize, usize));
 
-/// What comes of that plan at these nodes. Gives the gate back.
+/// The result of that plan at these nodes. Hands the gate back.
 fn met_at<D, G, R>(
     rt: &R,
     alloc: Global,
@@ -242,7 +243,7 @@ where
     (all_of(met, records_of_both(rt, pair, ended)), gate)
 }
 
-/// The ends and the records. `NoMemory` where memory ran out for one of them.
+/// The ends and the records. `NoMemory` if memory ran out for one of them.
 fn all_of(
     (first, second): Met,
     records: Result<(usize, usize), NoMemory>,
@@ -251,7 +252,7 @@ fn all_of(
     Ok(((first?, second?), records))
 }
 
-/// What comes of that plan at the log and at NZ.
+/// The result of that plan at the log and at NZ.
 fn met_at_log<'a, R>(rt: &'a R, alloc: Global, plan: &Plan) -> Result<Meeting, NoMemory>
 where
     R: Threads + Wait + Clock + Net<Listener = TcpListener, Stream = TcpStream> + Abort + Sync,
@@ -270,8 +271,8 @@ where
     meeting
 }
 
-/// While one client has sent a part of a line, the log replies to another one, and then to the whole line. So it serves
-/// two sessions at a time: one thread alone would come to the other client once it has given up the first one's
+/// While one client has sent a part of a line, the log replies to another one, and then to the whole line. It therefore
+/// serves two sessions at a time: a single thread would turn to the other client once it has given up the first one's
 /// connection, and would reply to at most one of them.
 #[test]
 fn two_sessions_meet(rt: HostRuntime) {
@@ -289,7 +290,7 @@ fn two_sessions_meet(rt: HostRuntime) {
     drop(plan);
 }
 
-/// What comes of that plan at NZ, which a gate holds, and at JP.
+/// The result of that plan at NZ, which a gate holds, and at JP.
 fn met_apart<'a, R>(
     rt: &'a R,
     alloc: Global,

@@ -2,7 +2,7 @@ use crate::same::assert_same;
 use sessions::{Muster, Mustered};
 use std::time::Duration;
 
-/// How many milliseconds the rows wait for one thread more.
+/// How many milliseconds the rows wait for one more thread.
 const SHORT: u64 = 10;
 
 #[test]

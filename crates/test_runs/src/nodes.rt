@@ -1,4 +1,4 @@
-//! The nodes of the worked scheme, and what a script comes to at them.
+//! The nodes of the worked scheme, and the answers to scripts at them.
 
 ghost use Rattle.std.specs.Prelude.{◌≡◌, ◌++◌, ◌∷◌, [], All, map, IfOk, OnOk};
 ghost use Rattle.desk.specs.Views.{opened_with};
@@ -31,7 +31,7 @@ use world::Core;
 /// The index of NZ among the nodes.
 const NZ: usize = 2;
 
-/// An empty store of the node, which takes that many batches before one fails, where a number is given.
+/// An empty store of the node. If a number is given, it takes that many batches before one fails.
 fn store_of(alloc: Global, node: Node, passes: Option<u64>) -> MemoryStore
     ensures { result.node ≡ node }
 {
@@ -49,7 +49,7 @@ fn push(rt: &impl Abort, stores: &mut Vec<MemoryStore>, store: MemoryStore)
     stores.push_reserved(store);
 }
 
-/// Adds a node, and where it accepts connections.
+/// Adds a node, and the address at which it accepts connections.
 fn push_node<R>(
     nodes: &mut Vec<LoadedNode<SocketNodes<MemoryStore, R>>>,
     ports: &mut Ports<R>,
@@ -65,7 +65,7 @@ where
     Ok(())
 }
 
-/// Empty stores of these nodes, of which that of NZ takes `passes` batches before one fails, where that is given.
+/// Empty stores of these nodes. If `passes` is given, that of NZ takes that many batches before one fails.
 fn stores_of(
     rt: &impl Abort,
     alloc: Global,
@@ -87,7 +87,8 @@ fn lines_of(rt: &impl Abort, alloc: Global, script: &str) -> Vec<ScriptLine> {
     read_script(alloc, &mut reader).expect(rt, READING)
 }
 
-/// The nodes, each with a listener of its own, and what connects to them there. `NoMemory` where there is none.
+/// The nodes, each with a listener of its own, and the dialer that connects to them there. `NoMemory` if there is no
+/// memory for one.
 fn opened<R>(
     rt: &impl Abort,
     net: R,
@@ -107,11 +108,12 @@ where
     Ok((nodes, ports))
 }
 
-/// What a run returns, and what it writes.
+/// The result of a run, and its output.
 pub type Played = (Result<(), OpFault>, Vec<u8>);
 
-/// What a run of the script over empty stores of the log, of JP and of NZ returns, and what it writes. NZ's takes
-/// `passes` batches before one fails, where that is given. A run in which memory ran out is made anew with other stores.
+/// The result and the output of a run of the script over empty stores of the log, of JP and of NZ. If `passes` is
+/// given, NZ's store takes that many batches before one fails. A run in which memory ran out is made anew with other
+/// stores.
 pub fn played<R>(rt: &R, alloc: Global, passes: Option<u64>, script: &str) -> Played
 where
     R: Threads
@@ -128,13 +130,13 @@ where
     played.ok().expect(rt, "memory")
 }
 
-/// Whether a line says that the node found no memory for it.
+/// Whether a line says that the node ran out of memory for it.
 fn lacks_memory(rt: &impl Abort, written: &[u8]) -> bool {
     let text = from_utf8(written).ok().expect(rt, "a text");
     text.lines().any(|line| line.ends_with(" refused 50"))
 }
 
-/// What a run returns and writes. `NoMemory` where it says so, or an answer does.
+/// The result and the output of a run. `NoMemory` if the result is that, or an answer says so.
 fn unless_no_memory(
     rt: &impl Abort,
     done: Result<(), OpFault>,
@@ -147,7 +149,7 @@ fn unless_no_memory(
     Ok((done, written))
 }
 
-/// What a run of the script at these nodes returns, and what it writes.
+/// The result and the output of a run of the script at these nodes.
 fn run_at<N, P, R>(
     rt: &R,
     alloc: Global,
@@ -186,7 +188,7 @@ where
     }
 }
 
-/// One run of the script, where the watch is told how far it is. `NoMemory` where memory ran out in it.
+/// One run of the script, with the watch called as it goes. `NoMemory` if memory ran out in it.
 pub fn played_watched<P, R>(
     rt: &R,
     alloc: Global,

@@ -2,7 +2,7 @@ use crate::journals::OPENING;
 use crate::nodes::played;
 use crate::same::assert_same;
 
-/// Orders that the log doesn't take, lines of a node that the scheme lacks, and a transaction that nobody knows.
+/// Orders that the log doesn't take, lines of a node that the scheme lacks, and a transaction that no node knows.
 const SCRIPT: &str = "\
 propose ITL 1 JP 7 NZ:1:1-100:AAU
 open ITL 9

@@ -1,4 +1,4 @@
-//! Registry NZ of the worked scheme, its desks, and what they are asked.
+//! Registry NZ of the worked scheme, its desks, and the questions to them.
 
 ghost use Rattle.std.specs.Prelude.{◌≡◌, [], true, false};
 ghost use Rattle.protocol.specs.Node.TheVariants.{Registry};
@@ -24,7 +24,7 @@ use test_support::{READING, again};
 const SCHEME: &str =
     r#"{"records":2000,"registries":[{"accounts":[7,8],"allotted":[],"code":"JP","eligible":true,"kinds":["AAU","CER"]},{"accounts":[1,2],"allotted":[{"account":1,"units":["NZ:1:1-100:AAU"]}],"code":"NZ","eligible":true,"kinds":["AAU","RMU","ERU","CER","tCER","lCER"]}]}"#;
 
-/// The same registries, of which NZ has one account.
+/// The same registries, with one account of NZ.
 const SCHEME_OF_ONE: &str =
     r#"{"records":2000,"registries":[{"accounts":[7,8],"allotted":[],"code":"JP","eligible":true,"kinds":["AAU","CER"]},{"accounts":[1],"allotted":[{"account":1,"units":["NZ:1:1-100:AAU"]}],"code":"NZ","eligible":true,"kinds":["AAU"]}]}"#;
 
@@ -71,7 +71,7 @@ fn core_under(rt: &impl Abort, alloc: Global, text: &str) -> RegistryCore
     core.expect(rt, "memory")
 }
 
-/// Asserts what the state tells of an input.
+/// Asserts the state's result for an input.
 pub fn assert_taken(rt: &impl Abort, alloc: Global, state: &mut NzState, given: Given, told: Told) {
     let taken = take_at(rt, alloc, state, given);
     assert_same(rt, taken.told(), told);
@@ -116,7 +116,7 @@ pub fn nz_desk(rt: &impl Abort, alloc: Global) -> NzDesk {
     Desk::new(nz_stored(rt, alloc), Bells::new(alloc))
 }
 
-/// NZ's desk over an empty store whose first append fails, of which it keeps all or nothing.
+/// NZ's desk over an empty store whose first append fails; the store keeps all or nothing of it.
 pub fn failing_desk(rt: &impl Abort, alloc: Global, keeps: Kept) -> NzDesk {
     let core = nz_core(rt, alloc);
     let store = MemoryStore::fused(alloc, core.node(), 0, keeps);
@@ -136,7 +136,7 @@ pub fn state_left(desk: NzDesk) -> NzState {
     state
 }
 
-/// The state that the desk leaves. `NoMemory` where its store found none.
+/// The state that the desk leaves. `NoMemory` if its store ran out of memory.
 pub fn running_left(desk: NzDesk) -> Result<NzState, NoMemory> {
     let Ended { stored, fault } = desk.end();
     let (state, store) = stored.into_parts();
@@ -148,12 +148,12 @@ pub fn running_left(desk: NzDesk) -> Result<NzState, NoMemory> {
     Ok(state)
 }
 
-/// What is given at that place where an account is closed and opened in turn.
+/// The input at that place of a journal in which an account is closed and opened in turn.
 pub fn turn(place: usize) -> Given {
     if place % 2 == 0 { CLOSE } else { OPEN }
 }
 
-/// Waits until that is committed, or the desk has stopped. Says whether it is committed.
+/// Waits until that is committed, or the desk has stopped. Returns whether it is committed.
 pub fn confirm(
     rt: &(impl Wait + Clock + Abort),
     desk: &NzDesk,
@@ -163,21 +163,21 @@ pub fn confirm(
     desk.confirm(rt, seat, taken).is_ok()
 }
 
-/// What the state settles to with those seats.
+/// The result of settling the state with those seats.
 pub fn settled(state: NzState, seats: &[Seat]) -> Result<Life, Unsettled> {
     let found = again!(settle(&state, seats), Err(Unsettled::NoMemory) => ());
     drop(state);
     found
 }
 
-/// Ends the desk, and asserts what it settles to with the one seat.
+/// Ends the desk, and asserts the result of settling it with the one seat.
 pub fn assert_found(rt: &impl Abort, desk: NzDesk, seat: Seat, expected: Result<Life, Unsettled>) {
     let seats = [seat];
     assert_same(rt, settled(state_left(desk), &seats), expected);
     drop(seats);
 }
 
-/// Has the desk take each input, and asserts what it tells.
+/// Has the desk take each input, and asserts the result.
 pub fn take_all(
     rt: &(impl Wait + Abort),
     alloc: Global,
@@ -192,7 +192,7 @@ pub fn take_all(
     }
 }
 
-/// What is told of an input that is recorded at that place.
+/// The result for an input that is recorded at that place.
 pub fn recorded(place: usize) -> Told {
     Told::Step(Stepped::Recorded(place))
 }

@@ -69,7 +69,7 @@ fn run_and_call<D: Dial + Send + Sync + Drop, R: Threads + Wait + Clock + Sync>(
     )
 }
 
-/// What an exchange of the message with the node comes to, and how many records it has then and has committed.
+/// How an exchange of the message with the node ends, and how many records it has then and has committed.
 fn exchanged_with<D, R>(
     rt: &R,
     alloc: Global,
@@ -88,7 +88,7 @@ where
     Ok((exchanged?, records))
 }
 
-/// The same of NZ, over a socket.
+/// The same for NZ, over a socket.
 fn exchanged_with_nz<'a, R>(
     rt: &'a R,
     alloc: Global,

@@ -9,7 +9,7 @@ use std::net::{Ipv4Addr, Ipv6Addr, SocketAddr, SocketAddrV4, SocketAddrV6};
 use std::sync::atomic::{AtomicU64, Ordering};
 use test_support::again;
 
-/// Of two ports that are added for NZ the first one is used.
+/// If two ports are added for NZ, the first one is used.
 #[test]
 fn addresses_of_nodes(rt: HostRuntime) {
     let (nz, jp) = (registry(&rt, "NZ"), registry(&rt, "JP"));
@@ -31,7 +31,7 @@ fn addresses_of_nodes(rt: HostRuntime) {
     drop(ports);
 }
 
-/// An address that was added is used as a port's is.
+/// An address that was added is used in the same way as a port's.
 #[test]
 fn added_addresses(rt: HostRuntime) {
     let nz = registry(&rt, "NZ");
@@ -46,7 +46,7 @@ fn added_addresses(rt: HostRuntime) {
     drop(ports);
 }
 
-/// Which addresses nobody on another machine reaches.
+/// Which addresses nobody on another machine can reach.
 #[test]
 fn loopback_addresses(rt: HostRuntime) {
     for (octets, expected) in [
@@ -69,7 +69,7 @@ fn loopback_addresses(rt: HostRuntime) {
     }
 }
 
-/// The other end of a connection that was made can't hold it for longer than ten seconds, also where it sends a byte now
+/// The other end of a connection that was made can't hold it for longer than ten seconds, even if it sends a byte now
 /// and then.
 #[test]
 fn a_connection_has_an_end(rt: HostRuntime) {

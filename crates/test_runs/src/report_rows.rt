@@ -28,7 +28,7 @@ type NodeState = Stored<Core, MemoryStore>;
 /// The records of a node, and how many of them are committed.
 type Row<'a> = (&'a [Given], usize);
 
-/// The state of the node with these records. `NoMemory` where its store found none.
+/// The state of the node with these records. `NoMemory` if its store ran out of memory.
 fn state_of(
     rt: &impl Abort,
     alloc: Global,
@@ -45,7 +45,7 @@ fn state_of(
     Ok(state)
 }
 
-/// Makes room at the seat for what is told of the input, and has the state take it.
+/// Makes room at the seat for the result of the input, and has the state take it.
 fn take_prepared(
     rt: &impl Abort,
     state: &mut NodeState,
@@ -65,7 +65,7 @@ fn take_prepared(
     }
 }
 
-/// As `take_prepared`, and once more where memory ran out.
+/// As `take_prepared`, and once more if memory ran out.
 fn take_again(
     rt: &impl Abort,
     alloc: Global,
@@ -86,14 +86,14 @@ fn take_again(
     }
 }
 
-/// Has the state take the input, and tells the seat.
+/// Has the state take the input, and has the seat keep the result.
 fn tell(rt: &impl Abort, alloc: Global, state: &mut NodeState, seat: &mut Seat, given: Given) {
     let taken = take_again(rt, alloc, state, seat, given);
     seat.keep(&taken);
     drop(taken);
 }
 
-/// A seat that was told of these records by a state of its own.
+/// A seat with tickets of these records, taken by a state of its own.
 fn told_seat(
     rt: &impl Abort,
     alloc: Global,
@@ -110,7 +110,7 @@ fn told_seat(
     seat
 }
 
-/// A node with these records, one of whose threads was told of those.
+/// A node with these records, one of whose threads has tickets of those.
 fn ended_node(
     rt: &impl Abort,
     alloc: Global,
@@ -126,8 +126,8 @@ fn ended_node(
     Ok(EndedNode { stored, seats })
 }
 
-/// What a run leaves of the log, of JP and of NZ, where each has these records, and a thread of each was told of all of
-/// them, but that of NZ of these.
+/// The remains of a run at the log, at JP and at NZ, where each has these records and a thread of each has tickets of
+/// all of them, except that NZ's thread has tickets of these.
 fn ended_nodes(
     rt: &impl Abort,
     alloc: Global,
@@ -142,7 +142,7 @@ fn ended_nodes(
     Ok([log, jp, nz])
 }
 
-/// What `report_run` returns of such nodes, and what it writes.
+/// The result and the output of `report_run` for such nodes.
 fn reported(
     rt: &impl Abort,
     alloc: Global,
@@ -176,7 +176,7 @@ fn what_is_committed_is_in_the_table(rt: HostRuntime) {
     assert!(rt; written.as_slice() == IN_TRANSIT.as_bytes());
 }
 
-/// The thread was told that NZ has closed an account, of which NZ has no record.
+/// The thread has a ticket for an order by which NZ closes an account, and NZ has no record of it.
 #[test]
 fn a_node_is_unsettled(rt: HostRuntime) {
     let node = registry(&rt, "NZ");
@@ -186,7 +186,7 @@ fn a_node_is_unsettled(rt: HostRuntime) {
     assert!(rt; written.is_empty());
 }
 
-/// The log has NZ's Completed, whose record NZ hasn't committed.
+/// The log has NZ's Completed, and NZ hasn't committed the record that sends it.
 #[test]
 fn no_run_leads_to_what_is_committed(rt: HostRuntime) {
     let node = Node::Itl;

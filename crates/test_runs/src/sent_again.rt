@@ -27,7 +27,7 @@ use test_support::failing_streams::Full;
 use test_support::texts::RECEIVED;
 
 /// Connections with one peer, which replies to each message with these bytes. The first ones can't be made, and none
-/// with another node.
+/// with any other node.
 #[derive(Drop)]
 struct FailingDial {
     peer: Node,
@@ -52,7 +52,7 @@ impl Dial for FailingDial {
 }
 
 impl FailingDial {
-    /// Connections with the log, the first `failing` of which can't be made, and which has these bytes as its replies.
+    /// Connections with the log, with these bytes as its replies; the first `failing` of them can't be made.
     fn of_log(failing: u64, reply: &'static [u8]) -> FailingDial {
         FailingDial {
             peer: Node::Itl,
@@ -63,9 +63,9 @@ impl FailingDial {
     }
 }
 
-/// What counts how often it was asked for a connection.
+/// A dialer that counts how often it was asked for a connection.
 trait Asked {
-    /// How often it was.
+    /// How often it was asked.
     fn asked(&self) -> u64;
 }
 
@@ -106,7 +106,7 @@ fn wait_and_stop<D: Dial + Asked + Send + Sync + Drop, R: Wait + Clock>(
     are_asked
 }
 
-/// The node, and who waits for its connections.
+/// The node, and the thread that waits for its connections.
 fn run_and_wait<D: Dial + Asked + Send + Sync + Drop, R: Threads + Wait + Clock + Sync>(
     rt: &R,
     alloc: Global,
@@ -122,7 +122,7 @@ fn run_and_wait<D: Dial + Asked + Send + Sync + Drop, R: Threads + Wait + Clock 
     )
 }
 
-/// A seat that was told that two proposals are recorded at the desk.
+/// A seat with tickets of two proposals that are recorded at the desk.
 fn seat_of_two(rt: &(impl Wait + Abort), alloc: Global, desk: &NodeDesk) -> Seat {
     let mut seat = Seat::new(alloc);
     for given in [TEN, TEN_MORE] {
@@ -131,8 +131,8 @@ fn seat_of_two(rt: &(impl Wait + Abort), alloc: Global, desk: &NodeDesk) -> Seat
     seat
 }
 
-/// Whether the node, whose two messages that seat was told of, asks for that many connections with the log, and how
-/// many records it has then. `NoMemory` where memory ran out at the node.
+/// Whether the node, whose two messages that seat has tickets of, asks for that many connections with the log, and how
+/// many records it has then. `NoMemory` if memory ran out at the node.
 fn sends_with<D, R>(
     rt: &R,
     alloc: Global,
@@ -152,8 +152,8 @@ where
     Ok((are_sent, records))
 }
 
-/// Whether a node with two messages asks for that many connections with the log, the first `failing` of which can't be
-/// made, and how many records it has then.
+/// Whether a node with two messages asks for that many connections with the log, if the first `failing` can't be made,
+/// and how many records it has then.
 fn sends_two<R>(
     rt: &R,
     alloc: Global,
@@ -171,9 +171,9 @@ where
     sends_with(rt, alloc, node, dialer, seat, connects)
 }
 
-/// Whether a node with two messages sends both, where it gets no connection the first times, and whether the first of
-/// them that was received is acknowledged then. `NoMemory` also where memory ran out for the acknowledgement alone:
-/// only the thread that sends was told of that.
+/// Whether a node with two messages sends both, if it gets no connection the first times, and whether the first of them
+/// that was received is acknowledged then. `NoMemory` also if memory ran out for the acknowledgement alone: only the
+/// thread that sends learns of that.
 fn sends_both<R>(rt: &R, alloc: Global, failing: u64) -> Result<bool, NoMemory>
 where
     R: Threads + Wait + Clock + Net<Listener = TcpListener, Stream = TcpStream> + Abort + Sync,
@@ -185,7 +185,7 @@ where
     Ok(are_sent)
 }
 
-/// A round ends with its first message where that gets no connection, and both are sent after a pause.
+/// A round ends with its first message if that gets no connection, and both are sent after a pause.
 #[test]
 fn what_got_no_connection_is_sent_again(rt: HostRuntime) {
     let alloc = rt.alloc();
@@ -196,7 +196,7 @@ fn what_got_no_connection_is_sent_again(rt: HostRuntime) {
 }
 
 /// Whether a node with two messages asks for a second connection with a log that is down, though not within a second,
-/// and records nothing more. `NoMemory` also where it doesn't ask for one, as where there is no thread that sends.
+/// and records nothing more. `NoMemory` also if it doesn't ask for one, as when there is no thread that sends.
 fn pauses_between<R>(rt: &R, alloc: Global) -> Result<bool, NoMemory>
 where
     R: Threads + Wait + Clock + Net<Listener = TcpListener, Stream = TcpStream> + Abort + Sync,
@@ -210,7 +210,7 @@ where
     Ok(records == 2 && passed >= Duration::from_secs(1))
 }
 
-/// Of two messages to a log that is down the first one alone is tried, and a second passes before it is tried again.
+/// Of two messages to a log that is down, only the first is tried, and a second passes before it is tried again.
 #[test]
 fn a_peer_that_is_down_gets_one_connect_a_round(rt: HostRuntime) {
     let alloc = rt.alloc();
@@ -218,8 +218,8 @@ fn a_peer_that_is_down_gets_one_connect_a_round(rt: HostRuntime) {
     assert_same(&rt, pauses, Ok(true));
 }
 
-/// What becomes of the next message to the log. `NoMemory` also where it was received, and the desk found none for the
-/// acknowledgement.
+/// The outcome for the next message to the log. `NoMemory` also if it was received, and the desk ran out of memory for
+/// the acknowledgement.
 fn sent(
     rt: &(impl Wait + Abort),
     alloc: Global,
@@ -234,7 +234,7 @@ fn sent(
     }
 }
 
-/// Asserts what becomes of the next message to the log.
+/// Asserts the outcome for the next message to the log.
 fn assert_sent(
     rt: &(impl Wait + Abort),
     alloc: Global,
@@ -251,7 +251,7 @@ fn assert_sent(
     assert_same(rt, sent, expected);
 }
 
-/// Asserts what becomes of a proposal that is the next message to the log.
+/// Asserts the outcome for a proposal that is the next message to the log.
 fn assert_next(rt: &(impl Wait + Abort), alloc: Global) -> Result<(), NoMemory> {
     let desk = desk_of(rt, alloc, registry(rt, "NZ"));
     let mut seat = Seat::new(alloc);

@@ -11,7 +11,7 @@ use std::sync::Wait;
 /// More bytes than a test reads.
 const ENOUGH: usize = 2_000;
 
-/// How many bytes are read one by one before a read returns none or fails, and what that read returns.
+/// How many bytes are read one by one before a read returns none or fails, and the result of that read.
 fn read_singly<R: Read>(reader: &mut R) -> (usize, Result<usize, ErrorKind>) {
     let mut byte = [0u8; 1];
     for count in 0..ENOUGH {
@@ -24,8 +24,8 @@ fn read_singly<R: Read>(reader: &mut R) -> (usize, Result<usize, ErrorKind>) {
     (ENOUGH, Ok(1))
 }
 
-/// Asserts how many of that many empty lines are read one by one in a session at the desk, what the read after them
-/// returns, and how many lines are left.
+/// Asserts how many of that many empty lines are read one by one in a session at the desk, the result of the read after
+/// them, and how many lines are left.
 fn assert_singly(
     rt: &(impl Wait + Clock + Abort),
     alloc: Global,
@@ -39,7 +39,7 @@ fn assert_singly(
     drop(bytes);
 }
 
-/// Up to 1,024 lines are read. The next read fails and reads nothing, whether there is a line more or none.
+/// Up to 1,024 lines are read. The next read fails and reads nothing, whether or not there is another line.
 #[test]
 fn a_session_reads_1024_lines(rt: HostRuntime) {
     let alloc = rt.alloc();
@@ -55,7 +55,7 @@ fn a_session_reads_1024_lines(rt: HostRuntime) {
     drop(desk);
 }
 
-/// The read with which that many lines are read returns whatever else it read at once, and the next one fails.
+/// The read that reaches that many lines returns all bytes that it read at once, and the next one fails.
 #[test]
 fn a_session_reads_its_last_lines_at_once(rt: HostRuntime) {
     let alloc = rt.alloc();

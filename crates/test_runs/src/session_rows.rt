@@ -23,8 +23,8 @@ struct Entry {
     reply: Reply,
 }
 
-/// Replies to `stop` that the node has stopped, to an empty line that it is no message, and to any other that it was
-/// received.
+/// Replies to `stop` that the node has stopped, to an empty line that it is no message, and to any other line that it
+/// was received.
 #[derive(Drop)]
 struct Scribe {
     alloc: Global,
@@ -76,7 +76,7 @@ fn served<R: Read + Drop, W: Write + Drop>(
     (end, lines, writer.failures())
 }
 
-/// Asserts that a session that found no memory was given no more than that many lines, and that no write failed.
+/// Asserts that a session that ran out of memory was given no more than that many lines, and that no write failed.
 fn assert_no_more(rt: &impl Abort, given: usize, lines: usize, failures: u64) {
     assert!(rt; given <= lines);
     assert_same(rt, failures, 0);
@@ -91,7 +91,7 @@ const ROWS: [(&[u8], SessionEnd, usize); 6] = [
     (b"a", SessionEnd::Truncated, 0),
 ];
 
-/// Asserts that a session that found no memory has replied to each line that it was given, and forgets the replies.
+/// Asserts that a session that ran out of memory has replied to each line that it was given, and clears the replies.
 fn forget_replies(rt: &impl Abort, written: &mut Vec<u8>, given: usize, lines: usize) {
     assert!(rt; given <= lines);
     assert_same(rt, Some(written.len()), given.checked_mul(REPLY));

@@ -35,7 +35,7 @@ fn ask(rt: &(impl Wait + Abort), alloc: Global, desk: &NzDesk, seat: &mut Seat, 
     drop(taken);
 }
 
-/// A seat that was told of three records by a desk of its own.
+/// A seat with tickets of three records, taken at a desk of its own.
 fn seat_of_three(rt: &(impl Wait + Abort), alloc: Global) -> Seat {
     let desk = desk_of_three(rt, alloc);
     let mut seat = Seat::new(alloc);
@@ -63,7 +63,7 @@ fn what_another_desk_told_is_found(rt: HostRuntime) {
     assert_found(&rt, empty, other, Err(Unsettled::Untrue(3)));
 }
 
-/// A seat that was told by a desk of its own that NZ's first proposal is recorded.
+/// A seat with a ticket of NZ's first proposal, recorded at a desk of its own.
 fn told_seat(rt: &(impl Wait + Abort), alloc: Global) -> Seat {
     let desk = nz_desk(rt, alloc);
     let mut seat = Seat::new(alloc);
@@ -72,7 +72,7 @@ fn told_seat(rt: &(impl Wait + Abort), alloc: Global) -> Seat {
     seat
 }
 
-/// The same, and that it is committed.
+/// The same, with the record confirmed as committed.
 fn confirmed_seat(rt: &(impl Wait + Clock + Abort), alloc: Global) -> Result<Seat, NoMemory> {
     let desk = nz_desk(rt, alloc);
     let mut seat = Seat::new(alloc);
@@ -91,7 +91,7 @@ fn confirmed_seat(rt: &(impl Wait + Clock + Abort), alloc: Global) -> Result<Sea
     }
 }
 
-/// Asserts what is found where a state has that one record, and those are the seats.
+/// Asserts the result of settling a state that has that one record, with those seats.
 fn assert_unsettled(
     rt: &impl Abort,
     alloc: Global,
@@ -117,7 +117,7 @@ fn seats_of_other_desks_are_found(rt: HostRuntime) {
     drop(both);
 }
 
-/// Two records that were told.
+/// Two records, each with a ticket.
 const TWO: &[(Given, Told)] = &[
     (TEN, Told::Step(Stepped::Recorded(0))),
     (TEN_MORE, Told::Step(Stepped::Recorded(1))),
@@ -140,7 +140,7 @@ fn an_unconfirmed_tail_settles(rt: HostRuntime) {
     assert_found(&rt, desk, seat, Ok(life));
 }
 
-/// What is found where a core under another scheme settles the state.
+/// The result of settling the state with a core under another scheme.
 fn found_by_another(
     rt: &impl Abort,
     alloc: Global,

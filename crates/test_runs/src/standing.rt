@@ -1,5 +1,5 @@
-//! What states, desks and seats have, which a call that finds no memory leaves as it is; and calls that are made again
-//! where that was so.
+//! The contents of states, desks and seats, which a call that runs out of memory leaves as they were; and calls that
+//! are made again after that.
 ghost use Rattle.std.specs.Prelude.{◌≡◌, IfOk};
 
 use crate::given::{Given, input_of};
@@ -15,7 +15,7 @@ use std::process::Abort;
 use std::sync::Wait;
 use test_support::again;
 
-/// What a state has.
+/// The contents of a state.
 #[derive(Clone, Copy, Debug, PartialEq, Eq)]
 pub struct StateStanding {
     records: usize,
@@ -25,7 +25,7 @@ pub struct StateStanding {
     runs: bool,
 }
 
-/// What a desk has, and what a seat was told of it.
+/// The contents of a desk, and the notes of a seat at it.
 #[derive(Clone, Copy, Debug, PartialEq, Eq)]
 pub struct Standing {
     at_desk: StateStanding,
@@ -35,7 +35,7 @@ pub struct Standing {
     confirmed: usize,
 }
 
-/// What the state has.
+/// The contents of the state.
 pub fn of_state<C: NodeCore>(rt: &impl Abort, state: &State<C>) -> StateStanding {
     let next = match state.next_send(Node::Itl, 0) {
         Some((key, _)) => Some(key),
@@ -52,7 +52,7 @@ pub fn of_state<C: NodeCore>(rt: &impl Abort, state: &State<C>) -> StateStanding
     }
 }
 
-/// How many records the desk has. It tells so also where it finds no memory for a question.
+/// How many records the desk has. The result has the length even if memory runs out for a question.
 fn records_at<O: Opening, C: NodeCore, S: NodeStore, B: Bell, R: Wait + Abort>(
     rt: &R,
     alloc: Global,
@@ -93,7 +93,7 @@ pub fn next_key<O: Opening, C: NodeCore, S: NodeStore, B: Bell, R: Wait + Abort>
     Some(key)
 }
 
-/// What the desk has, and what the seat was told of it.
+/// The contents of the desk, and the notes of the seat.
 pub fn standing_at<O: Opening, C: NodeCore, S: NodeStore, B: Bell, R: Wait + Abort>(
     rt: &R,
     alloc: Global,
@@ -114,7 +114,7 @@ pub fn standing_at<O: Opening, C: NodeCore, S: NodeStore, B: Bell, R: Wait + Abo
     }
 }
 
-/// What was taken, or how many records it tells where memory ran out.
+/// The taken result, or the number of records in it if memory ran out.
 pub fn unless_no_memory(taken: Taken) -> Result<Taken, usize>
     ensures { IfOk result (λ kept. kept ≡ taken) }
 {
@@ -199,8 +199,8 @@ pub fn query<O: Opening, C: NodeCore, S: NodeStore, B: Bell, R: Wait + Abort>(
     taken.expect(rt, "memory")
 }
 
-/// Has the desk commit. `NoMemory` where its store found none: then the desk has stopped with the records that were
-/// committed before, so that whoever asked begins with another desk.
+/// Has the desk commit. `NoMemory` if its store ran out of memory: then the desk has stopped with the records that were
+/// committed before, so the caller begins with another desk.
 pub fn commit<O: Opening, C: NodeCore, S: NodeStore, B: Bell, R: Wait + Abort>(
     rt: &R,
     desk: &Desk<O, C, S, B>,

@@ -1,4 +1,4 @@
-//! Nodes of the worked scheme with their desks and ports, and what others send them.
+//! Nodes of the worked scheme with their desks and ports, and the messages that others send them.
 ghost use Rattle.std.specs.Prelude.{◌≡◌, [], true};
 ghost use Rattle.world.specs.Cores.{journal_of};
 
@@ -31,19 +31,19 @@ use std::time::Duration;
 use test_support::{READING, again};
 use world::Core;
 
-/// The log tells NZ that a transfer is completed that NZ never proposed.
+/// The log notifies NZ that a transfer is completed that NZ never proposed.
 pub const COMPLETED: &str =
     r#"{"call":"AcceptNotification","codes":[],"from":"ITL","status":"Completed","to":"NZ","transaction":"NZ9"}"#;
 
-/// The log tells NZ that such a transfer is accepted.
+/// The log notifies NZ that such a transfer is accepted.
 pub const ACCEPTED: &str =
     r#"{"call":"AcceptNotification","codes":[],"from":"ITL","status":"Accepted","to":"NZ","transaction":"NZ9"}"#;
 
-/// The log tells JP that such a transfer is cancelled.
+/// The log notifies JP that such a transfer is cancelled.
 pub const CANCELLED: &str =
     r#"{"call":"AcceptNotification","codes":[],"from":"ITL","status":"Cancelled","to":"JP","transaction":"NZ9"}"#;
 
-/// What a node replies to a message of a transfer that it doesn't know, where it has to.
+/// A node's reply to a message about a transfer that the node should know and doesn't.
 pub const UNKNOWN: u16 = 47;
 
 /// How many threads a node has that sends to none: one that commits, those of its sessions, and its workers.
@@ -77,7 +77,7 @@ pub struct FailingPort {
 }
 
 impl FailingPort {
-    /// One whose first `failing` accepts fail.
+    /// A port whose first `failing` accepts fail.
     pub fn open<R>(rt: &R, failing: u64) -> FailingPort
     where
         R: Net<Listener = TcpListener, Stream = TcpStream> + Abort,
@@ -103,7 +103,7 @@ impl Listen for FailingPort {
     }
 }
 
-/// Of what types the nodes of these tests are: with stores in memory and a clock that stands still.
+/// The types of the nodes of these tests: with stores in memory and a clock that stands still.
 pub struct TestTypes<D, G> {
     dialer: PhantomData<D>,
     gate: PhantomData<G>,
@@ -134,7 +134,7 @@ where
     }
 }
 
-/// A node, and where its threads report.
+/// A node, and the muster at which its threads report.
 #[derive(Drop)]
 pub struct TestNode<D: Dial + Send + Sync + Drop, G: Gate + Send + Sync + Drop> {
     pub station: Station<Brand, Core, TestTypes<D, G>>,
@@ -208,7 +208,7 @@ where
     node_with(node, desk_of(rt, alloc, node), listener)
 }
 
-/// A listener at whose port the first `failing` accepts fail. The node's connections are accepted there.
+/// A listener whose first `failing` accepts fail. The node's connections are accepted there.
 pub fn add_port<N, R>(rt: &R, ports: &mut Ports<N>, node: Node, failing: u64) -> FailingPort
 where
     N: Net,
@@ -227,7 +227,7 @@ pub fn message(rt: &impl Abort, alloc: Global, text: &str) -> Message {
     decode(alloc, text.as_bytes()).expect(rt, READING)
 }
 
-/// The reply that refuses by that code.
+/// The reply that refuses with that code.
 pub fn refused(rt: &impl Abort, code: u16) -> Reply {
     Reply::Refused(ReplyCode::new(code).expect(rt, "a code"))
 }
@@ -244,7 +244,7 @@ pub fn exchange_over<R: Read + Drop, W: Write + Drop>(
     exchange(alloc, &mut reader, &mut writer, message)
 }
 
-/// How an exchange with a node ended. `NoMemory` where memory ran out for it. Where it did at the node, the reply says
+/// How an exchange with a node ended. `NoMemory` if memory ran out for it. If it ran out at the node, the reply says
 /// so, or the session ended without one.
 pub fn unless_no_memory(ended: Exchange) -> Result<Exchange, NoMemory> {
     match ended {
@@ -255,7 +255,7 @@ pub fn unless_no_memory(ended: Exchange) -> Result<Exchange, NoMemory> {
     }
 }
 
-/// One exchange with that node over a connection of its own. `NoMemory` also where there is none for a connection.
+/// One exchange with that node over a connection of its own. `NoMemory` also if there is no memory for a connection.
 pub fn call<D: Dial>(
     alloc: Global,
     dial: &D,
@@ -268,7 +268,7 @@ pub fn call<D: Dial>(
     }
 }
 
-/// Waits until all threads have begun of a node that sends to none. `NoMemory` where there was none for one of them.
+/// Waits until all threads of a node that sends to none have begun. `NoMemory` if there was no memory for one of them.
 pub fn wait_for_threads<D, G, R>(rt: &R, node: &TestNode<D, G>) -> Result<(), NoMemory>
 where
     D: Dial + Send + Sync + Drop,
@@ -316,7 +316,7 @@ where
     run_all(rt, alloc, nodes)
 }
 
-/// The seats of a node's threads, and that other one. `NoMemory` where there was none for them.
+/// The seats of a node's threads, and that other one. `NoMemory` if there was no memory for them.
 fn seats_of(ended: Ended, other: Option<Seat>) -> Result<Vec<Seat>, NoMemory> {
     let mut seats = ended?;
     seats.reserve(1)?;
@@ -326,7 +326,7 @@ fn seats_of(ended: Ended, other: Option<Seat>) -> Result<Vec<Seat>, NoMemory> {
     Ok(seats)
 }
 
-/// The state that the desk leaves, whose store has no fault. `NoMemory` where the store found none.
+/// The state that the desk leaves; its store has no fault. `NoMemory` if the store ran out of memory.
 fn state_left(rt: &impl Abort, desk: NodeDesk) -> Result<State<Core>, NoMemory> {
     let desk::Ended { stored, fault } = desk.end();
     if fault == Some(StoreFault::NoMemory) {
@@ -339,8 +339,8 @@ fn state_left(rt: &impl Abort, desk: NodeDesk) -> Result<State<Core>, NoMemory> 
     Ok(state)
 }
 
-/// How many records the node has and how many it has committed, as its threads were told, and whoever has that other
-/// seat. `NoMemory` where there was none for its threads or for its store.
+/// How many records the node has and how many it has committed, by the notes of its threads and of that other seat.
+/// `NoMemory` if there was no memory for its threads or for its store.
 pub fn records_of<D: Dial + Send + Sync + Drop, G: Gate + Send + Sync + Drop>(
     rt: &impl Abort,
     node: TestNode<D, G>,

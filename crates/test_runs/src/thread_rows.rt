@@ -55,16 +55,16 @@ fn watched(rt: &impl Abort, alloc: Global) -> WatchedDesk {
     Desk::new(nz_stored(rt, alloc), Bells::new(alloc))
 }
 
-/// What the thread that commits saw.
+/// The order of events that the thread that commits saw.
 #[derive(Clone, Copy, Debug, PartialEq, Eq)]
 enum Seen {
-    /// Another thread waited at the bell, and was told nothing before the commit.
+    /// Another thread waited at the bell, and got no receipt before the commit.
     Awaited,
-    /// Another thread was told before the commit.
+    /// Another thread got a receipt before the commit.
     ToldEarly,
     /// No thread waited, and the desk was stopped.
     Alone,
-    /// The store found no memory, and the desk has stopped.
+    /// The store ran out of memory, and the desk has stopped.
     NoMemory,
 }
 
@@ -86,12 +86,12 @@ fn commit_awaited<R: Wait + Clock>(
         }
         thread::sleep(rt, Duration::from_millis(1));
     }
-    // Where there was no memory for a second thread, this one would confirm next, and wait forever.
+    // If there was no memory for a second thread, this one would confirm next, and wait forever.
     desk.stop(rt);
     Seen::Alone
 }
 
-/// Confirms what was taken, and says so to the thread that commits.
+/// Confirms the taken result, and reports it to the thread that commits.
 fn confirm<R: Wait + Clock>(
     rt: &R,
     desk: &WatchedDesk,
@@ -121,8 +121,8 @@ fn confirm_and_commit<R: Threads + Wait + Clock + Sync>(
     )
 }
 
-/// Has one thread confirm what was taken, and another commit. Asserts that the first waits for the second. `NoMemory`
-/// where there was none for the store or for a thread.
+/// Has one thread confirm the taken result, and another commit. Asserts that the first waits for the second. `NoMemory`
+/// if there was no memory for the store or for a thread.
 fn answer_waits<R: Threads + Wait + Clock + Abort + Sync>(
     rt: &R,
     desk: &WatchedDesk,
@@ -139,7 +139,7 @@ fn answer_waits<R: Threads + Wait + Clock + Abort + Sync>(
     }
 }
 
-/// Asserts that the answers to an order and to a question wait for what they say to be committed.
+/// Asserts that the answers to an order and to a question wait until the records behind them are committed.
 fn answers_wait<R: Threads + Wait + Clock + Abort + Sync>(
     rt: &R,
     alloc: Global,
@@ -163,7 +163,7 @@ fn a_receipt_waits_for_the_commit(rt: HostRuntime) {
     assert_same(&rt, waited, Ok(()));
 }
 
-/// How many proposals each taking thread gives.
+/// How many proposals each thread that takes gives.
 const EACH: u32 = 20;
 
 /// An order to transfer that unit.
@@ -189,7 +189,8 @@ fn copy_of(rt: &impl Abort, order: &Input) -> Input {
     again!(order.copy(), Err(NoMemory) => ()).expect(rt, "memory")
 }
 
-/// Asserts that a seat that found no memory has as many tickets and notes as before, all of which the journal has.
+/// Asserts that a seat that ran out of memory has as many tickets and notes as before, and that the journal has all of
+/// them.
 fn assert_kept(rt: &impl Abort, seat: &Seat, before: (usize, usize), records: usize) {
     assert_same(rt, (seat.tickets().len(), seat.notes().len()), before);
     assert!(rt; records >= before.0);
@@ -225,7 +226,7 @@ fn propose_units<R: Wait + Clock + Abort>(
     (seat, confirmed)
 }
 
-/// Says that it has begun, and commits until the desk has stopped.
+/// Reports that it has begun, and commits until the desk has stopped.
 fn commit_all<R: Wait + Clock>(rt: &R, desk: &NzDesk, begun: &Done) {
     begun.set();
     for _ in rt.forever() {
@@ -239,11 +240,11 @@ fn commit_all<R: Wait + Clock>(rt: &R, desk: &NzDesk, begun: &Done) {
     }
 }
 
-/// What each of the two threads that take has, and how many of its orders were recorded and confirmed.
+/// The remains of the two threads that take, and how many of the orders of each were recorded and confirmed.
 type Both = ((Seat, u32), (Seat, u32));
 
-/// Two threads that take, until both are done, once another one commits. Then the desk stops. `NoMemory` where there
-/// was none for that other thread: nobody would commit what they took.
+/// Two threads that take, until both are done, once another one commits. Then the desk stops. `NoMemory` if there was
+/// no memory for that other thread: no thread would commit their orders.
 fn propose_twice<R: Threads + Wait + Clock + Abort + Sync>(
     rt: &R,
     alloc: Global,
@@ -282,8 +283,8 @@ fn three_threads<R: Threads + Wait + Clock + Abort + Sync>(
     both
 }
 
-/// How many orders of each of two threads were recorded and confirmed, and what the desk's state settles to with their
-/// seats. `NoMemory` where there was none for the store or for a thread.
+/// How many orders of each of two threads were recorded and confirmed, and the result of settling the desk's state with
+/// their seats. `NoMemory` if there was no memory for the store or for a thread.
 fn threads_settle<R: Threads + Wait + Clock + Abort + Sync>(
     rt: &R,
     alloc: Global,

@@ -17,7 +17,7 @@ const ANSWERS: &str = "\
 4 status Completed
 ";
 
-// A run takes some 0.2 seconds, and more than half of one where other programs keep all processors busy: all of them end
+// A run takes some 0.2 seconds, and more than half a second if other programs keep all processors busy: all of them end
 // well within the minute that a test has.
 const RUNS: usize = 20;
 

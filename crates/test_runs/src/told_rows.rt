@@ -1,4 +1,4 @@
-//! What a state tells, and what a seat keeps of it.
+//! The results of a state, and those that a seat keeps.
 ghost use Rattle.std.specs.Prelude.{◌≡◌, Some};
 
 use crate::given::input_of;
@@ -13,7 +13,7 @@ use protocol::units::{NoMemory, Refusal};
 use std::process::Abort;
 use test_support::again;
 
-/// Makes room at an empty seat for what is told of the transaction.
+/// Makes room at an empty seat for the result of a query for the transaction.
 fn prepare(rt: &impl Abort, seat: &mut Seat, id: TransactionId)
     ensures { seat.new.prepared ≡ Some (Asked.Query id) }
 {

@@ -1,4 +1,4 @@
-//! What one thread waits for that another one does.
+//! Waits of one thread for another.
 
 use desk::{Gate, Spot};
 use protocol::units::Node;
@@ -10,31 +10,31 @@ use std::time::Duration;
 /// How many times a thread looks for another one, a millisecond apart.
 pub const TURNS: u32 = 10_000;
 
-/// Something that is done once.
+/// An event that happens once.
 #[derive(Drop)]
 pub struct Done {
     count: AtomicU64,
 }
 
 impl Done {
-    /// It isn't done yet.
+    /// An event that hasn't happened.
     pub fn not_yet() -> Done {
         Done {
             count: AtomicU64::new(0),
         }
     }
 
-    /// It is done now.
+    /// Marks the event as happened.
     pub fn set(&self) {
         self.count.store(1, Ordering::SeqCst);
     }
 
-    /// Whether it is done.
+    /// Whether the event has happened.
     pub fn is_set(&self) -> bool {
         self.count.load(Ordering::SeqCst) != 0
     }
 
-    /// Waits until it is done, at most `TURNS` turns of one millisecond. Returns whether it is.
+    /// Waits until the event has happened, at most `TURNS` turns of one millisecond. Returns whether it has.
     pub fn wait<R: Clock>(&self, rt: &R) -> bool {
         for _ in 0..TURNS {
             if self.is_set() {
@@ -46,7 +46,7 @@ impl Done {
     }
 }
 
-/// That something has begun, and that what it waits for is over.
+/// One event when something has begun, and another when the event that it waits for is over.
 #[derive(Drop)]
 pub struct Signals {
     pub begun: Done,

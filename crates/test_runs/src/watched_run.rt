@@ -10,7 +10,7 @@ use std::sync::Wait;
 use std::thread::Threads;
 use test_support::again;
 
-/// A watch that always wants to be told, and keeps what it is told.
+/// A watch that always wants the count, and keeps every call.
 #[derive(Clone, Copy)]
 struct Told {
     answered: usize,
@@ -48,7 +48,7 @@ impl weave::Watch for Told {
     }
 }
 
-/// What a watch is told of a run. `NoMemory` where memory ran out in it.
+/// The calls of a watch in a run. `NoMemory` if memory ran out in it.
 fn told_of_run<R>(rt: &R, alloc: Global) -> Result<Told, NoMemory>
 where
     R: Threads + Wait + Clock + Net<Listener = TcpListener, Stream = TcpStream> + Abort + Sync,

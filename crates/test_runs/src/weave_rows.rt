@@ -58,7 +58,7 @@ fn records(rt: &impl Abort, alloc: Global, journal: &[Given]) -> Vec<Input> {
     records
 }
 
-/// What the journals of the log, of JP and of NZ come to.
+/// The result of weaving the journals of the log, of JP and of NZ.
 fn woven<'a>(
     rt: &impl Abort,
     alloc: Global,

@@ -1,4 +1,4 @@
-//! Calls of stores, each made again where memory ran out.
+//! Calls of stores, each repeated where memory ran out.
 
 use crate::same::assert_same;
 use crate::sample_records::{are_two, two};
@@ -8,7 +8,7 @@ use std::alloc::Global;
 use std::process::Abort;
 use test_support::again;
 
-/// The records of the store. It goes on as it was where memory ran out.
+/// The records of the store. Where memory ran out, the store goes on as it was.
 pub fn load<S: NodeStore>(store: &mut S) -> Result<Vec<Input>, StoreFault> {
     again!(store.load(), Err(StoreFault::NoMemory) => ())
 }
@@ -18,7 +18,7 @@ pub fn loaded<S: NodeStore>(rt: &impl Abort, store: &mut S) -> Vec<Input> {
     load(store).expect(rt, "no fault of the store")
 }
 
-/// How many records the store has.
+/// The number of records in the store.
 pub fn count<S: NodeStore>(rt: &impl Abort, store: &mut S) -> usize {
     let records = loaded(rt, store);
     let count = records.len();
@@ -43,8 +43,8 @@ pub fn reopen<S: NodeStore>(rt: &impl Abort, store: &mut S) -> Result<(), StoreF
     again!(store.reopen(), Err(StoreFault::NoMemory) => assert!(rt; waits(store)))
 }
 
-/// Opens a store again that found no memory for an append. It must be opened again then, and has as many records as
-/// before. Fails where a call of its files does.
+/// Opens a store again that lacked memory for an append. It must then be opened again, and has the same number of
+/// records as before. Fails where a call of its files fails.
 fn recover<S: NodeStore>(rt: &impl Abort, store: &mut S, records: usize) -> Result<(), StoreFault> {
     assert!(rt; waits(store));
     store.reopen()?;
@@ -54,7 +54,7 @@ fn recover<S: NodeStore>(rt: &impl Abort, store: &mut S, records: usize) -> Resu
     Ok(())
 }
 
-/// Appends the batch to a store that has so many records.
+/// Appends the batch to a store that has that number of records.
 pub fn append<S: NodeStore>(
     rt: &impl Abort,
     store: &mut S,

@@ -31,7 +31,7 @@ fn without_log(rt: &impl Abort, alloc: Global, files: RoomyFiles) -> RoomyFiles 
     }
 }
 
-/// Asserts that a store still has the two records of which no copy was made. Fails where a call of its files does.
+/// Asserts that a store whose log wasn't copied still has the two records. Fails where a call of its files fails.
 fn keeps_two<S: NodeStore>(
     rt: &impl Abort,
     alloc: Global,
@@ -43,7 +43,7 @@ fn keeps_two<S: NodeStore>(
     Ok(())
 }
 
-/// Opens the files of NZ's store once more, for which a copying found no memory. They have the two records then, and
+/// Opens the files of NZ's store once more, after a copying that lacked memory. They then have the two records, and
 /// their log is copied once more.
 fn copied_once_more<D: Disk + Drop>(
     rt: &impl Abort,
@@ -57,7 +57,7 @@ fn copied_once_more<D: Disk + Drop>(
     }
 }
 
-/// The files of NZ's store of two records, once its log was copied.
+/// The files of NZ's store of two records, after its log was copied.
 fn copied_two<D: Disk + Drop>(
     rt: &impl Abort,
     alloc: Global,
@@ -69,7 +69,7 @@ fn copied_two<D: Disk + Drop>(
     }
 }
 
-/// The files of NZ's store of two records, once its log was copied, where nothing fails.
+/// The files of NZ's store of two records, after its log was copied, where nothing fails.
 fn files_with_a_copy(rt: &impl Abort, alloc: Global) -> RoomyFiles {
     let copied = copied_two(rt, alloc, store_of_two(rt, alloc));
     copied.ok().expect(rt, "no fault of the store")
@@ -105,7 +105,7 @@ fn a_database_that_was_not_copied_has_nothing_without_its_log(rt: HostRuntime) {
     drop(store);
 }
 
-/// Where a call of the files failed.
+/// At which step a call of the files failed.
 #[derive(Clone, Copy, PartialEq, Eq)]
 enum Failed {
     Opening,
@@ -113,8 +113,8 @@ enum Failed {
     Nowhere,
 }
 
-/// Copies the log of NZ's store of two records. After a crash it has them without its log then or, where a call failed,
-/// in the files that are given back.
+/// Copies the log of NZ's store of two records. After a crash the store has them, without its log or, where a call
+/// failed, in the files that are given back.
 fn copy(rt: &impl Abort, alloc: Global, store: RoomyStore) -> Failed {
     match copied_two(rt, alloc, store) {
         Ok(files) => {
@@ -134,7 +134,7 @@ fn copy(rt: &impl Abort, alloc: Global, store: RoomyStore) -> Failed {
     }
 }
 
-/// Opens NZ's store of two records and copies its log, in files of which only so many calls may be made.
+/// Opens NZ's store of two records and copies its log, in files that allow only a limited number of calls.
 fn copy_in(rt: &impl Abort, alloc: Global, files: RoomyFiles) -> Failed {
     match opened(rt, alloc, files, "NZ") {
         Ok(store) => copy(rt, alloc, store),
@@ -153,8 +153,8 @@ enum Fused {
     Database,
 }
 
-/// The calls of one file fail from the first on, then from the second on, until none does. Some of them are calls of
-/// the copying.
+/// The calls of one file fail from the first on, then from the second on, and so on, until none fails. Some of them are
+/// calls of the copying.
 fn cut_everywhere(rt: &impl Abort, alloc: Global, fused: Fused) {
     let files = closed(store_of_two(rt, alloc));
     let mut some = false;
@@ -194,7 +194,7 @@ fn append_fails<S: NodeStore>(rt: &impl Abort, alloc: Global, store: &mut S) -> 
     failed
 }
 
-/// Whether an append stops the store. Exactly then its log isn't copied.
+/// Whether an append stops the store. Its log isn't copied exactly then.
 fn stops(rt: &impl Abort, alloc: Global, mut store: RoomyStore) -> bool {
     let stopped = append_fails(rt, alloc, &mut store);
     match copied_two(rt, alloc, store) {
@@ -210,7 +210,7 @@ fn stops(rt: &impl Abort, alloc: Global, mut store: RoomyStore) -> bool {
     stopped
 }
 
-/// The same of NZ's store in new files, of whose log that many calls may be made, where it can be opened.
+/// The same for NZ's store in new files whose log allows that number of calls, if it can be opened.
 fn stops_at(rt: &impl Abort, alloc: Global, calls: u64) -> bool {
     match opened(rt, alloc, new_files(rt, alloc, calls, FOREVER), "NZ") {
         Ok(store) => stops(rt, alloc, store),

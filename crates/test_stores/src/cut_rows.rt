@@ -9,7 +9,7 @@ use test_support::texts::TABLE;
 /// More calls of a file than one transfer makes.
 const MOST_CALLS: u64 = 1_000;
 
-/// Makes the transfer with that cut. Returns how often a node stopped.
+/// Makes the transfer with that cut. Returns how many times a node stopped.
 fn stops_at(rt: &impl Abort, alloc: Global, cut: Cut) -> u64 {
     let mut link = Link::open(rt, alloc, cut);
     transfer(rt, alloc, &mut link);
@@ -19,8 +19,8 @@ fn stops_at(rt: &impl Abort, alloc: Global, cut: Cut) -> u64 {
     stops
 }
 
-/// The calls of one file fail, first from the first call on, then from the second on, until a transfer meets no
-/// failure.
+/// The calls of one file fail, first from the first call on, then from the second on, and so on, until no call of a
+/// transfer fails.
 fn cut_everywhere(rt: &impl Abort, alloc: Global, node: Node, file: File) {
     for calls in 0..MOST_CALLS {
         if stops_at(rt, alloc, Cut { node, file, calls }) == 0 {

@@ -12,7 +12,7 @@ use std::process::Abort;
 use test_support::{READING, again};
 use world::Core;
 
-/// A close of an account that is closed, which no core records.
+/// An order to close an account that is closed already. No core records it.
 const UNRECORDED_AT_1: &str =
     r#"UPDATE entries SET body = '{"account":2,"input":"close","v":2}' WHERE place = 1"#;
 
@@ -24,7 +24,7 @@ const UNREADABLE_AT_3: &str = "UPDATE entries SET body = 'x' WHERE place = 3";
 
 const UNREADABLE_AT_256: &str = "UPDATE entries SET body = 'x' WHERE place = 256";
 
-/// That many records, by which an account is closed and opened in turn.
+/// That number of records, which close and open an account in turn.
 fn turns(rt: &impl Abort, alloc: Global, records: usize) -> Vec<Input> {
     let mut batch = Vec::new(alloc);
     for place in 0..records {
@@ -39,7 +39,7 @@ fn append_all<S: NodeStore>(rt: &impl Abort, store: &mut S, batch: &[Input]) {
     assert_same(rt, append(rt, store, 0, batch), Ok(()));
 }
 
-/// The files of NZ's store of that many such records.
+/// The files of NZ's store of that number of such records.
 fn files_of_turns(rt: &impl Abort, alloc: Global, records: usize) -> RoomyFiles {
     let batch = turns(rt, alloc, records);
     let mut store = open_as(rt, alloc, new_files(rt, alloc, FOREVER, FOREVER), "NZ");
@@ -58,14 +58,14 @@ fn loaded<S: NodeStore>(
     State::load_from(alloc, core, store)
 }
 
-/// The fault for which no state of NZ can be loaded from the store, if there is one. The store goes on as it was where
-/// memory ran out.
+/// The fault with which loading a state of NZ from the store fails, if it fails. Where memory ran out, the store goes
+/// on as it was.
 fn load_fault<S: NodeStore>(rt: &impl Abort, alloc: Global, store: &mut S) -> Option<StoreFault> {
     again!(loaded(rt, alloc, store), Err(StoreFault::NoMemory) => ()).err()
 }
 
-/// Asserts that a state can't be loaded from a store of that many records, once these statements were done, for the
-/// damage of that place; or that it can where there is none.
+/// Asserts that after these statements a state can't be loaded from a store of that number of records, because that
+/// place is damaged; or that it can, where no place is given.
 fn assert_named(
     rt: &impl Abort,
     alloc: Global,

@@ -1,4 +1,4 @@
-//! Orders and messages, one after the other, until nothing is left to be sent.
+//! Orders and messages, one after the other, until there is nothing left to send.
 
 use crate::links::Link;
 use crate::same::room;
@@ -17,7 +17,7 @@ use test_support::texts::PROPOSE_RECORD;
 /// The index of NZ among the nodes.
 const NZ: usize = 2;
 
-/// How many messages a node sends to another one, at most, and how many rounds there are, at most.
+/// The greatest number of messages from one node to another, and the greatest number of rounds.
 const MOST: usize = 20;
 
 const MOMENT: Moment = Moment {
@@ -27,7 +27,8 @@ const MOMENT: Moment = Moment {
 /// A peer that ends before it replies.
 const NOTHING: &[u8] = b"";
 
-/// How an exchange of the message ends whose peer writes these bytes, and the bytes that it writes.
+/// The result of an exchange of the message with a peer that writes these bytes, and the bytes that the exchange
+/// writes.
 fn exchanged(
     rt: &impl Abort,
     alloc: Global,
@@ -42,7 +43,7 @@ fn exchanged(
     (ended, written)
 }
 
-/// The same, where an exchange that found no memory is made once more.
+/// The same, where an exchange that lacked memory is repeated once.
 fn exchanged_again(
     rt: &impl Abort,
     alloc: Global,
@@ -62,7 +63,7 @@ fn read_line(rt: &impl Abort, alloc: Global, written: &[u8]) -> Message {
     message.ok().expect(rt, "a message")
 }
 
-/// What the peer's session replies to a message of which its node told that.
+/// The reply of the peer's session to a message, after that note of its node.
 fn reply_to(rt: &impl Abort, told: Told) -> Reply {
     match told {
         Told::Step(_) => Reply::Received,
@@ -73,8 +74,8 @@ fn reply_to(rt: &impl Abort, told: Told) -> Reply {
     }
 }
 
-/// Has the node at that index take the message that was written, and commit it. Returns the bytes of its reply: none where it
-/// stopped, as its connection ends then.
+/// Has the node at that index take the message that was written, and commit it. Returns the bytes of its reply. There
+/// are none if the node stopped, since its connection then ends.
 fn replied(rt: &impl Abort, alloc: Global, link: &mut Link, at: usize, written: &[u8]) -> Vec<u8> {
     let message = read_line(rt, alloc, written);
     let told = link.take(
@@ -123,8 +124,8 @@ fn next_message(rt: &impl Abort, link: &Link, from: usize, to: usize) -> Option<
     Some((key, copy.expect(rt, "memory")))
 }
 
-/// Sends what is unacknowledged between these nodes, a message again where it wasn't received. The sender takes an
-/// acknowledgement, which it commits with its next records. Returns how many were sent.
+/// Sends the unacknowledged messages between these nodes, and each one again where it wasn't received. The sender takes
+/// an acknowledgement, and commits it with its next records. Returns how many messages were sent.
 fn send_between(rt: &impl Abort, alloc: Global, link: &mut Link, from: usize, to: usize) -> usize {
     for sent in 0..MOST {
         let Some((key, message)) = next_message(rt, link, from, to) else {
@@ -140,7 +141,7 @@ fn send_between(rt: &impl Abort, alloc: Global, link: &mut Link, from: usize, to
     MOST
 }
 
-/// Sends what is unacknowledged between all nodes. Returns how many messages were sent.
+/// Sends the unacknowledged messages between all nodes. Returns how many messages were sent.
 fn send_round(rt: &impl Abort, alloc: Global, link: &mut Link) -> usize {
     let mut sent: usize = 0;
     for from in 0..3 {
@@ -151,7 +152,7 @@ fn send_round(rt: &impl Abort, alloc: Global, link: &mut Link) -> usize {
     sent
 }
 
-/// Has NZ propose the transfer where it doesn't know it, and commit that.
+/// Has NZ propose the transfer where it doesn't know it, and commit the proposal.
 fn propose(rt: &impl Abort, alloc: Global, link: &mut Link) {
     let id = TransactionId::read("NZ1").expect(rt, "an identifier");
     let order = record(rt, alloc, PROPOSE_RECORD);
@@ -170,7 +171,7 @@ fn propose(rt: &impl Abort, alloc: Global, link: &mut Link) {
     drop(order);
 }
 
-/// Has the nodes make the transfer to its end. All commit what isn't committed after each round.
+/// Has the nodes complete the transfer. After each round all nodes commit their uncommitted records.
 pub fn transfer(rt: &impl Abort, alloc: Global, link: &mut Link) {
     propose(rt, alloc, link);
     for _ in 0..MOST {

@@ -33,7 +33,7 @@ pub fn assert_two_in(rt: &impl Abort, alloc: Global, files: RoomyFiles) {
     drop(store);
 }
 
-/// Asserts that the store has the two records, that it still has them once it was opened again, and that it met no
+/// Asserts that the store has the two records, that it still has them after it was opened again, and that it met no
 /// fault.
 fn assert_kept<S: NodeStore>(rt: &impl Abort, alloc: Global, store: &mut S) {
     assert_two(rt, alloc, store);
@@ -131,12 +131,12 @@ fn a_file_that_is_no_database_is_refused(rt: HostRuntime) {
     assert_refused(&rt, alloc, files, "NZ", StoreFault::Damaged(0));
 }
 
-/// Asserts that the whole store has that damage.
+/// Asserts that loading the whole store fails with that damage.
 fn assert_damaged<S: NodeStore>(rt: &impl Abort, store: &mut S, place: u64) {
     assert!(rt; load(store).err() == Some(StoreFault::Damaged(place)));
 }
 
-/// Asserts that after the statement the whole store has that damage. Gives the store.
+/// Asserts that after the statement loading the whole store fails with that damage. Returns the store.
 fn damaged(rt: &impl Abort, alloc: Global, statement: &str, place: u64) -> RoomyStore {
     let files = changed(rt, alloc, files_of_two(rt, alloc), &[statement]);
     let mut store = open_as(rt, alloc, files, "NZ");
@@ -144,7 +144,7 @@ fn damaged(rt: &impl Abort, alloc: Global, statement: &str, place: u64) -> Roomy
     store
 }
 
-/// Asserts that the page of that one place has that damage.
+/// Asserts that loading the page of that one place fails with that damage.
 fn assert_damaged_page<S: NodeStore>(rt: &impl Abort, store: &mut S, place: u64) {
     let page = again!(store.load_page(place, 1), Err(StoreFault::NoMemory) => ());
     assert!(rt; page.err() == Some(StoreFault::Damaged(place)));
@@ -171,18 +171,18 @@ fn a_place_that_is_missing_is_named(rt: HostRuntime) {
     drop(store);
 }
 
-/// How far a run came before a call of its files failed.
+/// How far a run got before a call of its files failed.
 #[derive(Drop)]
 struct Run {
-    /// How many records were appended without a fault.
+    /// The number of records that were appended without a fault.
     appended: usize,
-    /// How many faults were counted.
+    /// The number of faults that were counted.
     faults: u64,
-    /// Whether the store had to be opened again then.
+    /// Whether the store then had to be opened again.
     waited: bool,
 }
 
-/// Appends two records, opens the store again, and so once more, up to the first fault.
+/// Appends two records, opens the store again, and repeats both, up to the first fault.
 fn drive<S: NodeStore>(rt: &impl Abort, alloc: Global, store: &mut S) -> Run {
     let batch = two(rt, alloc);
     let mut appended = 0;
@@ -205,7 +205,7 @@ fn drive<S: NodeStore>(rt: &impl Abort, alloc: Global, store: &mut S) -> Run {
     }
 }
 
-/// A run over files of which that many calls may be made, and what it left of them.
+/// A run over files that allow that number of calls, and the files that it left.
 fn run_over(rt: &impl Abort, alloc: Global, log_calls: u64, db_calls: u64) -> (Run, RoomyFiles) {
     let files = new_files(rt, alloc, log_calls, db_calls);
     match opened(rt, alloc, files, "NZ") {
@@ -225,7 +225,7 @@ fn run_over(rt: &impl Abort, alloc: Global, log_calls: u64, db_calls: u64) -> (R
     }
 }
 
-/// How many records the files have after a crash.
+/// The number of records in the files after a crash.
 fn count_after_a_crash(rt: &impl Abort, alloc: Global, files: RoomyFiles) -> usize {
     let mut store = open_as(rt, alloc, after_losses(rt, alloc, files), "NZ");
     let count = count(rt, &mut store);
@@ -233,7 +233,7 @@ fn count_after_a_crash(rt: &impl Abort, alloc: Global, files: RoomyFiles) -> usi
     count
 }
 
-/// Whether a run stopped at that call of its files, and left what it should: nothing of a batch, or all of it.
+/// Whether a run stopped at that call of its files, and left of a batch either all or nothing.
 fn stops_well(rt: &impl Abort, alloc: Global, log_calls: u64, db_calls: u64) -> bool {
     let (run, mut files) = run_over(rt, alloc, log_calls, db_calls);
     let stopped = run.faults != 0;
@@ -265,7 +265,7 @@ fn each_call_of_the_database_fails(rt: HostRuntime) {
     assert!(rt; false, "an end of the calls");
 }
 
-/// Opens what stands at the path in these files as the store of that registry.
+/// Opens the files at the path as the store of that registry.
 fn opened_at(
     rt: &impl Abort,
     files: &HostRuntime,
@@ -278,7 +278,7 @@ fn opened_at(
     )
 }
 
-/// Asserts that what stands at the path in these files is refused as a store of that registry, for that cause.
+/// Asserts that the files at the path are refused as a store of that registry, with that fault.
 fn assert_refused_at(
     rt: &impl Abort,
     files: &HostRuntime,
@@ -294,7 +294,7 @@ pub fn store_at(rt: &impl Abort, files: &HostRuntime, path: &str) -> SqlStore<Fi
     opened_at(rt, files, path, "NZ").expect(rt, "no fault of the store")
 }
 
-/// Makes NZ's store at the path in these files, with two records, and asserts that it is refused to others meanwhile.
+/// Makes NZ's store at the path in these files, with two records, and asserts that others can't open it meanwhile.
 fn make_at(rt: &impl Abort, files: &HostRuntime, path: &str) {
     let mut store = store_at(rt, files, path);
     assert!(rt; count(rt, &mut store) == 0);
@@ -303,7 +303,7 @@ fn make_at(rt: &impl Abort, files: &HostRuntime, path: &str) {
     drop(store);
 }
 
-/// Asserts that NZ's store at the path in these files has the two records, also once it was opened again.
+/// Asserts that NZ's store at the path in these files has the two records, also after it was opened again.
 fn assert_two_at(rt: &impl Abort, files: &HostRuntime, path: &str) {
     let mut store = store_at(rt, files, path);
     assert_kept(rt, files.alloc(), &mut store);

@@ -1,4 +1,4 @@
-//! Folders and files of tests, each call made again where memory ran out.
+//! Folders and files of tests, where each call is repeated if memory ran out.
 
 use std::fs;
 use std::io::ErrorKind;
@@ -31,7 +31,7 @@ pub fn copy_file(rt: &impl Abort, files: &HostRuntime, from: &str, to: &str) {
     done.expect(rt, "a copy of the file");
 }
 
-/// Removes the folder with all that it has.
+/// Removes the folder with all its contents.
 pub fn remove_folder(rt: &impl Abort, files: &HostRuntime, path: &str) {
     let done = match fs::remove_dir_all(files, path) {
         Err(error) if error.kind() == ErrorKind::OutOfMemory => fs::remove_dir_all(files, path),

@@ -1,4 +1,4 @@
-//! The files of stores in memory, of which each call may be made to fail, and statements on them.
+//! The files of stores in memory, where each call may be made to fail, and statements on them.
 
 use crate::roomy::Roomy;
 use desk::stores::StoreFault;
@@ -16,7 +16,7 @@ pub type Stored = Files<Fuse<Memory>>;
 /// The same, with their room from the start.
 pub type RoomyFiles = Files<Fuse<Roomy>>;
 
-/// So many calls that none fails.
+/// A number of calls at which none fails.
 pub const FOREVER: u64 = u64::MAX;
 
 /// The registry with that code.
@@ -30,7 +30,7 @@ pub fn options() -> Options {
     Options::new(7)
 }
 
-/// New files of which that many calls may be made.
+/// New files that allow that number of calls.
 pub fn new_files(rt: &impl Abort, alloc: Global, log_calls: u64, db_calls: u64) -> RoomyFiles {
     Files {
         log: Fuse::new(Roomy::new(rt, alloc), log_calls),
@@ -48,7 +48,7 @@ pub fn file_with(rt: &impl Abort, alloc: Global, bytes: &[u8]) -> Roomy {
     file
 }
 
-/// A copy of the files, of which that many calls may be made.
+/// A copy of the files that allows that number of calls.
 pub fn with_bytes(
     rt: &impl Abort,
     alloc: Global,
@@ -62,7 +62,7 @@ pub fn with_bytes(
     }
 }
 
-/// The files of the machine that comes back: they lost all that wasn't synced, and their fuses don't blow.
+/// The files after a crash: they lost all that wasn't synced, and their fuses don't blow.
 pub fn after_losses(rt: &impl Abort, alloc: Global, files: RoomyFiles) -> RoomyFiles {
     let left = Files {
         log: Fuse::new(file_with(rt, alloc, files.log.inner().synced()), FOREVER),
@@ -72,17 +72,17 @@ pub fn after_losses(rt: &impl Abort, alloc: Global, files: RoomyFiles) -> RoomyF
     left
 }
 
-/// Whether a call of the file fails by now.
+/// Whether calls of the file fail by now.
 fn has_blown<D: Disk>(file: &mut Fuse<D>) -> bool {
     !file.may_be_used() || file.len().is_err()
 }
 
-/// Whether a call of one of the files fails by now. Else a fault of the device has another cause.
+/// Whether calls of one of the files fail by now. If not, a fault of the device has another cause.
 pub fn have_blown(files: &mut RoomyFiles) -> bool {
     has_blown(&mut files.log) || has_blown(&mut files.db)
 }
 
-/// The machine comes back, with fuses that don't blow.
+/// The files after a crash, with fuses that don't blow.
 pub fn after_a_crash(mut files: Stored) -> Stored {
     files.log.crash();
     files.db.crash();
@@ -95,10 +95,11 @@ pub type MemoryFiles = SqlStore<Fuse<Memory>>;
 /// A store in files with their room from the start.
 pub type RoomyStore = SqlStore<Fuse<Roomy>>;
 
-// A call of a store or a connection over files whose type is known costs half a minute of proof. So these are over any
-// files, and tests call a store by functions over any.
+// A call of a store or a connection over files of a known type takes half a minute to prove. These functions are
+// therefore over any files, and tests call a store through functions over any store.
 
-/// Opens the files as the store of that registry, and once more where memory ran out, which gives them back.
+/// Opens the files as the store of that registry, and once more where memory ran out, since the files are then given
+/// back.
 pub fn opened<D: Disk + Drop>(
     rt: &impl Abort,
     alloc: Global,
@@ -127,12 +128,12 @@ pub fn closed<D: Disk + Drop>(store: SqlStore<D>) -> Files<D> {
     store.close_files()
 }
 
-/// The files of the store, which is closed once its log was copied.
+/// The files of the store, which is closed after its log was copied.
 pub fn copied<D: Disk + Drop>(store: SqlStore<D>) -> Result<Files<D>, (StoreFault, Files<D>)> {
     store.checkpoint_files()
 }
 
-/// Asserts that the files are refused as the store of that registry, for that cause. Gives them back.
+/// Asserts that the files are refused as the store of that registry, with that fault. Gives them back.
 pub fn refused<D: Disk + Drop>(
     rt: &impl Abort,
     alloc: Global,
@@ -146,7 +147,7 @@ pub fn refused<D: Disk + Drop>(
     files
 }
 
-/// Asserts the same, and lets the files go.
+/// Asserts the same, and drops the files.
 pub fn assert_refused<D: Disk + Drop>(
     rt: &impl Abort,
     alloc: Global,
@@ -157,7 +158,7 @@ pub fn assert_refused<D: Disk + Drop>(
     drop(refused(rt, alloc, files, code, wanted));
 }
 
-/// Opens the files as a database, whatever it has.
+/// Opens the files as a database, regardless of its tables.
 pub fn open_database<D: Disk + Drop>(
     rt: &impl Abort,
     alloc: Global,
@@ -175,7 +176,7 @@ pub fn open_database<D: Disk + Drop>(
     opened.ok().expect(rt, "a database")
 }
 
-/// Has the database do these statements. One that found no memory changed nothing.
+/// Has the database execute these statements. One that lacked memory changed nothing.
 pub fn execute_all<S: Alter>(rt: &impl Abort, conn: &mut Connection<S>, statements: &[&str]) {
     for statement in statements {
         let done = again!(
@@ -191,13 +192,13 @@ pub fn store_of<S: Alter + Drop>(conn: Connection<S>) -> S {
     conn.into_store()
 }
 
-/// Has the database do these statements, and gives the connection up for its store.
+/// Has the database execute these statements, and gives the connection up for its store.
 fn changed_by<S: Alter + Drop>(rt: &impl Abort, mut conn: Connection<S>, statements: &[&str]) -> S {
     execute_all(rt, &mut conn, statements);
     store_of(conn)
 }
 
-/// The files after statements that no store makes.
+/// The files after statements that no store executes.
 pub fn changed<D: Disk + Drop>(
     rt: &impl Abort,
     alloc: Global,

@@ -1,4 +1,4 @@
-//! The states of the worked scheme's nodes with their stores, of which one may be cut.
+//! The states of the worked scheme's nodes with their stores, one of which may be cut.
 ghost use Rattle.std.specs.Prelude.{◌≡◌, [], length};
 ghost use Rattle.protocol.specs.Registries.{nodes};
 ghost use Rattle.world.specs.Cores.{journal_of};
@@ -22,10 +22,10 @@ use test_support::texts::SCHEME;
 use test_support::{READING, again};
 use world::Core;
 
-/// How many records are committed at once, at most.
+/// The greatest number of records that are committed at once.
 const BATCH: usize = 64;
 
-/// So many calls that none fails.
+/// A number of calls at which none fails.
 const NEVER: u64 = u64::MAX;
 
 /// One of a store's two files.
@@ -43,7 +43,8 @@ pub struct Cut {
     pub calls: u64,
 }
 
-/// The states of the log, of JP and of NZ, with their stores, and how often one of them stopped and was opened again.
+/// The states of the log, of JP and of NZ, with their stores, and how many times one of them stopped and was opened
+/// again.
 #[derive(Drop)]
 pub struct Link {
     alloc: Global,
@@ -52,7 +53,7 @@ pub struct Link {
     pub stops: u64,
 }
 
-/// Empty files of a node's store, of which the calls fail as the cut says.
+/// Empty files of a node's store, whose calls fail as the cut says.
 fn files_of(alloc: Global, node: Node, cut: Cut) -> Stored {
     let (database, log) = match cut.file {
         _ if cut.node != node => (NEVER, NEVER),
@@ -74,13 +75,13 @@ fn opened<D: Disk + Drop>(
     SqlStore::open_files(alloc, files, options(), node)
 }
 
-/// Whether a call failed as one of a device that fails, or found no memory.
+/// Whether the fault is that of a device whose calls fail, or lack of memory.
 fn is_met(fault: StoreFault) -> bool {
     fault == StoreFault::Device || fault == StoreFault::NoMemory
 }
 
-/// The store in files after a crash of their device, whose calls don't fail then. A device in memory needs memory for them,
-/// and fails where it finds none: it is opened once more then.
+/// The store in files after a crash of their device, whose calls then don't fail. A device in memory needs memory for
+/// them, and fails where there is none: the store is then opened once more.
 fn open_again(rt: &impl Abort, alloc: Global, files: Stored, node: Node) -> MemoryFiles {
     match opened(alloc, after_a_crash(files), node) {
         Ok(store) => store,
@@ -100,7 +101,7 @@ fn worked_scheme(rt: &impl Abort, alloc: Global) -> Scheme
     scheme
 }
 
-/// The core of the node under the worked scheme, which has recorded nothing.
+/// The core of the node under the worked scheme, without a record.
 pub fn new_core(rt: &impl Abort, alloc: Global, node: Node) -> Core
     ensures { journal_of result ≡ [] }
 {
@@ -139,7 +140,7 @@ fn tail(rt: &impl Abort, state: &State<Core>) -> Vec<Input> {
     batch.expect(rt, "memory")
 }
 
-/// Commits to the store what the state has that isn't committed.
+/// Commits the uncommitted records of the state to the store.
 fn commit_to<S: NodeStore>(state: &mut State<Core>, store: &mut S) -> Result<usize, StoreFault> {
     state.commit(store, BATCH)
 }
@@ -157,7 +158,7 @@ fn are_same(found: &[Input], expected: &[Input]) -> bool {
     true
 }
 
-/// Asserts that the state, which is read from a store, has the records that the stopped one had committed, or these and the
+/// Asserts that the state, which was read from a store, has the committed records of the stopped one, or these and the
 /// batch at which its store failed.
 fn assert_after(rt: &impl Abort, state: &State<Core>, stopped: &State<Core>) {
     let (found, committed) = (state.committed(), stopped.committed());
@@ -229,8 +230,9 @@ impl Link {
         )
     }
 
-    /// Has the node at that index commit what isn't committed. Where its store fails, the node is opened again: its
-    /// store has what was committed before, or the whole batch too, and the records of all stores are those of a run.
+    /// Has the node at that index commit its uncommitted records. Where its store fails, the node is opened again: its
+    /// store then has the records that were committed before, with or without the whole batch, and a run leads to the
+    /// records of all stores.
     pub fn commit(&mut self, rt: &impl Abort, at: usize) {
         let state = self.states.get_mut(at).expect(rt, "a state");
         let store = self.stores.get_mut(at).expect(rt, "a store");

@@ -16,7 +16,7 @@ fn number(rt: &impl Abort, value: u64) -> Number {
     Number::new(value).expect(rt, "a short number")
 }
 
-/// Account 8 is opened, and closed.
+/// Two records: account 8 is opened, and closed.
 fn two(rt: &impl Abort, alloc: Global) -> Vec<Input> {
     let batch = [
         Input::OpenAccount(number(rt, 8)),
@@ -45,14 +45,14 @@ fn are_two(inputs: &[Input]) -> bool {
     }
 }
 
-/// Through the bound, as callers of any store do.
+/// Appends and loads through the bound, as callers of any store do.
 fn append_and_load<S: NodeStore>(store: &mut S, batch: &[Input]) -> Result<Vec<Input>, StoreFault> {
     store.append(batch)?;
     store.reopen()?;
     store.load()
 }
 
-/// The same of a new store.
+/// The same for a new store.
 fn appended_and_loaded(
     rt: &impl Abort,
     alloc: Global,
@@ -69,7 +69,7 @@ fn assert_two(rt: &impl Abort, store: &mut MemoryStore) {
     drop(records);
 }
 
-/// Asserts that the store has that many records.
+/// Asserts that the store has that number of records.
 fn assert_count(rt: &impl Abort, store: &mut MemoryStore, count: usize) {
     let records = loaded(rt, store);
     assert_same(rt, records.len(), count);
@@ -82,7 +82,7 @@ fn page(rt: &impl Abort, store: &mut MemoryStore, from: u64, most: u64) -> Vec<I
     page.expect(rt, "no fault of the store")
 }
 
-/// Asserts what comes of appending the batch to a store that has so many records.
+/// Asserts the result of appending the batch to a store that has that number of records.
 fn assert_append(
     rt: &impl Abort,
     store: &mut MemoryStore,

@@ -17,18 +17,18 @@ use std::process::Abort;
 use test_support::{READING, again};
 use world::Core;
 
-/// How many records the store has that is cut.
+/// The number of records of the store that is cut.
 const RECORDS: usize = 300;
 
 /// More calls of a file than one migration makes.
 const MOST_CALLS: u64 = 3_000;
 
-/// The records that come after the first: account 2 of NZ is closed and opened in turn, as format 1 has it.
+/// The records after the first: account 2 of NZ is closed and opened in turn, in format 1.
 const CLOSE_ONE: &str = r#"{"account":2,"input":"close"}"#;
 
 const OPEN_ONE: &str = r#"{"account":2,"input":"open"}"#;
 
-/// The same as format 2 has them.
+/// The same in format 2.
 pub const CLOSE: &str = r#"{"account":2,"input":"close","v":2}"#;
 
 pub const OPEN: &str = r#"{"account":2,"input":"open","v":2}"#;
@@ -63,7 +63,7 @@ fn old_records(rt: &impl Abort, alloc: Global, texts: &[&str]) -> Vec<Input> {
     records
 }
 
-/// Steps the core, which changes nothing where memory ran out.
+/// Steps the core. A step that lacks memory changes nothing.
 fn step(rt: &impl Abort, core: &mut Core, input: &Input) {
     let records = core.records();
     let stepped = again!(
@@ -110,7 +110,7 @@ fn core_in<S: NodeStore>(
     Ok(State::load_from(alloc, core, store)?.into_core())
 }
 
-/// Asserts that the store has the records, and that they lead to the core that they led to before.
+/// Asserts that the store has the records, and that they lead to the same core as before.
 fn assert_whole<S: NodeStore>(rt: &impl Abort, alloc: Global, store: &mut S, before: &Core) {
     let records = loaded(rt, store);
     assert!(rt; records.len() == RECORDS);
@@ -127,15 +127,15 @@ fn assert_whole<S: NodeStore>(rt: &impl Abort, alloc: Global, store: &mut S, bef
     drop(core);
 }
 
-/// What came of an opening.
+/// The result of an opening.
 #[derive(Clone, Copy, PartialEq, Eq)]
 enum Opening {
     Done,
     Failed,
 }
 
-/// Opens the store of format 1 in files of which that many calls may be made, and again after a crash where it fails:
-/// it has its records then, in whichever format.
+/// Opens the store of format 1 in files that allow that number of calls, and again after a crash where it fails. It
+/// then has its records, in one of the two formats.
 fn cut_at(rt: &impl Abort, alloc: Global, files: RoomyFiles, before: &Core) -> Opening {
     match opened(rt, alloc, files, "NZ") {
         Ok(mut store) => {
@@ -160,7 +160,7 @@ enum Fused {
     Database,
 }
 
-/// The calls of one file fail from the first on, then from the second on, until an opening meets no failure.
+/// The calls of one file fail from the first on, then from the second on, and so on, until no call of an opening fails.
 fn cut_everywhere(rt: &impl Abort, alloc: Global, fused: Fused) {
     let texts = old_texts(rt, alloc);
     let records = old_records(rt, alloc, &texts);

@@ -10,15 +10,15 @@ use std::alloc::Global;
 use std::process::Abort;
 use test_support::{READING, again};
 
-/// A message whose unit has a number of 13 digits, as format 1 would have it: format 1 has no such number.
+/// A message whose unit has a number of 13 digits, in the style of format 1: format 1 has no such number.
 const RECEIVED_OF_13_DIGITS: &str =
     r#"UPDATE entries SET body = '{"input":"received","message":{"account":1,"call":"AcceptProposal","from":"ITL","status":"Checked","to":"NZ","to_account":1,"to_registry":"NZ","transaction":"JP1","units":["JP:1:1-1000000000000:AAU"]},"moment":1335830400}' WHERE place = 1"#;
 
-/// The greatest number of a unit that format 1 has, in a message.
+/// The greatest unit number of format 1, in a message.
 const RECEIVED_OF_12_DIGITS: &str =
     r#"UPDATE entries SET body = '{"input":"received","message":{"account":1,"call":"AcceptProposal","from":"ITL","status":"Checked","to":"NZ","to_account":1,"to_registry":"NZ","transaction":"JP1","units":["JP:1:1-999999999999:AAU"]},"moment":1335830400}' WHERE place = 1"#;
 
-/// The first record as format 2 has it.
+/// The first record in format 2.
 const RECORD_OF_FORMAT_TWO: &str =
     r#"UPDATE entries SET body = '{"account":1,"input":"propose","to_account":7,"to_registry":"JP","units":["NZ:1:1-100:AAU"],"v":2}' WHERE place = 0"#;
 
@@ -27,7 +27,7 @@ fn two_in_format_one(rt: &impl Abort, alloc: Global) -> RoomyFiles {
     old_files(rt, alloc, &[PROPOSE_ONE, ACCEPTED_ONE])
 }
 
-/// The status of a command that found no memory.
+/// The exit status of a command for lack of memory.
 const OUT_OF_MEMORY: u8 = 5;
 
 /// The lines that show these records.
@@ -54,7 +54,7 @@ fn shown<S: NodeStore>(
     }
 }
 
-/// Asserts that the store of NZ is shown with these lines. Of a page there is all or nothing where memory ran out.
+/// Asserts that the store of NZ is shown with these lines. Where memory ran out, a page is shown whole or not at all.
 fn assert_shown<S: NodeStore>(rt: &impl Abort, alloc: Global, store: &mut S, lines: &str) {
     let mut written = room(rt, alloc);
     let done = again!(
@@ -109,8 +109,8 @@ fn the_greatest_number_of_format_one_is_migrated(rt: HostRuntime) {
     drop(assert_format(&rt, alloc, closed(store), 2));
 }
 
-/// Asserts that the store of format 1, once it is changed by the statement, has that damage, and that it has format 1
-/// after it was refused.
+/// Asserts that the store of format 1, after the statement has changed it, has that damage, and that it still has
+/// format 1 after it was refused.
 fn assert_damaged(rt: &impl Abort, alloc: Global, statement: &str, place: u64) {
     let files = changed(rt, alloc, two_in_format_one(rt, alloc), &[statement]);
     let files = refused(rt, alloc, files, "NZ", StoreFault::Damaged(place));
@@ -133,7 +133,7 @@ fn a_damaged_store_of_format_one_is_left_as_it_is(rt: HostRuntime) {
     }
 }
 
-/// Asserts that NZ's store of format 1, once the statements have changed it, is refused for that cause where the
+/// Asserts that NZ's store of format 1, after the statements have changed it, is refused with that fault when the
 /// registry of that code opens it.
 fn assert_cause(
     rt: &impl Abort,

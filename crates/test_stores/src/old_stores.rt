@@ -1,4 +1,4 @@
-//! Stores of format 1, which no program makes any more: made by statements.
+//! Stores of format 1, which no program makes any more. They are made by statements.
 
 use crate::fused_files::{FOREVER, RoomyFiles, execute_all, new_files, open_database, store_of};
 use sqlite::types::ValueRef;
@@ -8,10 +8,10 @@ use std::alloc::Global;
 use std::process::Abort;
 use test_support::{again, texts};
 
-/// What NZ proposes, as format 1 has it.
+/// NZ's proposal, in format 1.
 pub const PROPOSE_ONE: &str = texts::PROPOSE_RECORD_1;
 
-/// That it is accepted, as format 1 has it.
+/// Its acceptance, in format 1.
 pub const ACCEPTED_ONE: &str = texts::ACCEPTED_RECORD_1;
 
 const ABOUT: &str =
@@ -21,7 +21,7 @@ const ENTRIES: &str = "CREATE TABLE entries (place INTEGER PRIMARY KEY, body TEX
 
 const OWNER: &str = "INSERT INTO about (id, format, node) VALUES (1, 1, 'NZ')";
 
-/// Puts a record, within the transaction.
+/// Inserts a record, within the transaction.
 fn put<S: Alter>(
     rt: &impl Abort,
     tx: &mut Transaction<'_, S>,
@@ -34,7 +34,7 @@ fn put<S: Alter>(
     Ok(())
 }
 
-/// Puts the records, in one transaction.
+/// Inserts the records, in one transaction.
 fn put_all<S: Alter>(
     rt: &impl Abort,
     conn: &mut Connection<S>,
@@ -48,9 +48,9 @@ fn put_all<S: Alter>(
     tx.commit()
 }
 
-// These are generic, as a connection over files whose type is known costs half a minute of proof for each call.
+// These are generic, since each call of a connection over files of a known type takes half a minute to prove.
 
-/// Has the database do these statements, and puts the records. Gives the connection up for its store.
+/// Has the database execute these statements, and inserts the records. Gives the connection up for its store.
 fn made_by<S: Alter + Drop>(
     rt: &impl Abort,
     mut conn: Connection<S>,
@@ -120,7 +120,7 @@ fn format_of<S: Alter>(rt: &impl Abort, conn: &mut Connection<S>) -> i64 {
     format
 }
 
-/// Asserts that the store that the connection has open has that format. Gives the connection up for it.
+/// Asserts that the store that the connection has open has that format. Gives the connection up for the store.
 fn with_format<S: Alter + Drop>(rt: &impl Abort, mut conn: Connection<S>, wanted: i64) -> S {
     assert!(rt; format_of(rt, &mut conn) == wanted);
     store_of(conn)

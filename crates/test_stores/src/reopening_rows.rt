@@ -9,7 +9,7 @@ use std::alloc::Global;
 use std::process::Abort;
 use store_files::durable::SqlStore;
 
-/// The two files of a store, in memory, of each of which one call may fail.
+/// The two files of a store, in memory; one call of each may fail.
 type Stumbling = Files<Stumble<Roomy>>;
 
 /// The files of NZ's store of two records.
@@ -19,7 +19,7 @@ fn files_of_two(rt: &impl Abort, alloc: Global) -> RoomyFiles {
     closed(store)
 }
 
-/// A copy of the files, of which that call fails of each.
+/// A copy of the files, where that call of each file fails.
 fn stumbling(
     rt: &impl Abort,
     alloc: Global,
@@ -33,20 +33,20 @@ fn stumbling(
     }
 }
 
-/// What came of an opening and a reopening of which one call may fail.
+/// The result of an opening and a reopening, one call of which may fail.
 #[derive(Clone, Copy, PartialEq, Eq)]
 enum Outcome {
     /// The opening failed.
     Unopened,
-    /// The reopening failed, and the next one passed.
+    /// The reopening failed, and the next one succeeded.
     OpenedAgain,
-    /// The reopening failed at a sync, after which the files can't be used.
+    /// The reopening failed at a sync. The files can't be used after that.
     Unusable,
-    /// Both passed.
+    /// Both succeeded.
     Passed,
 }
 
-/// Whether the store of two records, of which a reopening failed, can be opened once more. It has its records then.
+/// Whether the store of two records can be opened once more after a failed reopening. It then has its records.
 fn reopens<S: NodeStore>(rt: &impl Abort, alloc: Global, store: &mut S) -> bool {
     assert!(rt; waits(store));
     if reopen(rt, store).is_err() {
@@ -56,8 +56,8 @@ fn reopens<S: NodeStore>(rt: &impl Abort, alloc: Global, store: &mut S) -> bool 
     true
 }
 
-/// Opens the store of two records once more, after a reopening that failed. It has its records then, where its files
-/// can still be used.
+/// Opens the store of two records once more, after a failed reopening. It then has its records, if its files can still
+/// be used.
 fn reopen_once_more<D: Disk + Drop>(
     rt: &impl Abort,
     alloc: Global,
@@ -98,8 +98,8 @@ enum Stumbler {
     Database,
 }
 
-/// The first call of one file fails, then in other files the second one, until none does. Some of them are calls of the
-/// reopening.
+/// The first call of one file fails, then in other files the second one, and so on, until none fails. Some of them are
+/// calls of the reopening.
 fn stumble_everywhere(rt: &impl Abort, alloc: Global, stumbler: Stumbler) {
     let files = files_of_two(rt, alloc);
     let mut some = false;

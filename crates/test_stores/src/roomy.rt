@@ -1,4 +1,4 @@
-//! A file in memory that has its room from the start, so that its calls take no memory.
+//! A file in memory that has its room from the start: its calls need no memory.
 ghost use Rattle.std.specs.Prelude.{◌≡◌, ◌∷◌, length, true, false, refl, is_ok, OnOk, OnErr};
 ghost use Rattle.std.proofs.Common.{inl};
 ghost use Rattle.sqlite_disk.specs.Disk.{Holds, Torn, Cut, CountsFault};
@@ -18,8 +18,8 @@ const ROOM: usize = 262_144;
 /// More calls than change a file between two syncs.
 const MOST_STEPS: usize = 1_024;
 
-/// A file in memory, as `sqlite_disk::Memory` is, but with its room from the start. Where a `Memory` finds none, its
-/// call fails as a call of a broken device does, and a test couldn't tell that from a fault of the store.
+/// A file in memory, as `sqlite_disk::Memory` is, but with its room from the start. For lack of memory a call of a
+/// `Memory` fails as a call of a broken device does, and a test couldn't tell this from a fault of the store.
 #[derive(Drop)]
 pub struct Roomy {
     bytes: Vec<u8>,
@@ -50,12 +50,12 @@ impl Roomy {
         }
     }
 
-    /// What a read returns.
+    /// The bytes that a read returns.
     pub fn bytes(&self) -> &[u8] {
         &self.bytes
     }
 
-    /// What a crash leaves: all that was synced.
+    /// The bytes after a crash: all that was synced.
     pub fn synced(&self) -> &[u8] {
         &self.synced
     }
@@ -161,7 +161,7 @@ fn count(outcome: Result<(), AllocError>, faults: &mut u64) -> io::Result<()>
     Ok(())
 }
 
-/// One step more.
+/// Adds one step.
 fn note(
     steps: &mut Vec<(Option<usize>, usize)>,
     at: Option<usize>,
@@ -174,7 +174,7 @@ fn note(
     Ok(())
 }
 
-/// The bytes become those of the file. They are copied to the spare room, and what the file had makes way.
+/// Replaces the file's bytes. The new ones are copied into the spare room, and the two change places.
 fn replace(file: &mut Vec<u8>, spare: &mut Vec<u8>, bytes: &[u8]) -> Result<(), AllocError>
     ensures ok { OnOk result (file.new.items ≡ bytes.now) }
     ensures err { OnErr result (file.new.items ≡ file.old.items) }

@@ -1,4 +1,4 @@
-//! Two values that have to be the same, and room for what is written.
+//! Two values that must be equal, and room for written bytes.
 
 use std::alloc::Global;
 use std::fmt::Debug;
@@ -8,17 +8,17 @@ use test_support::{READING, again};
 /// More bytes than a test writes.
 const ROOM: usize = 65_536;
 
-/// Asserts that both are one value, and prints both where they aren't.
+/// Asserts that the two values are equal, and prints both where they aren't.
 pub fn assert_same<T: PartialEq + Debug + Drop>(rt: &impl Abort, left: T, right: T) {
     assert_eq!(rt; left, right);
 }
 
-/// Bytes to be written to, with room for more than a test writes: no write finds too little memory.
+/// Bytes to write into, with room for more than a test writes: no write lacks memory.
 pub fn room(rt: &impl Abort, alloc: Global) -> Vec<u8> {
     room_for(rt, alloc, ROOM)
 }
 
-/// Bytes with room for that many.
+/// Bytes with room for that number.
 pub fn room_for(rt: &impl Abort, alloc: Global, length: usize) -> Vec<u8> {
     let mut bytes = Vec::new(alloc);
     again!(bytes.reserve(length), Err(_) => ()).expect(rt, READING);

@@ -1,4 +1,4 @@
-//! The records of rows on stores: two of NZ, by their texts.
+//! The records for rows on stores: two of NZ, by their texts.
 
 use protocol::units::NoMemory;
 use protocol::wire::{Input, decode_input, encode_input};
@@ -6,10 +6,10 @@ use std::alloc::Global;
 use std::process::Abort;
 use test_support::{READING, again, texts};
 
-/// What NZ proposes.
+/// The record of NZ's proposal.
 pub const PROPOSE: &str = texts::PROPOSE_RECORD;
 
-/// That it is accepted.
+/// The record of its acceptance.
 pub const ACCEPTED: &str = texts::ACCEPTED_RECORD;
 
 /// The record of that text.

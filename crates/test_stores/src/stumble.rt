@@ -1,4 +1,4 @@
-//! A disk of which one call fails.
+//! A disk with one failing call.
 ghost use Rattle.std.specs.Prelude.{◌≡◌, ◌+◌, ◌&&◌, not, false};
 ghost use Rattle.sqlite_disk.specs.Disk.{CountsFault};
 ghost use Rattle.sqlite_disk.specs.Refusal.{finds_no_room};
@@ -10,14 +10,14 @@ use std::io;
 #[derive(Drop)]
 pub struct Stumble<D: Disk> {
     inner: D,
-    /// How many calls pass before the one that fails; `None` once it has failed.
+    /// The number of calls that are passed on before the one that fails; `None` after it has failed.
     before: Option<u64>,
     refused: u64,
     sync_refused: bool,
 }
 
 impl<D: Disk> Stumble<D> {
-    /// Passes that many calls on before one fails.
+    /// Passes that number of calls on before one fails.
     pub fn new(inner: D, before: u64) -> Stumble<D> {
         Stumble {
             inner,
@@ -28,7 +28,7 @@ impl<D: Disk> Stumble<D> {
     }
 }
 
-/// One call more, which may be the one that fails.
+/// Counts one more call, which may be the one that fails.
 fn step(before: &mut Option<u64>, refused: &mut u64) -> io::Result<()>
     ensures faults { CountsFault result refused.old refused.new }
     ensures kind { finds_no_room result ≡ false }

@@ -7,13 +7,13 @@ use std::process::Abort;
 use store_files::durable::Watch;
 use test_support::READING;
 
-/// How many records the store has that is migrated.
+/// The number of records of the store that is migrated.
 const RECORDS: usize = 600;
 
-/// More calls than a watch is to get.
+/// More calls than a watch should get.
 const MOST_CALLS: usize = 4;
 
-/// A watch that keeps what it is told, with 0 for calls that don't come.
+/// A watch that keeps the reports that it gets, with 0 for calls that don't come.
 #[derive(Clone, Copy)]
 struct Told {
     calls: usize,
@@ -40,7 +40,7 @@ fn old_texts(rt: &impl Abort, alloc: Global) -> Vec<&'static str> {
     texts
 }
 
-/// What a watch is told while NZ's store at the path in these files is opened, and what came of the opening.
+/// The reports to a watch while NZ's store at the path in these files is opened, and the result of the opening.
 fn opened_at(rt: &impl Abort, files: &HostRuntime, path: &str) -> (Told, Result<(), StoreFault>) {
     let mut watch = Told {
         calls: 0,
@@ -56,8 +56,8 @@ fn opened_at(rt: &impl Abort, files: &HostRuntime, path: &str) -> (Told, Result<
     }
 }
 
-/// What a watch is told while NZ's store at the path in these files is opened. An opening that found no memory may have
-/// migrated the store before: then nothing is told of the next one.
+/// The reports to a watch while NZ's store at the path in these files is opened. An opening that lacked memory may
+/// already have migrated the store: then the next one reports nothing.
 fn told_at(rt: &impl Abort, files: &HostRuntime, path: &str) -> Told {
     let (first, opened) = opened_at(rt, files, path);
     if opened != Err(StoreFault::NoMemory) {

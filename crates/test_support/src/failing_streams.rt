@@ -2,7 +2,7 @@
 
 use std::io::{self, ErrorKind, Write};
 
-/// Takes `room` bytes, three at a time, and then fails.
+/// A writer that takes `room` bytes, three at a time, and then fails.
 #[derive(Drop)]
 pub struct Full {
     pub room: usize,

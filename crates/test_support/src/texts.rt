@@ -20,7 +20,7 @@ pub const CHECKED: &str =
 pub const ACCEPTED: &str =
     r#"{"call":"AcceptNotification","codes":[],"from":"JP","status":"Accepted","to":"ITL","transaction":"NZ1"}"#;
 
-/// The log passes that on to NZ.
+/// The log passes the acceptance on to NZ.
 pub const ACCEPTED_TO_NZ: &str =
     r#"{"call":"AcceptNotification","codes":[],"from":"ITL","status":"Accepted","to":"NZ","transaction":"NZ1"}"#;
 
@@ -28,7 +28,7 @@ pub const ACCEPTED_TO_NZ: &str =
 pub const COMPLETED: &str =
     r#"{"call":"AcceptNotification","codes":[],"from":"NZ","status":"Completed","to":"ITL","transaction":"NZ1"}"#;
 
-/// The log passes that on to JP.
+/// The log passes the completion on to JP.
 pub const COMPLETED_TO_JP: &str =
     r#"{"call":"AcceptNotification","codes":[],"from":"ITL","status":"Completed","to":"JP","transaction":"NZ1"}"#;
 
@@ -64,7 +64,7 @@ pub const SECOND_CHECKED: &str =
 pub const SECOND_ACCEPTED: &str =
     r#"{"call":"AcceptNotification","codes":[],"from":"JP","status":"Accepted","to":"ITL","transaction":"NZ2"}"#;
 
-/// The log passes that on to NZ.
+/// The log passes the acceptance on to NZ.
 pub const SECOND_ACCEPTED_TO_NZ: &str =
     r#"{"call":"AcceptNotification","codes":[],"from":"ITL","status":"Accepted","to":"NZ","transaction":"NZ2"}"#;
 
@@ -72,7 +72,7 @@ pub const SECOND_ACCEPTED_TO_NZ: &str =
 pub const SECOND_COMPLETED: &str =
     r#"{"call":"AcceptNotification","codes":[],"from":"NZ","status":"Completed","to":"ITL","transaction":"NZ2"}"#;
 
-/// The log passes that on to JP.
+/// The log passes the completion on to JP.
 pub const SECOND_COMPLETED_TO_JP: &str =
     r#"{"call":"AcceptNotification","codes":[],"from":"ITL","status":"Completed","to":"JP","transaction":"NZ2"}"#;
 
@@ -88,7 +88,7 @@ pub const PROPOSE_RECORD: &str =
 pub const PROPOSE_RECORD_1: &str =
     r#"{"account":1,"input":"propose","to_account":7,"to_registry":"JP","units":["NZ:1:1-100:AAU"]}"#;
 
-/// The record of NZ that JP accepted NZ1.
+/// The record of NZ for the acceptance of NZ1 by JP.
 pub const ACCEPTED_RECORD: &str =
     r#"{"input":"received","message":{"call":"AcceptNotification","codes":[],"from":"ITL","status":"Accepted","to":"NZ","transaction":"NZ1"},"moment":1335830400,"v":2}"#;
 
@@ -96,7 +96,7 @@ pub const ACCEPTED_RECORD: &str =
 pub const ACCEPTED_RECORD_1: &str =
     r#"{"input":"received","message":{"call":"AcceptNotification","codes":[],"from":"ITL","status":"Accepted","to":"NZ","transaction":"NZ1"},"moment":1335830400}"#;
 
-/// The line that a peer writes where it took the message.
+/// The line that a peer writes after it took the message.
 pub const RECEIVED: &[u8] = b"{\"code\":0,\"result\":\"received\"}\n";
 
 /// The table of the worked transfer, at its end.

@@ -47,7 +47,7 @@ fn assert_lines(rt: &impl Abort, holdings: &Holdings, alloc: Global, wanted: &[H
     assert!(rt; lines.as_slice() == wanted);
 }
 
-/// The holdings are these lines, and that many units of account 1 are free.
+/// The holdings are these lines, and that number of units of account 1 is free.
 fn assert_held(
     rt: &impl Abort,
     holdings: &Holdings,
@@ -67,7 +67,7 @@ fn assert_refused(rt: &impl Abort, holdings: &mut Holdings, account: u64, text: 
     assert_same(rt, (checked, reserved), (refusal(code), refusal(code)));
 }
 
-/// The transaction reserves the blocks of account 1, in which that many units are free then.
+/// The transaction reserves the blocks of account 1. That number of its units is then free.
 fn assert_reserved(
     rt: &impl Abort,
     holdings: &mut Holdings,
@@ -84,20 +84,20 @@ fn assert_reserved(
     assert_same(rt, (reserved, holdings.free_count(1)), (Ok(()), free));
 }
 
-/// After the transaction's release that many units of account 1 are free.
+/// After the transaction's release that number of units of account 1 is free.
 fn assert_released(rt: &impl Abort, holdings: &mut Holdings, id: TransactionId, free: u64) {
     holdings.release(id);
     assert_same(rt, holdings.free_count(1), free);
 }
 
-/// After the transaction's removal that many units of account 1 are free.
+/// After the transaction's removal that number of units of account 1 is free.
 fn assert_removed(rt: &impl Abort, holdings: &mut Holdings, id: TransactionId, free: u64) {
     holdings.remove(id);
     assert_same(rt, holdings.free_count(1), free);
 }
 
-/// An account, a block, and the code by which an order of the block from the account is refused, where the first sixty
-/// of a hundred units are reserved.
+/// An account, a block, and the code with which an order of the block from the account is refused, where the first
+/// sixty of a hundred units are reserved.
 const REFUSED: &[(u64, &str, u16)] = &[
     (1, "NZ:1:60-61:AAU", 106),
     (1, "NZ:1:100-101:AAU", 105),
@@ -178,7 +178,7 @@ fn pieces(rt: HostRuntime) {
     drop(holdings);
 }
 
-/// A call that changes an account's standing, or asks whether it would.
+/// A call that closes or opens an account, or asks whether it would.
 #[derive(Clone, Copy)]
 enum Call {
     Open,
@@ -201,7 +201,7 @@ impl Call {
     }
 }
 
-/// One after another, the calls with these accounts are refused with these codes, or aren't refused.
+/// The calls with these accounts, one after another, are refused with these codes, or aren't refused.
 fn assert_calls(rt: &impl Abort, holdings: &mut Holdings, calls: &[(Call, u64, Option<u16>)]) {
     for (call, account, code) in calls {
         assert_same(rt, call.code(holdings, *account), *code);

@@ -1,4 +1,4 @@
-//! Cores of the worked scheme, and rows of what they are given.
+//! Cores of the worked scheme, and rows of inputs for them.
 
 use crate::given::{Given, input_of};
 use crate::same::{assert_same, assert_same_in};
@@ -16,7 +16,7 @@ use test_support::{READING, again};
 /// The room of the worked scheme's journals.
 pub const ROOM: &str = "1000";
 
-/// The worked scheme, with room for that many records.
+/// The worked scheme, with room for that number of records.
 pub fn scheme(rt: &impl Abort, alloc: Global, room: &str) -> Scheme {
     let (before, after) = SCHEME.split_once(ROOM).expect(rt, READING);
     let text = format!(in alloc; "{before}{room}{after}").expect(rt, READING);
@@ -25,11 +25,11 @@ pub fn scheme(rt: &impl Abort, alloc: Global, room: &str) -> Scheme {
 
 /// A core whose tables can be seen.
 pub trait Seen: NodeCore {
-    /// Whether its tables say what those of the other say.
+    /// Whether its tables agree with those of the other.
     fn is_like(&self, rt: &impl Abort, other: &Self) -> bool;
 }
 
-/// Asserts that the core is as its journal says.
+/// Asserts that the core agrees with a replay of its journal.
 fn assert_as_replayed<C: Seen>(rt: &impl Abort, core: &C) {
     let replayed = replay(core, core.journal()).expect(rt, "a core");
     assert_same(rt, core.sends(), replayed.sends());
@@ -49,14 +49,14 @@ fn outcome(stepped: Result<Stepped, Refusal>) -> Outcome {
     }
 }
 
-/// Asserts that the core has that many records and messages, and is as its journal says.
+/// Asserts that the core has that number of records and messages, and agrees with a replay of its journal.
 fn assert_unchanged<C: Seen>(rt: &impl Abort, core: &C, records: usize, sends: usize) {
     assert_same(rt, core.records(), records);
     assert_same(rt, core.sends(), sends);
     assert_as_replayed(rt, core);
 }
 
-/// Steps the core by the input. Where memory ran out nothing has changed, and the core is stepped once more.
+/// Steps the core by the input. Where memory ran out, nothing has changed, and the core is stepped once more.
 fn step<C: Seen>(rt: &impl Abort, core: &mut C, input: &Input) -> Outcome {
     let (records, sends) = (core.records(), core.sends());
     let stepped = again!(
@@ -66,7 +66,7 @@ fn step<C: Seen>(rt: &impl Abort, core: &mut C, input: &Input) -> Outcome {
     outcome(stepped)
 }
 
-/// What comes of a step by what is given.
+/// The outcome of a step by the given input.
 fn outcome_of<C: Seen>(rt: &impl Abort, alloc: Global, core: &mut C, given: Given) -> Outcome {
     let input = input_of(rt, alloc, given);
     let outcome = step(rt, core, &input);
@@ -74,7 +74,7 @@ fn outcome_of<C: Seen>(rt: &impl Abort, alloc: Global, core: &mut C, given: Give
     outcome
 }
 
-/// Gives the core what stands in the row, one after the other, and asserts what comes of each.
+/// Gives the core the inputs of the row, one after the other, and asserts the outcome of each.
 pub fn walk<C: Seen>(rt: &impl Abort, alloc: Global, core: &mut C, row: &[(Given, Outcome)]) {
     for (given, expected) in row {
         let outcome = outcome_of(rt, alloc, core, *given);
@@ -89,7 +89,7 @@ pub fn assert_text(rt: &impl Abort, alloc: Global, message: &Message, expected: 
     assert_same(rt, text.as_slice(), expected.as_bytes());
 }
 
-/// Asserts that the messages from that key on have these texts, and that no other comes after them.
+/// Asserts that the messages from that key on have these texts, and that there are no others after them.
 pub fn assert_sent<C: NodeCore>(
     rt: &impl Abort,
     alloc: Global,

@@ -1,4 +1,4 @@
-//! What rows give a node: the inputs of events by their lines, and messages by their texts.
+//! The inputs that rows give a node: those of events by their lines, and messages by their texts.
 
 use input_lines::event_of;
 use protocol::WorldEvent;
@@ -8,10 +8,11 @@ use std::alloc::Global;
 use std::process::Abort;
 use test_support::READING;
 
-/// What a row gives a node.
+/// An input that a row gives a node.
 #[derive(Clone, Copy, Debug)]
 pub enum Given {
-    /// The input in the event of that line. The row gives it to its own node, whichever one the line names.
+    /// The input in the event of that line. The row gives it to its own node, regardless of the node that the line
+    /// names.
     Event(&'static str),
     /// The message of that text, at `MOMENT`.
     Message(&'static str),
@@ -25,7 +26,7 @@ pub const PROPOSE: &str = "propose NZ 1 JP 7 NZ:1:1-100:AAU";
 /// The line of its order for the first sixty of them.
 pub const PROPOSE_SIXTY: &str = "propose NZ 1 JP 7 NZ:1:1-60:AAU";
 
-/// When messages come, in seconds: 2012-05-01T00:00:00Z.
+/// The moment at which messages are received, in seconds: 2012-05-01T00:00:00Z.
 const MOMENT: u64 = 1_335_830_400;
 
 /// The input that a node takes by the event.
@@ -39,7 +40,7 @@ fn taken(event: WorldEvent) -> Option<Input> {
     }
 }
 
-/// The message of that text, which comes at that moment.
+/// The message of that text, received at that moment.
 fn received(rt: &impl Abort, alloc: Global, text: &str, seconds: u64) -> Input {
     let message = decode(alloc, text.as_bytes()).expect(rt, READING);
     let moment = Moment::new(seconds).expect(rt, "in 2012");

@@ -1,6 +1,7 @@
 //! Tests of sets of units, holdings, status tables, schemes and outboxes, and of whole registries and the log; of
-//! messages, records, lines, replies, scripts, the command line, `rehearse` and `show`: values and texts from outside,
-//! each public function with enough memory, streams that fail midway, and what no clause says.
+//! messages, records, lines, replies, scripts, the command line, `rehearse` and `show`. They cover values and texts
+//! from outside, each public function with enough memory, streams that fail midway, and behaviour that no clause
+//! specifies.
 #![tactic(auto)]
 
 #[cfg(test)]

@@ -22,7 +22,7 @@ fn nz(rt: &impl Abort) -> Node {
 
 // ---- texts of faults
 
-/// Asserts that the fault is told by this text and ends the program with this status.
+/// Asserts that the fault has this text and ends the program with this status.
 fn assert_told(rt: &impl Abort, alloc: Global, fault: OpFault, text: &str, status: u8) {
     let told = again!(format!(in alloc; "{fault}"), Err(_) => ());
     let told = told.expect(rt, "memory");
@@ -122,7 +122,7 @@ fn faults_of_stores_are_told(rt: HostRuntime) {
 
 // ---- reads and writes
 
-/// Is interrupted that often, and then at its end.
+/// A reader that is interrupted that number of times, and then is at its end.
 #[derive(Drop)]
 struct Interrupted {
     left: u64,
@@ -138,7 +138,7 @@ impl Read for Interrupted {
     }
 }
 
-/// Why no scheme was read after that many interrupted reads.
+/// Why no scheme was read after that number of interrupted reads.
 fn fault_after(alloc: Global, left: u64) -> Option<OpFault> {
     let read = again!(
         read_scheme(alloc, &mut Interrupted { left }),
@@ -161,7 +161,7 @@ fn an_input_is_read_so_often(rt: HostRuntime) {
     );
 }
 
-/// Is interrupted that often before it takes anything.
+/// A writer that is interrupted that number of times before it takes any bytes.
 #[derive(Drop)]
 struct Hesitant {
     left: u64,
@@ -191,14 +191,14 @@ fn a_write_is_interrupted_so_often(rt: HostRuntime) {
 
 // ---- lines and inputs
 
-/// Adds that many letters to the text.
+/// Adds that number of letters to the text.
 fn add_letters(rt: &impl Abort, text: &mut String, letter: &str, count: usize) {
     for _ in 0..count {
         text.push_str(letter).expect(rt, READING);
     }
 }
 
-/// The scheme's line, after that many spaces.
+/// The scheme's line, after that number of spaces.
 fn scheme_line(rt: &impl Abort, alloc: Global, spaces: usize) -> String {
     let mut text = String::new(alloc);
     add_letters(rt, &mut text, " ", spaces);
@@ -218,7 +218,7 @@ fn assert_ended(rt: &impl Abort, alloc: Global, input: &str, wanted: Result<(), 
     assert_same(rt, ended, wanted);
 }
 
-/// Asserts that an event line of that many letters, after the scheme's, has that fault.
+/// Asserts that an event line of that number of letters, after the scheme's, has that fault.
 fn assert_line(rt: &impl Abort, alloc: Global, length: usize, cause: Cause) {
     let mut input = scheme_line(rt, alloc, 0);
     add_letters(rt, &mut input, "x", length);
@@ -249,10 +249,10 @@ fn long_order(rt: &impl Abort, alloc: Global) -> String {
     text
 }
 
-/// How many bytes an input has at most.
+/// The greatest number of bytes of an input.
 const MOST: usize = 16_777_216;
 
-/// An input of that many bytes: a scheme's line, and orders.
+/// An input of that number of bytes: a scheme's line, and orders.
 fn whole_input(rt: &impl Abort, alloc: Global) -> (String, u64) {
     let order = long_order(rt, alloc);
     let room = MOST - (SCHEME.len() + 1);

@@ -9,7 +9,7 @@ use test_support::{READING, again};
 
 const LIMIT: usize = 8192;
 
-/// What `feed` returns, by how many lines it returns.
+/// The result of `feed`, by the number of lines that it returns.
 #[derive(Clone, Copy, PartialEq, Eq, Debug)]
 enum Fed {
     Lines(usize),
@@ -28,7 +28,7 @@ fn lines_of(rt: &impl Abort, splitter: &mut Splitter, piece: &[u8]) -> Items<Lin
     fed.expect(rt, "lines")
 }
 
-/// How many lines those are.
+/// The number of those lines.
 fn count(lines: Items<Line>) -> usize {
     let count = lines.as_slice().len();
     drop(lines);
@@ -44,8 +44,8 @@ fn feed_once(splitter: &mut Splitter, piece: &[u8]) -> Fed {
     }
 }
 
-/// What the splitter returns for the piece. Where memory ran out, the stream still ends as it did, and the piece is fed
-/// once more.
+/// The result of the splitter for the piece. Where memory ran out, the stream still ends as it did, and the piece is
+/// fed once more.
 fn feed(rt: &impl Abort, splitter: &mut Splitter, piece: &[u8]) -> Fed {
     let end = splitter.finish();
     again!(
@@ -93,7 +93,7 @@ fn a_line_of_the_limit(rt: HostRuntime) {
     assert_same(&rt, splitter.finish(), Ok(()));
 }
 
-/// A splitter of the limit that was fed as many bytes, each as a piece.
+/// A splitter of the limit that was fed as many bytes as the limit, each as a piece.
 fn fed_up_to_the_limit(rt: &impl Abort, alloc: Global) -> Splitter {
     let mut splitter = Splitter::new(alloc, LIMIT);
     for _ in 0..LIMIT {
@@ -187,7 +187,7 @@ fn assert_each_written(rt: &impl Abort, alloc: Global, lines: &[Line], text: &st
     }
 }
 
-/// A stream of the text's one line in two pieces has it where the line ends.
+/// A stream of the text's one line in two pieces has the line where it ends.
 fn assert_one_line(rt: &impl Abort, alloc: Global, before: &[u8], after: &[u8], text: &str) {
     let mut splitter = Splitter::new(alloc, LIMIT);
     let first = lines_of(rt, &mut splitter, before);

@@ -97,7 +97,7 @@ fn content_of(rt: &impl Abort, alloc: Global, jp: Code, block: &str) -> Content 
     Content::new(7, jp, 7, units).expect(rt, "a content")
 }
 
-/// What the log finds at the start in a transfer that JP proposes.
+/// The log's findings at the start for a transfer that JP proposes.
 fn findings_at_start(rt: &impl Abort, alloc: Global, jp: Code, content: &Content) -> LogCodes {
     let scheme = scheme(rt, alloc, ROOM);
     let register = opening_register(rt, alloc, &scheme);
@@ -133,7 +133,7 @@ const TRANSFER: &[(Given, Outcome)] = &[
     (Event("ack ITL 3"), Refused(46)),
 ];
 
-/// Asserts that the log doesn't record that at that place.
+/// Asserts that the log doesn't record the input at that place.
 fn assert_no_record(rt: &impl Abort, alloc: Global, log: &mut LogCore, given: Given, place: usize) {
     let record = [input_of(rt, alloc, given)];
     let records = log.records();

@@ -11,7 +11,7 @@ use std::collections::BTreeMap;
 use std::process::Abort;
 use test_support::again;
 
-/// A unit of each part of what is allotted, as blocks of it.
+/// A unit of each part of the allotted units, as blocks.
 const UNITS: [&str; 4] = [
     "NZ:1:1-1:AAU",
     "NZ:1:11-11:AAU",
@@ -19,7 +19,7 @@ const UNITS: [&str; 4] = [
     "NZ:1:101-101:AAU",
 ];
 
-/// The log of the worked scheme, with room for that many records.
+/// The log of the worked scheme, with room for that number of records.
 pub fn log(rt: &impl Abort, alloc: Global, room: &str) -> LogCore {
     let scheme = scheme(rt, alloc, room);
     let log = again!(LogCore::new(alloc, &scheme), Err(NoMemory) => ());
@@ -40,7 +40,7 @@ fn opening_book(rt: &impl Abort, alloc: Global) -> UnitMap<BookEntry> {
     book
 }
 
-/// What the log of the worked scheme knows of units and registries at the start.
+/// The register of units and registries of the worked scheme's log at the start.
 pub fn opening_register(rt: &impl Abort, alloc: Global, scheme: &Scheme) -> Register {
     let book = opening_book(rt, alloc);
     let allotments = again!(scheme.allotments(alloc), Err(NoMemory) => ());

@@ -14,11 +14,11 @@ use test_support::{READING, again};
 
 const LIMIT: usize = 8192;
 
-/// Blocks of the greatest number that a proposal may have.
+/// The greatest number of blocks that a proposal may have.
 const SIXTEEN: &str =
     r#""NZ:1:1-1:AAU","NZ:1:1-1:AAU","NZ:1:1-1:AAU","NZ:1:1-1:AAU","NZ:1:1-1:AAU","NZ:1:1-1:AAU","NZ:1:1-1:AAU","NZ:1:1-1:AAU","NZ:1:1-1:AAU","NZ:1:1-1:AAU","NZ:1:1-1:AAU","NZ:1:1-1:AAU","NZ:1:1-1:AAU","NZ:1:1-1:AAU","NZ:1:1-1:AAU","NZ:1:1-1:AAU""#;
 
-/// The text with another in place of the one place where `old` stands.
+/// The text with `new` in place of the one occurrence of `old`.
 fn changed(rt: &impl Abort, alloc: Global, text: &str, old: &str, new: &str) -> String {
     let (before, after) = text.split_once(old).expect(rt, "it stands there");
     assert!(rt; !after.contains(old));
@@ -91,7 +91,7 @@ fn assert_built(rt: &impl Abort, alloc: Global, message: Message, text: &str) {
     drop(message);
 }
 
-/// What the line is read as.
+/// The result of reading the line.
 fn decoded(alloc: Global, line: &[u8]) -> Result<Message, Refusal> {
     again!(decode(alloc, line), Err(Refusal { code: OUT_OF_MEMORY }) => ())
 }
@@ -151,7 +151,7 @@ fn assert_wrong(rt: &impl Abort, alloc: Global, text: &str, changes: &[(&str, &s
     }
 }
 
-/// What stands in a proposal, and what makes it no message in its place.
+/// Parts of a proposal, each with a replacement that makes the text no message.
 const WRONG_IN_PROPOSAL: &[(&str, &str)] = &[
     (r#""account":1,"#, ""),
     (r#""account":1,"#, r#""account":0,"#),
@@ -213,7 +213,7 @@ const WRONG_IN_PROPOSAL: &[(&str, &str)] = &[
     ("{", ""),
 ];
 
-/// What stands in a notification, and what makes it no message in its place.
+/// Parts of a notification, each with a replacement that makes the text no message.
 const WRONG_IN_NOTIFICATION: &[(&str, &str)] = &[
     (r#""call":"AcceptNotification","#, ""),
     (r#""AcceptNotification""#, r#""AcceptProposal""#),
@@ -256,7 +256,7 @@ fn a_notification_with_something_wrong_in_it(rt: HostRuntime) {
     assert_wrong(&rt, rt.alloc(), ACCEPTED, WRONG_IN_NOTIFICATION);
 }
 
-/// What stands in a request, and what makes it no message in its place.
+/// Parts of a request, each with a replacement that makes the text no message.
 const WRONG_IN_REQUEST: &[(&str, &str)] = &[
     (r#""to":"ITL","#, ""),
     (r#""to":"ITL","#, r#""to":"ITL","x":1,"#),
@@ -366,7 +366,7 @@ fn bytes_that_are_no_text(rt: HostRuntime) {
     }
 }
 
-/// What stands in a proposal, and what may stand in its place.
+/// Parts of a proposal, each with a replacement that is allowed.
 const RIGHT_IN_PROPOSAL: &[(&str, &str)] = &[
     (r#""account":1,"#, r#""account":999999999,"#),
     (r#""to_account":7"#, r#""to_account":999999999"#),
@@ -393,7 +393,7 @@ fn the_limits_of_a_proposal(rt: HostRuntime) {
     assert_refused(&rt, rt.alloc(), line.as_bytes());
 }
 
-/// The proposal with so many spaces after it that the line has that length.
+/// The proposal with spaces after it, where the line has that length in all.
 fn padded(rt: &impl Abort, alloc: Global, length: usize) -> Vec<u8> {
     let mut line = Vec::from_slice(alloc, PROPOSED.as_bytes()).expect(rt, READING);
     for _ in PROPOSED.len()..length {

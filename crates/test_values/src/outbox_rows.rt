@@ -11,7 +11,7 @@ fn nz(rt: &impl Abort) -> Code {
     Code::read("NZ").expect(rt, "a code")
 }
 
-/// That many requests from NZ to the log, of its transactions from 1 on.
+/// That number of requests from NZ to the log, about its transactions from 1 on.
 fn requests(rt: &impl Abort, alloc: Global, count: u32) -> Vec<Message> {
     let (from, to) = (Node::Registry(nz(rt)), Node::Itl);
     let mut messages = Vec::new(alloc);

@@ -27,7 +27,7 @@ fn notified_in<'a>(rt: &impl Abort, message: &'a Message) -> &'a NotifiedStatus 
     }
 }
 
-/// Asserts that a copy of the first proposal is the same as that one, and not as the second.
+/// Asserts that a copy of the first proposal equals it, and differs from the second.
 fn assert_copied(rt: &impl Abort, first: &Proposal, second: &Proposal) {
     let copy = again!(first.copy(), Err(NoMemory) => ());
     let copy = copy.expect(rt, "memory");
@@ -72,8 +72,8 @@ fn bodies(rt: HostRuntime) {
     }
 }
 
-/// Asserts which status the notification tells with which codes, that its copy tells the same, and that the other
-/// notification doesn't.
+/// Asserts that the notification has that status with those codes, that its copy has the same, and that the other
+/// notification hasn't.
 fn assert_notified(
     rt: &impl Abort,
     notified: &NotifiedStatus,

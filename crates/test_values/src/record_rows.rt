@@ -70,12 +70,12 @@ fn assert_built(rt: &impl Abort, alloc: Global, input: Input, text: &str) {
     drop(input);
 }
 
-/// What the text is read as.
+/// The result of reading the text.
 fn decoded(alloc: Global, text: &str) -> Result<Input, TextFault> {
     again!(decode_input(alloc, text.as_bytes()), Err(TextFault::NoMemory) => ())
 }
 
-/// What the text is read as in the first format.
+/// The result of reading the text in the first format.
 fn decoded_v1(alloc: Global, text: &str) -> Result<Input, TextFault> {
     again!(decode_input_v1(alloc, text.as_bytes()), Err(TextFault::NoMemory) => ())
 }
@@ -218,7 +218,7 @@ fn records_of_the_first_format(rt: HostRuntime) {
     }
 }
 
-/// Records of the last unit of the first format, in a message, and of an order, whose numbers may be greater.
+/// Records of the last unit of the first format: in a message, and in an order, whose numbers may be greater.
 const LAST_UNITS: &[(&str, &str)] = &[
     (
         r#"{"input":"received","message":{"account":1,"call":"AcceptProposal","from":"ITL","status":"Checked","to":"JP","to_account":7,"to_registry":"JP","transaction":"NZ1","units":["NZ:1:1-999999999999:AAU"]},"moment":1335830400}"#,

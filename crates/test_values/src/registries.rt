@@ -10,7 +10,7 @@ use test_support::again;
 /// The accounts of both registries.
 const ACCOUNTS: [u64; 4] = [1, 2, 7, 8];
 
-/// The registry of that code in the worked scheme, with room for that many records.
+/// The registry of that code in the worked scheme, with room for that number of records.
 pub fn registry(rt: &impl Abort, alloc: Global, code: &str, room: &str) -> RegistryCore {
     let scheme = scheme(rt, alloc, room);
     let code = Code::read(code).expect(rt, "a code");

@@ -84,7 +84,7 @@ fn order(rt: &impl Abort, alloc: Global, given: Given) -> Option<Order> {
     }
 }
 
-/// Why NZ refuses the order once it has numbered that many transactions.
+/// Why NZ refuses the order after it has numbered that many transactions.
 fn refusal_after(rt: &impl Abort, alloc: Global, order: &Order, last: u32) -> Option<Refusal> {
     let scheme = scheme(rt, alloc, ROOM);
     let code = Code::read("NZ").expect(rt, "a code");
@@ -179,7 +179,7 @@ const TRANSFER_OUT: &[(Given, Outcome)] = &[
     (REQUEST, Refused(116)),
 ];
 
-/// Asserts that the units of the first transaction are out of the registry for good.
+/// Asserts that the units of the first transaction have left the registry for good.
 fn assert_completed(rt: &impl Abort, nz: &RegistryCore) {
     let id = TransactionId::read("NZ1").expect(rt, "an identifier");
     assert_same(rt, nz.status_of(id), Some(Status::Completed));
@@ -197,7 +197,7 @@ fn transfers_out_end_once(rt: HostRuntime) {
     drop(nz);
 }
 
-/// What is wrong with these inputs as a journal.
+/// The fault of these inputs as a journal.
 fn fault_of_all(
     rt: &impl Abort,
     alloc: Global,
@@ -216,7 +216,7 @@ fn assert_of_two_records(rt: &impl Abort, replayed: &RegistryCore, node: Node) {
     assert_same(rt, replayed.node(), node);
 }
 
-/// Asserts that the two records are a journal, and that they aren't recorded after it.
+/// Asserts that the two records are a journal, and that they can't be recorded once more after it.
 fn assert_replayed(rt: &impl Abort, nz: &RegistryCore, records: &[Input]) {
     let replayed = again!(replay(nz, records), Err(ReplayFault::NoMemory) => ());
     let mut replayed = replayed.expect(rt, "a core");

@@ -36,7 +36,7 @@ fn writes_a_report(rt: HostRuntime) {
     assert!(rt; writer.as_slice() == REPORT.as_bytes());
 }
 
-/// Gives its bytes one by one, with an error before the byte at `at`.
+/// A reader that gives its bytes one by one, with an error before the byte at `at`.
 #[derive(Drop)]
 struct Interrupted {
     bytes: &'static [u8],
@@ -69,7 +69,7 @@ fn broken_once(kind: ErrorKind) -> Interrupted {
     }
 }
 
-/// Where the reader fails with `kind` after two bytes, `rehearse` fails with `fault` and writes nothing.
+/// Asserts that `rehearse` fails with `fault` and writes nothing where the reader fails with `kind` after two bytes.
 fn assert_interrupted(rt: &impl Abort, alloc: Global, kind: ErrorKind, fault: OpFault) {
     let mut writer = room(rt, alloc);
     let ended = again!(
@@ -92,7 +92,7 @@ fn reads_on_after_an_interruption_alone(rt: HostRuntime) {
     assert_interrupted(&rt, rt.alloc(), ErrorKind::Other, OpFault::Read);
 }
 
-/// The reads that a fault has.
+/// The counted reads that a fault carries.
 fn reads_of(fault: ReadFault) -> Calls {
     match fault {
         ReadFault::Read(calls) | ReadFault::NoMemory(calls) => calls,
@@ -113,7 +113,7 @@ fn tells_how_often_it_read(rt: HostRuntime) {
     );
 }
 
-/// Takes one byte, and then each write is interrupted.
+/// A writer that takes one byte, and is then interrupted at each write.
 #[derive(Drop)]
 struct Stalled {
     taken: usize,
@@ -158,7 +158,7 @@ fn tells_how_much_was_written(rt: HostRuntime) {
     assert_same(&rt, ended, Err(OpFault::Write(15)));
 }
 
-/// Takes one byte at every third write. The other writes are interrupted.
+/// A writer that takes one byte at every third write, and is interrupted at the others.
 #[derive(Drop)]
 struct Halting {
     interrupted: u8,
@@ -197,7 +197,7 @@ fn writes_on_after_interruptions(rt: HostRuntime) {
     assert_same(&rt, writer.taken, REPORT.len());
 }
 
-/// What the words of a command line ask for, or why they ask for nothing.
+/// The action that the words of a command line ask for, or why they ask for none.
 #[derive(Clone, Copy, PartialEq, Eq, Debug)]
 pub(crate) enum Outcome {
     Rehearse,
@@ -358,7 +358,7 @@ fn assert_show(rt: &impl Abort, action: &Action, words: [&str; 3]) {
     }
 }
 
-/// What the words of a command line ask for.
+/// The action that the words of a command line ask for.
 pub(crate) fn action(rt: &impl Abort, alloc: Global, words: &[&str]) -> Action {
     let parsed = again!(parse_words(alloc, words), Err(UsageFault::NoMemory) => ());
     parsed.ok().expect(rt, "an action")

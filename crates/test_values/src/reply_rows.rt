@@ -17,7 +17,7 @@ const TEXTS: &[(u16, &str)] = &[
     (50, r#"{"code":50,"result":"refused"}"#),
 ];
 
-/// Received for 0, and a refusal for every other number that has one.
+/// `Received` for 0, and a refusal for every other number that has one.
 fn reply(number: u16) -> Option<Reply> {
     if number == 0 {
         return Some(Reply::Received);
@@ -25,7 +25,7 @@ fn reply(number: u16) -> Option<Reply> {
     Some(Reply::Refused(ReplyCode::new(number)?))
 }
 
-/// What the line is read as.
+/// The result of reading the line.
 fn read(alloc: Global, line: &str) -> Result<Reply, ReplyFault> {
     again!(Reply::read(alloc, line.as_bytes()), Err(ReplyFault::NoMemory) => ())
 }

@@ -1,4 +1,4 @@
-//! Two values that have to be the same, and room for what is written.
+//! Two values that must be equal, and room for written bytes.
 
 use std::alloc::Global;
 use std::fmt::Debug;
@@ -8,12 +8,12 @@ use test_support::READING;
 /// More bytes than a test writes.
 const ROOM: usize = 65_536;
 
-/// Asserts that both are one value, and prints both where they aren't.
+/// Asserts that the two values are equal, and prints both where they aren't.
 pub fn assert_same<T: PartialEq + Debug + Drop>(rt: &impl Abort, left: T, right: T) {
     assert_eq!(rt; left, right);
 }
 
-/// The same, of one row among others. Prints the row too.
+/// The same, for one row among others. Prints the row too.
 pub fn assert_same_in<T: PartialEq + Debug + Drop>(
     rt: &impl Abort,
     left: T,
@@ -23,7 +23,7 @@ pub fn assert_same_in<T: PartialEq + Debug + Drop>(
     assert_eq!(rt; left, right, "{row:?}");
 }
 
-/// Bytes to be written to, with room for more than a test writes: no write finds too little memory.
+/// Bytes to write into, with room for more than a test writes: no write lacks memory.
 pub fn room(rt: &impl Abort, alloc: Global) -> Vec<u8> {
     let mut bytes = Vec::new(alloc);
     bytes.reserve(ROOM).expect(rt, READING);

@@ -16,7 +16,7 @@ fn text_of(rt: &impl Abort, alloc: Global, registries: &str) -> String {
     format!(in alloc; "{{\"records\":1000,\"registries\":[{registries}]}}").expect(rt, READING)
 }
 
-/// What the text is read as.
+/// The result of reading the text.
 fn read_text(alloc: Global, text: &str) -> Result<Scheme, SchemeFault> {
     again!(Scheme::read(alloc, text.as_bytes()), Err(SchemeFault::NoMemory) => ())
 }
@@ -25,7 +25,7 @@ fn read(rt: &impl Abort, alloc: Global, registries: &str) -> Result<Scheme, Sche
     read_text(alloc, text_of(rt, alloc, registries).as_str())
 }
 
-/// Asserts that this is wrong with the registries, or nothing.
+/// Asserts the fault of these registries, or that they have none.
 fn assert_fault(rt: &impl Abort, alloc: Global, registries: &str, wanted: Option<SchemeFault>) {
     assert_same(rt, read(rt, alloc, registries).err(), wanted);
 }
@@ -37,7 +37,7 @@ fn registry(rt: &impl Abort, alloc: Global, code: &str, accounts: &str, allotted
     text.expect(rt, READING)
 }
 
-/// Asserts that this is wrong with JP and a registry NZ of those accounts and allotments, or nothing.
+/// Asserts the fault of JP and a registry NZ of those accounts and allotments, or that they have none.
 fn assert_beside_jp(
     rt: &impl Abort,
     alloc: Global,
@@ -50,7 +50,7 @@ fn assert_beside_jp(
     assert_fault(rt, alloc, both.as_str(), wanted);
 }
 
-/// The texts of that many numbers from 1 on, between `before` and `after`.
+/// The texts of that number of numbers from 1 on, between `before` and `after`.
 fn repeated(rt: &impl Abort, alloc: Global, count: u64, before: &str, after: &str) -> String {
     let mut text = String::new(alloc);
     for i in 1..=count {
@@ -111,7 +111,7 @@ fn a_scheme_is_read_and_copied(rt: HostRuntime) {
     assert_read(&rt, rt.alloc(), NZ, JP);
 }
 
-/// The unit of that number, of those that NZ allotted in the first period.
+/// The unit of that number, among those that NZ allotted in the first period.
 fn unit(origin: Code, number: u64) -> Unit {
     let period = Period::First;
     Unit {

@@ -7,7 +7,7 @@ use std::process::Abort;
 use std::test::Fail;
 use test_support::again;
 
-/// What a line of a script is.
+/// The kind of a script's line.
 #[derive(Clone, Copy, Debug, PartialEq, Eq)]
 enum Kind {
     Propose,

@@ -29,7 +29,7 @@ fn nz(rt: &impl Abort) -> Node {
     Node::Registry(Code::read("NZ").expect(rt, "a code"))
 }
 
-/// Reopens a store that found no memory, and asserts that it has no record.
+/// Reopens a store that lacked memory, and asserts that it has no record.
 fn reopen_empty(rt: &impl Abort, store: &mut MemoryStore) {
     assert!(rt; store.reopen().is_ok());
     let kept = store.load().ok().expect(rt, "the records");
@@ -37,7 +37,7 @@ fn reopen_empty(rt: &impl Abort, store: &mut MemoryStore) {
     drop(kept);
 }
 
-/// Has the store append the two records, and asserts what that comes to.
+/// Has the store append the two records, and asserts the result.
 fn append_two(
     rt: &impl Abort,
     alloc: Global,
@@ -102,7 +102,7 @@ fn shows_no_store_that_waits(rt: HostRuntime) {
     assert!(rt; writer.is_empty());
 }
 
-/// Gives that many zeros, and then fails.
+/// A reader that gives that number of zeros, and then fails.
 #[derive(Drop)]
 struct Broken {
     room: usize,
@@ -128,14 +128,15 @@ fn reads_no_broken_file(rt: HostRuntime) {
     assert_same(&rt, read.err(), Some(OpFault::Read));
 }
 
-/// How many records the scheme allows.
+/// The number of records that the scheme allows.
 fn records(scheme: Scheme) -> u64 {
     let records = scheme.records();
     drop(scheme);
     records
 }
 
-/// Asserts what a file with that text comes to: how many records the scheme allows, or the cause of its fault.
+/// Asserts the result for a file with that text: the number of records that the scheme allows, or the cause of its
+/// fault.
 fn assert_file(rt: &impl Abort, alloc: Global, text: &str, wanted: Result<u64, Cause>) {
     let read = again!(
         read_scheme(alloc, &mut text.as_bytes()),
@@ -149,7 +150,7 @@ fn assert_file(rt: &impl Abort, alloc: Global, text: &str, wanted: Result<u64, C
     assert_same(rt, read, wanted);
 }
 
-/// What stands after a scheme, and what a file with both comes to.
+/// Texts after a scheme, and the result for a file with both.
 const ENDS: &[(&str, Result<u64, Cause>)] = &[
     ("", Ok(9)),
     ("\n", Ok(9)),
@@ -175,7 +176,7 @@ fn reads_a_file(rt: HostRuntime) {
     }
 }
 
-/// The scheme with spaces after it, 1,048,576 bytes in all, and then that end.
+/// The scheme with spaces after it, 1,048,576 bytes in all, and then `end`.
 fn longest(rt: &impl Abort, alloc: Global, end: &str) -> String {
     let mut text = String::from_str(alloc, SCHEME).expect(rt, READING);
     for _ in SCHEME.len()..1_048_576 {

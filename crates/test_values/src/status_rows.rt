@@ -130,7 +130,7 @@ fn orders_and_requests_for_cancellation(rt: HostRuntime) {
     }
 }
 
-/// Texts, and the status of which each is the name, if there is one.
+/// Texts, each with the status that it names, if there is one.
 const NAMES: &[(&str, Option<Status>)] = &[
     ("Proposed", Some(Status::Proposed)),
     ("Checked", Some(Status::Checked)),
@@ -152,7 +152,7 @@ fn the_name_of_each_status(rt: HostRuntime) {
     }
 }
 
-/// The content is for JP, and has these accounts and that many blocks.
+/// The content is for JP, and has these accounts and that number of blocks.
 fn assert_content(rt: &impl Abort, content: &Content, account: u64, to_account: u64, count: usize) {
     let accounts = (content.account(), content.to_account());
     assert_same(rt, accounts, (account, to_account));
@@ -219,7 +219,7 @@ const CONTENTS: &[(u64, &str, u64, &[&str], bool)] = &[
     ),
 ];
 
-/// Whether the contents are the same, whichever is asked.
+/// Asserts whether the contents are equal, in both directions.
 fn assert_compared(rt: &impl Abort, one: &Content, other: &Content, is_same: bool) {
     assert_same(rt, (one.same(other), other.same(one)), (is_same, is_same));
 }

@@ -105,12 +105,12 @@ fn refusal(code: u16) -> Result<(), Refusal> {
     Err(Refusal { code })
 }
 
-/// How many units the set has, and in how many intervals.
+/// The number of units in the set, and the number of its intervals.
 fn size(set: &BlockSet) -> (u64, usize) {
     (set.count(), set.pieces().len())
 }
 
-/// Adds the block to the set, and asserts what comes of it.
+/// Adds the block to the set, and asserts the result.
 fn assert_added(rt: &impl Abort, set: &mut BlockSet, block: Block, wanted: Result<(), Refusal>) {
     let old = size(set);
     let added = again!(
@@ -120,7 +120,7 @@ fn assert_added(rt: &impl Abort, set: &mut BlockSet, block: Block, wanted: Resul
     assert_same(rt, added, wanted);
 }
 
-/// Takes the block out of the set, and asserts what comes of it.
+/// Takes the block out of the set, and asserts the result.
 fn assert_taken(rt: &impl Abort, set: &mut BlockSet, block: Block, wanted: Result<(), Refusal>) {
     let old = size(set);
     let taken = again!(
@@ -185,7 +185,7 @@ fn blocks_of_a_set(rt: HostRuntime) {
     drop(set);
 }
 
-/// Adds the blocks to the set, and asserts what comes of it.
+/// Adds the blocks to the set, and asserts the result.
 fn assert_all_added(
     rt: &impl Abort,
     set: &mut BlockSet,
@@ -200,7 +200,7 @@ fn assert_all_added(
     assert_same(rt, added, wanted);
 }
 
-/// Takes the blocks out of the set, and asserts what comes of it.
+/// Takes the blocks out of the set, and asserts the result.
 fn assert_all_taken(
     rt: &impl Abort,
     set: &mut BlockSet,
@@ -238,7 +238,7 @@ fn blocks_that_share_a_unit(rt: HostRuntime) {
     assert!(rt; overlaps(&[low, high, nz(&rt, Kind::Cer, 10, 11)]));
 }
 
-/// Gives the units of the block that label, or none.
+/// Gives the units of the block that kind, or removes their kind.
 fn label(rt: &impl Abort, kinds: &mut UnitMap<Kind>, block: &Block, kind: Option<Kind>) {
     let old = (kinds.count_where(|_| true), kinds.pieces().len());
     let set = again!(

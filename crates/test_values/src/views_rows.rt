@@ -42,7 +42,7 @@ const ONE_TRANSFER: [&str; 20] = [
     "commit JP 1",
 ];
 
-/// What NZ proposes.
+/// NZ's order to transfer its hundred units.
 const HUNDRED: Given = Event(PROPOSE);
 
 const SIX_POSTED: &[(&str, u64, &str)] = &[
@@ -124,7 +124,7 @@ fn owed_in_transit(rt: HostRuntime) {
 /// NZ's order for the first sixty units.
 const SIXTY: Given = Event(PROPOSE_SIXTY);
 
-/// The line of one for a unit of these and all others.
+/// The line of an order for one of these units and for all others.
 const PROPOSE_OVERLAPPING: &str = "propose NZ 1 JP 7 NZ:1:60-100:AAU";
 
 const OVERLAPPING: Given = Event(PROPOSE_OVERLAPPING);
@@ -210,7 +210,7 @@ const STALE_PROPOSAL: [&str; 34] = [
     "deliver 9 2012-05-01T00:00:00Z",
 ];
 
-/// That JP rejects the first one, whose units it holds, to the log.
+/// JP's rejection, to the log, of the first transfer, whose units it already holds.
 const REJECTED: &str =
     r#"{"call":"AcceptNotification","codes":[303],"from":"JP","status":"Rejected","to":"ITL","transaction":"NZ1"}"#;
 

@@ -1,4 +1,4 @@
-//! Worlds of the worked scheme, and what they show.
+//! Worlds of the worked scheme, and assertions about their views.
 
 use crate::cores::{ROOM, assert_text, scheme};
 use crate::given::{Given, input_of};
@@ -40,7 +40,7 @@ pub fn world_of(rt: &impl Abort, alloc: Global, lines: &[&str]) -> World {
     world.expect(rt, "memory")
 }
 
-/// Asserts where the transaction stands at these nodes.
+/// Asserts the status of the transaction at these nodes.
 pub fn assert_stands(
     rt: &impl Abort,
     world: &World,
@@ -54,7 +54,7 @@ pub fn assert_stands(
     }
 }
 
-/// Asserts that the input is the one that is given.
+/// Asserts that the input is the given one.
 fn assert_input(rt: &impl Abort, alloc: Global, found: &Input, given: Given) {
     let expected = input_of(rt, alloc, given);
     let same = found.same(&expected);
@@ -116,7 +116,7 @@ fn assert_lines(rt: &impl Abort, found: &[HeldBlock], expected: &[Line]) {
     }
 }
 
-/// Asserts what the registry holds.
+/// Asserts the holdings of the registry.
 fn assert_holdings(rt: &impl Abort, world: &World, name: &str, expected: &[Line]) {
     let code = code(rt, name);
     let found = again!(world.holdings(code), Err(NoMemory) => ());
@@ -124,7 +124,7 @@ fn assert_holdings(rt: &impl Abort, world: &World, name: &str, expected: &[Line]
     assert_lines(rt, lines.as_slice(), expected);
 }
 
-/// Asserts what each registry holds: these are all of them, in the scheme's order.
+/// Asserts the holdings of each registry: these are all of them, in the scheme's order.
 pub fn assert_stocks(
     rt: &impl Abort,
     alloc: Global,
@@ -189,7 +189,7 @@ pub fn assert_transfers(
     assert_proposed(rt, due.as_slice(), owing);
 }
 
-/// Asserts that the world shows nothing of a registry that the scheme doesn't have.
+/// Asserts that the world has nothing about a registry that isn't in the scheme.
 pub fn assert_no_registry(rt: &impl Abort, world: &World, name: &str, block: &str) {
     let (code, unit) = (code(rt, name), unit(rt, block));
     assert!(rt; world.journal(Node::Registry(code)).is_none());

@@ -89,7 +89,7 @@ module _ (w next : World) (id : TransactionId) (r : Placed) (n : Node) (place : 
   abbrev pub here : Row
   here = record { node = n; place = place; input = input; status = now }
 
-  -- what the code has found of it is so
+  -- the code's test whether the record is of the transaction agrees with the definition
   traced_is : is_traced sent id n input before now ≡ is_of w next id r
   traced_is =
       ap (λ m. is_traced sent id m input before now) (sym at)
@@ -123,7 +123,7 @@ module _ (old new : Tracing) (e : WorldEvent) (next : World) (o : Outcome) (know
   went : next ≡ (step old.world e).world
   went = ap (λ (s : Stepped). s.world) does
 
-  -- that gives a node an input
+  -- for an event that gives a node an input
   pub gave : (n : Node) → receiver old.world e ≡ Some n → new.id ≡ old.id → new.form ≡ old.form → new.world ≡ next → new.sent.items ≡ old.sent.items
       → ((r : Placed) → given old.world e ≡ Some r → r.node ≡ n → HasLines old.form old.text.items new.text.items (row_of old.world next old.id r o)) → HasFollowed old new e
   gave n to id form world sent lines =
@@ -140,7 +140,7 @@ module _ (old new : Tracing) (e : WorldEvent) (next : World) (o : Outcome) (know
         lines = subst (HasLines old.form old.text.items new.text.items) (row_given old.world next old.id e r o found.1 does) (lines r found.1 found.2);
       }
 
-  -- that gives none
+  -- for an event that gives none
   pub passed : receiver old.world e ≡ None → new.id ≡ old.id → new.form ≡ old.form → new.world ≡ next → new.text.items ≡ old.text.items
       → new.sent.items ≡ old.sent.items ++ sent_about old.id (drop (length old.world.bag) next.bag) → HasFollowed old new e
   passed none id form world text sent = record {
@@ -165,7 +165,7 @@ recorded_at w next e r n o place does is h at =
 
 -- ---- all events
 
--- what is left to be written after one event more
+-- the rows that are left to be written after one more event
 pub rows_next : (w next : World) (id : TransactionId) (events : List WorldEvent) (i : ℕ) (e : WorldEvent) → i < length events → e ≡ get_or events i e → next ≡ (step w e).world
     → rows w id (drop i events) ≡ row_by w id e ++ rows next id (drop (i + 1) events)
 rows_next w next id events i e low is went =

@@ -1,4 +1,4 @@
--- What an event gives to a node: where it is recorded, and what becomes of the bag.
+-- The input that an event gives to a node: where it is recorded, and the messages in the bag afterwards.
 use Rattle.std.proofs.Common.{◌≡◌, ℕ, Bool, true, false, cond, List, [], ◌∷◌, ◌++◌, length, Option, Some, None, option_map, refl, sym, ap, ◌∙◌, append_assoc}
 use Rattle.std.specs.Prelude.{slice_get, option_and_then}
 use Rattle.std.proofs.lemmas.List.{append-nil}
@@ -139,7 +139,7 @@ recorded w e r place h is =
     ap (λ (s : Stepped). slice_get (whole (station s.world r.node)) place) goes
     ∙ taken_at w r.node r.input place (station w r.node) refl (ap (λ (s : Stepped). s.outcome) (sym goes) ∙ is)
 
--- the node to which an event gives an input is that of what it gives
+-- the node to which an event gives an input is the node of that input's row
 pub given_to : (w : World) (e : WorldEvent) (n : Node) → receiver w e ≡ Some n → (r : Placed) × (given w e ≡ Some r) × (r.node ≡ n)
 given_to w e n h = of (given w e) h
   where

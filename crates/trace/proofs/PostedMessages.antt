@@ -33,7 +33,7 @@ sent_is id n key (p ∷ ps) =
       | inr z ↦ rw z (sent_is id n key ps)
     ]
 
--- what the kept messages say of an acknowledgement is what the bag says
+-- the kept messages and the bag agree on whether an input acknowledges one of them
 pub acknowledges_same : (w : World) (id : TransactionId) (n : Node) (input : Input) → acknowledges_one (sent_about id w.bag) n input ≡ acknowledges w id n input
 acknowledges_same w id n (Ack key) = sent_is id n key.value w.bag
 acknowledges_same w id n (Propose o) = refl

@@ -1,4 +1,4 @@
--- What the code follows. No public contract cites it.
+-- Definitions that the code follows. No public contract cites it.
 use Rattle.std.specs.Prelude.{◌≡◌, ◌==◌, ◌&&◌, ◌||◌, not, ℕ, Bool, false, List, ◌++◌, map, Option, Some, None}
 use Rattle.std.specs.List.{filter, list_any}
 use Rattle.units.specs.Code.{same_node}
@@ -42,18 +42,18 @@ abbrev pub place_of : Outcome → Option ℕ
 place_of (Recorded place) = Some place
 place_of _ = None
 
--- a record of the transaction, told by what the code has found
+-- whether a record is of the transaction, by what the code has computed
 abbrev pub is_traced : List Sent → TransactionId → Node → Input → (before now : Option Status) → Bool
 is_traced sent id n input before now = names id input || (acknowledges_one sent n input || not (same_standing before now))
 
--- the text has lines of the rows more
+-- the new text is the old one with the lines of the rows added
 abbrev pub HasLines : Form → (old new : List ℕ) → List Row → Type 0
 HasLines form old new rs = (lines : List ℕ) × AreRowLines form lines rs × (new ≡ old ++ lines)
 
 abbrev pub KnowsSent : Tracing → Type 0
 KnowsSent t = t.sent.items ≡ sent_about t.id t.world.bag
 
--- the event has happened, and the text has the line of its row more
+-- the event has happened, and the line of its row was added to the text
 pub record HasFollowed (old new : Tracing) (e : WorldEvent) : Type 0 where
   pub id : new.id ≡ old.id
   pub form : new.form ≡ old.form

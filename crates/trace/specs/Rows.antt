@@ -19,7 +19,7 @@ use Rattle.protocol.specs.declared.event.Outcome.TheVariants.{Recorded}
 use Rattle.protocol.specs.declared.event.WorldEvent.{WorldEvent}
 use Rattle.protocol.specs.declared.event.WorldEvent.TheVariants.{Take, Deliver}
 
--- one record: its node, its place there, what was recorded, and where the transaction stands at that node after it
+-- one record: its node, its place there, the input, and the transaction's status at that node after it
 pub record Row : Type 0 where
   pub node : Node
   pub place : ℕ
@@ -28,11 +28,11 @@ pub record Row : Type 0 where
 
 -- ---- which records are of a transaction
 
--- where it stands at the node
+-- the transaction's status at the node
 abbrev pub standing : World → Node → TransactionId → Option Status
 standing w n id = stands (transitions_of (live_of w n)) id
 
--- both are the same status, or both are none
+-- both are the same status, or there is none in both
 abbrev pub same_standing : Option Status → Option Status → Bool
 same_standing (Some a) (Some b) = same_status a b
 same_standing None None = true
@@ -53,7 +53,7 @@ abbrev pub acknowledges : World → TransactionId → Node → Input → Bool
 acknowledges w id n (Ack key) = posted_about w id n key.value
 acknowledges w id n _ = false
 
--- the step from one world to the next changes where it stands at the node
+-- the step from one world to the next changes the transaction's status at the node
 abbrev pub moves : (w next : World) → TransactionId → Node → Bool
 moves w next id n = not (same_standing (standing w n id) (standing next n id))
 
@@ -62,13 +62,13 @@ is_of w next id r = names id r.input || (acknowledges w id r.node r.input || mov
 
 -- ---- the rows of events
 
--- what the event gives to a node: an order or an acknowledgement, or a message of the bag
+-- the input that an event gives to a node: an order or an acknowledgement, or a message of the bag
 abbrev pub given : World → WorldEvent → Option Placed
 given w (Take n input) = Some (record { node = n; input = input })
 given w (Deliver index moment) = option_map (λ p. record { node = p.message.to; input = Received p.message moment }) (slice_get w.bag index)
 given w _ = None
 
--- the row of what was given, where it was recorded and is of the transaction
+-- the row of the input that was given, if it was recorded and is of the transaction
 abbrev pub row_of : (w next : World) → TransactionId → Placed → Outcome → List Row
 row_of w next id r (Recorded place) = cond (is_of w next id r) (record { node = r.node; place = place; input = r.input; status = standing next r.node id } ∷ []) []
 row_of w next id r _ = []

@@ -31,7 +31,7 @@ module _ {S : Type 0} (g : Ghosts S) where
     pub loaded : AreLoaded g scheme (nodes scheme) olds news journals
     pub traces : TracesRun form scheme journals id text
 
-  -- nothing was written, or the first bytes of the text, fewer than all
+  -- nothing was written, or some first bytes of the text, but not all of it
   abbrev pub FailsToTrace : Form → OpFault → Scheme → List S → List S → TransactionId → (before after : Option (List ℕ)) → Type 0
   FailsToTrace form (Stuck n place) scheme olds news id v w = FindsNoRun g scheme olds news n place × Keeps v w
   FailsToTrace form (Store told fault) scheme olds news id v w = FailsToLoad g scheme (nodes scheme) olds news (Store told fault) × Keeps v w

@@ -20,7 +20,7 @@ use units::{NoMemory, Node};
 use wire::Input;
 use world::World;
 
-/// The world that some events led to, and the lines of those of their records that are of the transaction.
+/// The world that some events led to, and the lines of the transaction's records among those of these events.
 pub(crate) struct Tracing {
     pub alloc: Global,
     pub id: TransactionId,
@@ -31,7 +31,7 @@ pub(crate) struct Tracing {
     pub text: Vec<u8>,
 }
 
-// Written out, since a derived destructor is proved anew in each function that lets a value go.
+// Written out, since a derived destructor is proved anew in each function that drops a value.
 impl Drop for Tracing {
     fn drop(self) {
         let Tracing {
@@ -97,7 +97,7 @@ fn is_same_standing(a: Option<Status>, b: Option<Status>) -> bool
     }
 }
 
-/// Whether the input is a record of the transaction, which stood so at the node before it and stands so now.
+/// Whether the input is a record of the transaction, whose status at the node was `before` and is `now`.
 fn is_traced(
     sent: &[Sent],
     id: TransactionId,
@@ -111,7 +111,7 @@ fn is_traced(
     names(id, input) || acknowledges(sent, node, input) || !is_same_standing(before, now)
 }
 
-/// The place at which an input was recorded, if it was.
+/// The place at which an input was recorded, if it was recorded.
 fn place_of(outcome: Outcome) -> Option<u64>
     ensures { result ≡ place_of outcome }
 {
@@ -153,8 +153,8 @@ impl Tracing {
         })
     }
 
-    /// Adds the line of the record at that place of the node's journal, if it is of the transaction. Before it the
-    /// transaction stood so at the node.
+    /// Adds the line of the record at that place of the node's journal, if it is of the transaction. `before` is the
+    /// transaction's status at the node before the record.
     fn add_record(&mut self, node: Node, place: u64, before: Option<Status>) -> Result<(), NoMemory>
         ensures lines { (w : Place) (r : Placed) → r.node ≡ node
             → slice_get (whole (station self.old.world node)) place ≡ Some r.input
@@ -175,7 +175,7 @@ impl Tracing {
         Ok(())
     }
 
-    /// Goes on by an event that gives the node an input. It posts nothing.
+    /// Follows an event that gives the node an input. Such an event posts nothing.
     fn give(&mut self, node: Node, event: &WorldEvent) -> Result<(), NoMemory>
         requires sent { KnowsSent self.old }
         requires given { option_map (λ r. r.node) (given self.old.world event.now) ≡ Some node }
@@ -189,7 +189,7 @@ impl Tracing {
         Ok(())
     }
 
-    /// Goes on by an event that gives no node an input.
+    /// Follows an event that gives no node an input.
     fn pass(&mut self, event: &WorldEvent) -> Result<(), NoMemory>
         requires sent { KnowsSent self.old }
         requires given { option_map (λ r. r.node) (given self.old.world event.now) ≡ None }
@@ -201,7 +201,7 @@ impl Tracing {
         Ok(())
     }
 
-    /// Goes on by an event.
+    /// Follows an event.
     fn follow(&mut self, event: &WorldEvent) -> Result<(), NoMemory>
         requires sent { KnowsSent self.old }
         ensures { OnOk result (HasFollowed self.old self.new event.now) }
@@ -212,7 +212,7 @@ impl Tracing {
         }
     }
 
-    /// Goes on by all the events.
+    /// Follows all the events.
     fn follow_all(&mut self, events: &[WorldEvent]) -> Result<(), NoMemory>
         requires sent { KnowsSent self.old }
         ensures { OnOk result (HasLines self.old.form self.old.text.items self.new.text.items

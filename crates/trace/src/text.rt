@@ -31,8 +31,11 @@ fn is_word(text: &str) -> bool
     cut(text, ' ').is_none() && cut(text, '\n').is_none()
 }
 
-/// The moment as a word. It is read back before it is returned, since no contract says how `jiff` prints it. Fails with
-/// `NoMemory` where there is no room, and where the word isn't read back. No such moment is known.
+/// The moment as a word. The word is read back before it is returned, since no contract specifies how `jiff` prints a
+/// moment.
+///
+/// Fails with `NoMemory` where there is no room, and where the word isn't read back as the moment. No such moment is
+/// known.
 fn moment_word(alloc: Global, moment: Moment) -> Result<String, NoMemory>
     ensures { IfOk result (λ s. IsMomentWord (string_bytes s) moment) }
 {
@@ -123,7 +126,7 @@ fn json_status(alloc: Global, status: Option<Status>) -> Result<String, NoMemory
     }
 }
 
-/// The node and the place, as members of an object that come after others and before the record.
+/// The node and the place, as members of an object between the earlier members and the record.
 fn json_seat(alloc: Global, node: Node, place: u64) -> Result<String, NoMemory>
     ensures { IfOk result (λ s. string_bytes s ≡ codes ",\"node\":\"" ++ node_text node ++ codes "\",\"place\":"
         ++ decimal place ++ codes ",\"record\":") }
@@ -178,12 +181,12 @@ fn push_object(
     Ok(())
 }
 
-/// Adds the line of a record at that place of the node's journal, after which the transaction stands so.
+/// Adds the line of a record at that place of the node's journal. `status` is the transaction's status after it.
 ///
 /// # Errors
 ///
-/// Fails with `NoMemory` where there is no room for the line, which may then be there in part, and, in lines of words,
-/// where `moment_word` does.
+/// Fails with `NoMemory` where there is no room for the line, a part of which may then be there, and, in lines of
+/// words, where `moment_word` does.
 pub(crate) fn push_row(
     alloc: Global,
     text: &mut Vec<u8>,

@@ -22,7 +22,7 @@ use streams::write_text;
 use weave::{Watch, WeaveFault, Woven, weave_cores};
 use world::Core;
 
-/// The trace of the transaction in the run that was woven of these journals, or what the fault is to the command.
+/// The trace of the transaction in the run that was woven from these journals, or the command's fault.
 fn text_of_woven(
     alloc: Global,
     scheme: &Scheme,
@@ -69,16 +69,16 @@ fn text_of_cores<P: Watch>(
 }
 
 /// Reads the stores, one for each node: the log's, then those of the registries in the scheme's order. Finds a run that
-/// leads to all their records and to no others, and writes the records of the transaction in the order of that run,
-/// and then the line `end`. Where no record is of the transaction, that line is all. Tells of the records as they are
-/// read and woven.
+/// leads to all their records and to no others, and writes the records of the transaction in the order of that run, and
+/// then the line `end`. Where no record is of the transaction, only that line is written. Reports the records as they
+/// are read and woven.
 ///
 /// A record is of the transaction exactly when it names it (a message about it, or a request for its cancellation),
-/// acknowledges a message about it, or changes where it stands at the record's node (an order to transfer units that
-/// gets this identifier, or a clean-up that cancels it). Its line has the node, the place in the node's journal, the
-/// moment of a received message or of a clean-up (`-` for other records), where the transaction stands at that node
-/// after it (`none` where it isn't known there), and the record's text. A moment is any text that `Moment::read` reads
-/// as it, without a space.
+/// acknowledges a message about it, or changes its status at the record's node (an order to transfer units that gets
+/// this identifier, or a clean-up that cancels it). Its line has the node, the place in the node's journal, the moment
+/// of a received message or of a clean-up (`-` for other records), the transaction's status at that node after it
+/// (`none` where the node has no record of it), and the record's text. The moment is written as a text without a space
+/// that `Moment::read` reads back as that moment.
 ///
 /// As JSON, each line is an object with `moment` (in seconds, or `null`), `node`, `place`, `record` and `status` (or
 /// `null`), and the last line is `{"line":"end"}`.
@@ -87,14 +87,14 @@ fn text_of_cores<P: Watch>(
 ///
 /// # Errors
 ///
-/// Nothing is written, but where the output failed:
+/// Nothing is written, except where the output failed:
 ///
-/// - `Store`: the first store in that order that could not be read, or has a damaged record. A record is damaged too
-///   where its node doesn't record it after those before it.
+/// - `Store`: a store could not be read, or has a damaged record; it is the first such store in that order. A record is
+///   also damaged where its node doesn't record it after those before it.
 /// - `Stuck`: no run leads to these records. Followed as far as they go, the node is the first with a record left, and
 ///   the place is that record's.
-/// - `Write`: the output failed, after the number of bytes that the fault tells.
-/// - `NoMemory`: out of memory, or, in lines of words, a moment whose text isn't read back, of which none is known.
+/// - `Write`: the output failed, after the number of bytes in the fault.
+/// - `NoMemory`: out of memory, or, in lines of words, a moment whose text isn't read back; no such moment is known.
 pub fn trace<S: NodeStore, W: Write, P: Watch>(
     alloc: Global,
     scheme: &Scheme,

@@ -58,12 +58,12 @@ covers_more blocks i b u lt is h =
     one : (c : Block) (v : Serial) → covers (c ∷ []) v ≡ true → has_unit c.raw v ≡ true
     one c v e = alone (has_unit c.raw v) e
 
--- an element of which it is so
+-- an element with the property
 pub among : {X : Type 0} (P : X → Type 0) (xs : List X) → (k : ℕ) × (k < length xs) × HoldsAt P xs k → (x : X) × IsAmong xs x × P x
 among P [] h = absurd (omega (arith, h.1))
 among P (x ∷ xs) h = (get_or (x ∷ xs) h.0 x, (h.0, (h.1, get_or_default (x ∷ xs) h.0 x (get_or (x ∷ xs) h.0 x) h.1)), h.2 x)
 
--- what is given to the block of a unit, where that is no label
+-- the result for the block of a unit, where the function gives no label
 pub none_of : {M : Type 0} (blocks : List Block) (u : Serial) (label : Option M) → option_map_or (λ (b : Block). None) (find (λ b. has_unit b.raw u) blocks) label ≡ (if covers blocks u then None else label)
 none_of [] u label = refl
 none_of (b ∷ bs) u label = elim (cases_Bool (has_unit b.raw u)) [

@@ -1,4 +1,4 @@
--- What a text that is no block lacks.
+-- Conditions that a text that is no block doesn't meet.
 use Rattle.std.proofs.Common.{◌≡◌, ℕ, ◌^◌, ◌<◌, List, ◌∷◌, ◌++◌, ap, ◌∙◌, arith, subst}
 use Rattle.std.specs.Fmt.{decimal}
 use Rattle.units.specs.Text.{IsFreeOf, IsNumberText}

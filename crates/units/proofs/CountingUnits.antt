@@ -1,4 +1,4 @@
--- How many units intervals have: the entries of their map that pass a test, counted by intervals.
+-- The number of units of intervals: the entries of their map that pass a test, counted by intervals.
 use Rattle.std.proofs.Common.{◌≡◌, ℕ, ◌+◌, ◌^◌, ◌<◌, ◌≤◌, zero, suc, List, [], ◌∷◌, length, get_or, Bool, true, false, ◌&&◌, cond, T, leb, ltb, Some, None, refl, sym, ap, ◌∙◌, subst, arith}
 use Rattle.std.specs.declared.cmp.Ordering.{Ordering}
 use Rattle.std.specs.declared.cmp.Ordering.TheVariants.{Less, Equal, Greater}
@@ -42,7 +42,7 @@ module _ {K X : Type 0} (R : K → K → Ordering) where
             omega arith
       ] refl
 
-  -- what holds of each key and of a new one
+  -- a property of each key and of a new one
   all_put : (P : K → Type 0) (k : K) (v : X) (es : List (K × X)) → P k → AllByRecursion (λ e. P e.0) es → AllByRecursion (λ e. P e.0) (put R k v es)
   all_put P k v [] here all = (here, tt)
   all_put P k v (e ∷ es) here all =
@@ -156,7 +156,7 @@ module _ {M : Type 0} where
   small_labels [] kept = subst (AllByRecursion (λ e. IsSmall e.0)) (sym (no_entries unit_cmp M)) tt
   small_labels (i ∷ is) kept = small_put i (size i) (labels_of is) (omega (arith, kept.0)) (small_labels is kept.2)
 
-  -- all sizes together stay far below what a number can say
+  -- all sizes together stay far below the greatest number
   pub sizes_bound : (is : List (Interval M)) → AreKept is → sum_by size is ≤ 2 ^ 63
   sizes_bound is kept =
       let count = passing_labels (λ m. true) is kept in
@@ -169,6 +169,6 @@ module _ {M : Type 0} where
   kept_range (i ∷ is) zero d kept h = kept.0
   kept_range (i ∷ is) (suc k) d kept h = kept_range is k d kept.2 (omega arith)
 
-  -- an interval that stands at an index of the list
+  -- an interval at an index of the list
   pub range_at : (is : List (Interval M)) (k : ℕ) (i : Interval M) → AreKept is → k < length is → i ≡ get_or is k i → IsRange i.first i.last
   range_at is k i kept h e = subst (λ (j : Interval M). IsRange j.first j.last) (sym e) (kept_range is k i kept h)

@@ -8,7 +8,7 @@ pub free_from : (byte : ℕ) (xs : List ℕ) → ((i : ℕ) → i < length xs �
 free_from byte [] none = tt
 free_from byte (x ∷ xs) none = (none 0 (omega arith), free_from byte xs (λ i h. none (suc i) (omega arith)))
 
--- what `split_once` says, of its two outcomes
+-- the contract of `split_once`, for its two outcomes
 abbrev pub Parts : ℕ → List ℕ → Option (Bor (List ℕ) × Bor (List ℕ)) → Type 0
 Parts byte text r = MatchOption r ((i : ℕ) → i < length text → get_or text i 0 ≢ byte)
     (λ x. (text ≡ x.0.now ++ (byte ∷ x.1.now)) × ((i : ℕ) → i < length x.0.now → get_or x.0.now i 0 ≢ byte))

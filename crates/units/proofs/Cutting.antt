@@ -1,4 +1,4 @@
--- Intervals as sets of units: which meet a block.
+-- Intervals as sets of units: which of them meet a block.
 use Rattle.std.proofs.Common.{◌≡◌, ℕ, ◌≤◌, Bool, true, ◌&&◌, eqb, leb, refl, sym, ◌∙◌, arith, inl, inr}
 use Rattle.std.proofs.lemmas.Bool.{and_parts, cases_lt, leb-true, le-leb}
 use Rattle.std.proofs.lemmas.Bool.Decides.{nat_tests}
@@ -38,7 +38,7 @@ module _ {M : Type 0} where
   pub meets-true : (b : RawBlock) (i : Interval M) → meets b i ≡ true → Holds i.origin b.origin i.period b.period (leb i.first b.last) (leb b.first i.last)
   meets-true b i e = holds i.origin b.origin i.period b.period (leb i.first b.last) (leb b.first i.last) e
 
--- the numbers of a unit and of what has it
+-- the numbers of a unit and of the interval that has it
 pub record Within (o q : Code) (p r : Period) (first last n : ℕ) : Type 0 where
   pub one : o.first ≡ q.first
   pub two : o.second ≡ q.second

@@ -1,4 +1,4 @@
--- The map that intervals mean answers as the list does.
+-- The map that intervals mean gives the same labels as the list does.
 use Rattle.std.proofs.Common.{◌≡◌, ℕ, ◌+◌, ◌-◌, zero, suc, List, [], ◌∷◌, Bool, true, false, ◌&&◌, cond, eqb, leb, ltb, Some, refl, sym, ap, ◌∙◌, arith}
 use Rattle.std.specs.FinMap.{get, get-empty, get-insert}
 use Rattle.std.proofs.lemmas.Bool.Decides.{nat_tests}
@@ -47,6 +47,6 @@ module _ {M : Type 0} where
       ∙ ap (λ t. cond t (Some i.label) (get (labels_of is) u)) (all_first (same_code i.origin u.origin) (same_period i.period u.period) i.first i.last u.number)
       ∙ ap (cond (has i u) (Some i.label)) (get-labels_of is u)
 
-  -- what a map answers, by its intervals
+  -- the label that a map gives a unit, by its intervals
   pub get_view : (is : List (Interval M)) (m : Labels M) → labels_of is ≡ m → (u : Serial) → get m u ≡ label_at is u
   get_view is m e u = ap (λ k. get k u) (sym e) ∙ get-labels_of is u

@@ -1,4 +1,5 @@
--- Facts on lists, on maps as lists, and on comparisons, which no function needs and the proofs of several crates do.
+-- Facts about lists, about maps as lists, and about comparisons. No function uses them, and the proofs of several
+-- crates do.
 pub mod Membership
 pub mod OneValue
 pub mod Positions

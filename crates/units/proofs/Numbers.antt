@@ -13,7 +13,7 @@ use Rattle.units.specs.Text.{IsNumberText, IsFreeOf}
 pub own : IsNumeralModel (λ ds. all_ascii_digits ds ≡ true) (digits_value 10)
 own = numerals_by_value _ tells_all_ascii_digits
 
--- what the digits of a number are like
+-- the properties of the digits of a number
 pub record IsNumeral (text : List ℕ) : Type 0 where
   pub some : 0 < length text
   pub short : length text ≤ 18
@@ -47,7 +47,7 @@ free_digits byte (d ∷ ds) never all =
 pub decimal_free : (byte n : ℕ) → (is_ascii_digit byte ≡ true → ⊥) → n < 10 ^ 18 → IsFreeOf byte (decimal n)
 decimal_free byte n never h = free_digits byte (decimal n) never (decimal_numeral n h).digits
 
--- what `parse` says, of a text that begins with no sign
+-- the contract of `parse`, for a text that begins with no sign
 reads : {E : Type 0} (text : List ℕ) (r : Result ℕ E) → ParsesUnsigned 64 10 text r → length text ≤ 18 → get_or text 0 0 ≢ 43 → (get_or text 0 0 ≡ 48 → length text ≤ 1)
     → OkIff r ((all_ascii_digits text ≡ true) × (0 < length text) × (digits_value 10 text < 2 ^ 64)) (digits_value 10 text)
 reads text r h short plain lead = parse_plain own 64 text r h plain

@@ -1,4 +1,4 @@
--- Neighbours joined: what a list of intervals means, and that they stay apart and in order.
+-- Neighbours joined: the meaning of a list of intervals, and that they stay apart and in order.
 use Rattle.std.proofs.Common.{◌≡◌, ◌⊎◌, inl, inr, ℕ, ◌+◌, ◌<◌, ◌≤◌, zero, suc, List, [], ◌∷◌, ◌++◌, length, get_or, set, take, Bool, true, false, ◌&&◌, cond, leb, Option, Some, None, append_assoc, refl, sym, ap, ◌∙◌, subst, arith}
 use Rattle.std.proofs.lemmas.Bool.{true≢false, false≢true, and_parts, eqb-true}
 use Rattle.std.proofs.lemmas.Bool.Decides.{nat_tests}
@@ -13,7 +13,7 @@ use Rattle.units.specs.declared.block.Unit.{Unit as Serial}
 use Rattle.units.specs.declared.interval.Interval.{Interval}
 use Rattle.units.proofs.Same.{code_of_same, period_of_same}
 
--- ---- what the tests say
+-- ---- the tests as facts
 
 module _ {M : Type 0} where
   pub next_means : (a b : Interval M) → is_next a b ≡ true → (a.origin ≡ b.origin) × (a.period ≡ b.period) × (a.last + 1 ≡ b.first)
@@ -54,7 +54,7 @@ one_of true false false e h = absurd (true≢false e)
 one_of false false false e h = absurd (false≢true h)
 
 module _ {M : Type 0} where
-  -- what the two intervals to be joined are
+  -- the two intervals to be joined
   pub record Meet (a n : Interval M) : Type 0 where
     pub on : GoesOn a n
     pub first : IsRange a.first a.last

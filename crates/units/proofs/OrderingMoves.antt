@@ -22,7 +22,7 @@ use Rattle.units.proofs.OrderingJoins.{AreOrdered, Joins, joins_more}
 use Rattle.units.proofs.Same.{same_code-refl, same_period-refl}
 use Rattle.units.proofs.UnitOrder.{index, index_keeps, less_from_index, same_line}
 
--- ---- in how many of the intervals a unit is
+-- ---- the number of intervals that have a unit
 
 yes_one : (t : Bool) → t ≡ true → ◌≡◌ {A = ℕ} (cond t 1 0) 1
 yes_one t e = ap (λ b. cond b 1 0) e
@@ -61,7 +61,7 @@ module _ {M : Type 0} where
             omega arith
       ]
 
-  -- kept intervals have a unit once at most, and that says it
+  -- kept intervals have a unit once at most, and intervals that have each unit once at most are kept
   at_most_one : (is : List (Interval M)) → AreKept is → (u : Serial) → holds u is ≤ 1
   at_most_one [] kept u = omega arith
   at_most_one (i ∷ is) kept u =
@@ -150,7 +150,7 @@ module _ {M : Type 0} where
 -- ---- sorted intervals
 
 module _ {M : Type 0} (group : M → ℕ) where
-  -- what they are sorted by
+  -- the key by which they are sorted
   abbrev pub key : Interval M → ℕ × Serial
   key i = (group i.label, numbered i i.first)
 

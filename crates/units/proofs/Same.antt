@@ -1,4 +1,4 @@
--- What the tests of sameness say.
+-- The tests of sameness as equations.
 use Rattle.std.proofs.Common.{◌≡◌, ◌↔◌, IsTrue, ℕ, zero, suc, true, true≢false, ◌==◌, refl, sym, ap, subst, ◌∙◌, eq-eqb}
 use Rattle.std.specs.Coded.{×_prop, le_prop}
 use Rattle.std.proofs.lemmas.Bool.{and_parts, and_from, eqb-true}

@@ -48,7 +48,7 @@ module _ {M : Type 0} where
         (two.0, more_any (λ c. reaches c.raw q) blocks i b lt is ∙ false_both (reached (take i blocks) q) (reaches b.raw q) two.1 (sym (λ j. is_between (is_first j) (is_end j) q) ∙ one.1));
   }
 
-  -- ---- what becomes of one span
+  -- ---- the new label of one span
 
   pub changed_gives : (R : M → Option M → Type 0) (after : M → Option M) → ((m : M) (r : Option M) → R m r → r ≡ after m) → (o n : Option (Span M)) → IsChanged R o n → n ≡ respanned after o
   changed_gives R after gives None n changed = changed

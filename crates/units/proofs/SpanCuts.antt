@@ -1,4 +1,4 @@
--- A span cut in two, and one put in: what the spans mean, where they are cut, and which go on where others end.
+-- A span cut in two, and one put in: the meaning of the spans, where they are cut, and which go on where others end.
 use Rattle.std.proofs.Common.{◌≡◌, ◌⊎◌, inl, inr, true, false, cond, Option, Some, None, IsSome, refl, sym, ap, ◌∙◌, subst, arith}
 use Rattle.std.specs.BTreeMap.{is_at}
 use Rattle.std.specs.Option.{option_or}
@@ -28,7 +28,7 @@ module _ {M : Type 0} where
     given = λ u m e. mean.given u m (sym (same u) ∙ e);
   }
 
-  -- a unit that no span has bears no label
+  -- a unit that is in no span has no label
   pub unlabelled : (held : Held M) (f : Serial → Option M) (v : Serial) → Mean held f → ((k : Serial) (s : Span M) → held k ≡ Some s → has (interval_at k s) v ≡ false) → f v ≡ None
   unlabelled held f v mean none = by_cases (f v) refl
     where

@@ -83,12 +83,12 @@ module _ {M : Type 0} where
   abbrev pub block_span : RawBlock → M → Span M
   block_span b m = record { last = b.last; label = m }
 
-  -- ---- what the map of spans says after it was filled
+  -- ---- the map of spans after it was filled
 
   filled_out : (b : RawBlock) (given : Option M) (held : Held M) (q : Serial) → has_unit b q ≡ false → filled b given held q ≡ held q
   filled_out b given held q out = rw out refl
 
-  -- what holds of the block's span, and of those that begin outside, holds of each
+  -- a property of the block's span, and of those that begin outside, is one of each
   each : (P : Serial → Span M → Type 0) (b : RawBlock) (given : Option M) (held : Held M)
       → ((m : M) → given ≡ Some m → P (first_unit b) (block_span b m)) → ((q : Serial) (t : Span M) → has_unit b q ≡ false → held q ≡ Some t → P q t)
       → (q : Serial) (t : Span M) → filled b given held q ≡ Some t → P q t
@@ -276,7 +276,7 @@ module _ {M : Type 0} where
   pub still_key : (b : Block) (rest : List Block) (given : Option M) (old middle late : Held M) → AllApart (b ∷ rest) → IsPrepared b.raw given old middle → AreSetIn rest middle late → IsSome given → IsSome (late (first_unit b.raw))
   still_key b rest given old middle late apart one set some = set.keys (first_unit b.raw) (no_block b.raw rest (first_unit b.raw) apart.0 (first_in b.raw b.in_range)) (one.key some)
 
-  -- ---- what taking out the spans within a block leaves
+  -- ---- the spans that are left after those within a block were taken out
 
   abbrev Gives : (M → Option M → Type 0) → Type 0
   Gives R = (m : M) (r : Option M) → R m r → r ≡ None

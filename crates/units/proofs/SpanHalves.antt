@@ -1,4 +1,5 @@
--- A span cut in two before one of its units: what the spans mean, where they are cut, and which go on where others end.
+-- A span cut in two before one of its units: the meaning of the spans, where they are cut, and which go on where others
+-- end.
 use Rattle.std.proofs.Common.{◌≡◌, ◌⊎◌, inl, inr, ◌-◌, ◌<◌, ◌≤◌, true, cond, Option, Some, None, IsSome, refl, sym, ap, ◌∙◌, subst, arith}
 use Rattle.std.specs.BTreeMap.{is_at}
 use Rattle.std.proofs.lemmas.Bool.{cases_lt}
@@ -17,7 +18,7 @@ use Rattle.units.proofs.SpanCuts.{mean_same, begun_there, goes_line}
 use Rattle.units.proofs.UnitLines.{In, in_true, in_true_from, same_unit, same_origin, same_period_of, at_self, at_false_from}
 
 module _ {M : Type 0} where
-  -- what is left before the cut
+  -- the part before the cut
   abbrev pub left_of : Serial → Span M → Span M
   left_of v s = record { last = v.number - 1; label = s.label }
 
@@ -45,7 +46,7 @@ module _ {M : Type 0} where
     stays : (q : Serial) → (k ≡ q → ⊥) → (v ≡ q → ⊥) → new q ≡ old q
     stays q x y = put_other k (Some (left_of v s)) middle new second q x ∙ put_other v (Some s) old middle first q y
 
-    -- what holds of both parts, and of the others, holds of each
+    -- a property of both parts, and of the others, is one of each
     each : (P : Serial → Span M → Type 0) → P k (left_of v s) → P v s → ((q : Serial) (t : Span M) → (k ≡ q → ⊥) → (v ≡ q → ⊥) → old q ≡ Some t → P q t) → (q : Serial) (t : Span M) → new q ≡ Some t → P q t
     each P a b c q t e = elim (one_unit k q) [
       | inl same ↦

@@ -1,4 +1,4 @@
--- Two spans of which one goes on where the other ends, made one.
+-- Two spans that are made one, since one goes on where the other ends.
 use Rattle.std.proofs.Common.{◌≡◌, ◌⊎◌, inl, inr, ◌+◌, ◌-◌, ◌≤◌, true, Option, Some, None, IsSome, refl, sym, ap, ◌∙◌, subst, arith}
 use Rattle.std.proofs.lemmas.Bool.{cases_lt}
 use Rattle.units.specs.Canonical.{GoesOn}

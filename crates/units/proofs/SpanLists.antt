@@ -1,4 +1,4 @@
--- The entries of an ordered map of spans as a list of intervals: what they mean, and that they are kept and canonical.
+-- The entries of an ordered map of spans as a list of intervals: their meaning, and that they are kept and canonical.
 use Rattle.std.proofs.Common.{◌≡◌, inl, inr, ℕ, ◌+◌, ◌<◌, zero, suc, List, [], ◌∷◌, length, get_or, true, false, Option, Some, None, refl, sym, ap, ◌∙◌, subst, arith}
 use Rattle.std.specs.declared.cmp.Ordering.TheVariants.{Less}
 use Rattle.std.specs.BTreeMap.{BTreeMap, IsOrdered, get, keys}

@@ -1,4 +1,4 @@
--- Whole maps of spans: one meaning, other labels everywhere, and what a map of labels answers after a change.
+-- Whole maps of spans: one meaning, other labels everywhere, and the labels of a map after a change.
 use Rattle.std.proofs.Common.{◌≡◌, ◌⊎◌, inl, inr, ◌+◌, List, [], ◌∷◌, Bool, true, false, true≢false, not, cond, Option, Some, None, refl, sym, ap, ◌∙◌, subst, arith}
 use Rattle.std.specs.BTreeMap.{BTreeMap, IsOrdered, get, is_at}
 use Rattle.std.specs.List.Sorted.{IsStrictlySortedBy}
@@ -25,7 +25,7 @@ use Rattle.units.proofs.SpanPuts.{Held, put_here, put_other, one_unit, none_held
 use Rattle.units.proofs.SpanCuts.{goes_line}
 use Rattle.units.proofs.UnitLines.{line_of, line_numbered, line_numbered_at, in_true_from, block_true, between_true_from, at_self, at_false_from}
 
--- ---- units of blocks, and what blocks reach
+-- ---- units of blocks, and the units that blocks reach
 
 covers_reached : (blocks : List Block) (q : Serial) → covers blocks q ≡ true → reached blocks q ≡ true
 covers_reached [] q e = absurd (true≢false (sym e))
@@ -59,7 +59,7 @@ module _ {M : Type 0} where
       by_cases (Some m) e p g = let x = mean.given u m e in mean.gives x.0 u x.1 x.2 x.3 ∙ sym (other.gives x.0 u x.1 x.2 x.3)
       by_cases None e (Some m) g = let x = other.given u m g in mean.gives x.0 u x.1 x.2 x.3 ∙ sym (other.gives x.0 u x.1 x.2 x.3)
 
-  -- what the map of labels answers, where the spans mean labels
+  -- the label that the map gives a unit, where the spans mean labels
   pub told_by : (m : BTreeMap Serial (Span M)) → AreParted (get unit_cmp m) → IsOrdered unit_cmp m → (f : Serial → Option M) → Mean (get unit_cmp m) f → (u : Serial) → map.get (labels_of (intervals_of m.entries)) u ≡ f u
   told_by m parted ordered f mean u = get-labels_of (intervals_of m.entries) u ∙ one_meaning (get unit_cmp m) (labels_in m) f (means m ordered parted) mean u
 
@@ -134,7 +134,7 @@ module _ {M : Type 0} where
       by_test true e = rw e refl
       by_test false e = rw e (ap (λ t. cond t None (Some m)) e)
 
-  -- where labels outside the blocks stay, each span becomes what its label does
+  -- where labels outside the blocks stay, each span changes as its label does
   pub all_respanned : (after : M → Option M) (blocks : List Block) (m n : BTreeMap Serial (Span M)) → AreParted (get unit_cmp m) → IsOrdered unit_cmp m
       → ((q : Serial) → get unit_cmp n q ≡ cond (covers blocks q) (respanned after (get unit_cmp m q)) (get unit_cmp m q))
       → ((u : Serial) (x : M) → labels_in m u ≡ Some x → (after x ≡ Some x) ⊎ (covers blocks u ≡ true))

@@ -1,4 +1,4 @@
--- What a map of spans says of each key after one or two of them were changed.
+-- A map of spans at each key after one or two of them were changed.
 use Rattle.std.proofs.Common.{◌≡◌, ◌⊎◌, inl, inr, cond, Option, Some, None, IsSome, refl, sym, ap, ◌∙◌, subst}
 use Rattle.std.specs.BTreeMap.{is_at}
 use Rattle.std.proofs.lemmas.Bool.{cases_Bool, true≢false}
@@ -34,7 +34,7 @@ module _ {M : Type 0} where
   pub none_held : (s : Span M) → None ≡ Some s → ⊥
   none_held s e = cc (e)
 
-  -- what holds of a key that was given a span, and of those that were there, holds of each
+  -- a property of a key that was given a span, and of those that were there, is one of each
   pub each_put : (P : Serial → Span M → Type 0) (k : Serial) (w : Span M) (old new : Held M) → Puts k (Some w) old new
       → P k w → ((q : Serial) (t : Span M) → (k ≡ q → ⊥) → old q ≡ Some t → P q t)
       → (q : Serial) (t : Span M) → new q ≡ Some t → P q t

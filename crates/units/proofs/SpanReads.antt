@@ -1,4 +1,4 @@
--- What an ordered map of spans tells of a unit, by the span that begins last before it.
+-- The label of a unit in an ordered map of spans, by the span that begins last before it.
 use Rattle.std.proofs.Common.{◌≡◌, ◌≢◌, ◌⊎◌, inl, inr, ℕ, ◌<◌, ◌≤◌, Bool, true, false, Option, Some, None, IsSome, refl, sym, ap, ◌∙◌, subst, arith}
 use Rattle.std.specs.BTreeMap.{BTreeMap, IsOrdered, get}
 use Rattle.std.specs.Option.{option_map}

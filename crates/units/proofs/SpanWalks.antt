@@ -1,4 +1,4 @@
--- Walks from one unit to another over the spans that begin there: what has been done before the unit that comes next.
+-- Walks from one unit to another over the spans that begin there: the changes before the unit that comes next.
 use Rattle.std.proofs.Common.{◌≡◌, inl, inr, ◌+◌, ◌-◌, ◌^◌, ◌<◌, ◌≤◌, true, false, true≢false, Option, Some, None, IsSome, refl, sym, ap, ◌∙◌, subst, arith}
 use Rattle.std.specs.BTreeMap.{BTreeMap, IsOrdered, get}
 use Rattle.std.proofs.lemmas.Bool.{cases_lt}
@@ -42,7 +42,7 @@ up_to_one a b p q =
     let n = q.number (omega arith) in
     same_unit a b (omega arith) (omega arith)
 
--- what comes before the unit after a unit is up to that one
+-- a unit before the one after a unit is at most that unit
 pub before_after : (q k : Serial) → Before q (after_unit k) → UpTo q k
 before_after q k p =
     let same = line_after k in

@@ -1,4 +1,4 @@
--- The order of units tells them apart.
+-- Units that are equal in the order of units are one unit.
 use Rattle.std.proofs.Common.{◌≡◌, ℕ, ◌&&◌, eqb, refl, ap, arith}
 use Rattle.std.specs.declared.cmp.Ordering.{Ordering}
 use Rattle.std.specs.Ordering.{nat_cmp, ordering_then, eq_by_cmp}
@@ -43,7 +43,7 @@ exact_units a b h =
 abbrev serial : Code → Period → ℕ → Serial
 serial o x n = record { origin = o; period = x; number = n }
 
--- what the comparison for equality tests
+-- the comparison for equality as a test
 pub tied : (o p : Code) (x y : Period) (m n : ℕ) → eq_by_cmp unit_cmp (serial o x m) (serial p y n) ≡ (same_code p o && (same_period y x && eqb m n))
 tied o p First First m n = grind (arith, nat_tests)
 tied o p First Second m n = grind (arith, nat_tests)

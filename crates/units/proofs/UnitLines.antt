@@ -1,4 +1,4 @@
--- Units as a line, one number for their origin and period, and a number on it; what tests of units say of both.
+-- Units as a line, one number for their origin and period, and a number on it; and tests of units by both.
 use Rattle.std.proofs.Common.{◌≡◌, ◌⊎◌, inl, inr, ℕ, ◌<◌, ◌≤◌, Bool, true, false, not, refl, sym, ap, ◌∙◌, arith}
 use Rattle.std.specs.declared.cmp.Ordering.{Ordering}
 use Rattle.std.specs.declared.cmp.Ordering.TheVariants.{Less, Equal, Greater}

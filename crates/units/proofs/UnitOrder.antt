@@ -46,7 +46,7 @@ code_less a b h = elim (code_cmp a b) as (λ r. CodesSay a b r → r ≡ Less) [
   | Greater ↦ λ g. absurd (omega arith)
 ] (codes_compare a b)
 
--- what a sort leaves between two neighbours
+-- two neighbours after a sort
 pub code_up : (a b : Code) → is_lt (code_cmp b a) ≡ false → code_rank a ≤ code_rank b
 code_up a b sorted = elim (code_cmp b a) as (λ r. CodesSay b a r → is_lt r ≡ false → code_rank a ≤ code_rank b) [
   | Less ↦ λ h e. absurd (true≢false e)
@@ -83,7 +83,7 @@ order_at o p First Second i j = refl
 order_at o p Second First i j = refl
 order_at o p Second Second i j = refl
 
--- what a comparison of units says
+-- the comparison of units as facts
 abbrev Says : Serial → Serial → Ordering → Type 0
 Says a b r = MatchOrdering r (IsBelow a b) (IsUpTo b a × IsUpTo a b) (IsBelow b a)
 
@@ -122,7 +122,7 @@ less_from_below a b before = elim (unit_cmp a b) as (λ r. Says a b r → r ≡ 
   | Greater ↦ λ h. let i = before.number h.line in let j = h.number before.line in absurd (omega arith)
 ] (says a b)
 
--- what a sort leaves between two neighbours
+-- two neighbours after a sort
 pub up_to_from_sorted : (a b : Serial) → is_lt (unit_cmp b a) ≡ false → IsUpTo a b
 up_to_from_sorted a b sorted = elim (unit_cmp b a) as (λ r. Says b a r → is_lt r ≡ false → IsUpTo a b) [
   | Less ↦ λ h e. absurd (true≢false e)

@@ -1,4 +1,4 @@
--- What tests of blocks that meet follow; no public contract cites it.
+-- Tests whether blocks and intervals meet; no public contract cites them.
 use Rattle.std.specs.Prelude.{Bool, ◌&&◌, nat_le}
 use Rattle.units.specs.Code.{same_code}
 use Rattle.units.specs.Unit.{same_period}

@@ -13,7 +13,7 @@ is_next a b = same_code a.origin b.origin && (same_period a.period b.period && (
 abbrev pub joined : {M : Type 0} → Interval M → Interval M → Interval M
 joined a b = record { origin = a.origin; period = a.period; first = a.first; last = b.last; label = a.label }
 
--- the next one comes after the intervals, or becomes a part of their last one where it goes on there
+-- the next one is added after the intervals, or joined with the last one where it goes on there
 abbrev pub IsOnto : {M : Type 0} → List (Interval M) → Interval M → List (Interval M) → Type 0
 IsOnto {M} is next js =
     ((front : List (Interval M)) × (a : Interval M) × (is ≡ front ++ a ∷ []) × GoesOn a next × (js ≡ front ++ joined a next ∷ []))

@@ -35,12 +35,12 @@ numbered i n = record { origin = i.origin; period = i.period; number = n }
 abbrev pub Labels : Type 0 → Type 0
 Labels M = FinMap unit_cmp M
 
--- the map with the interval's label at that many units of it, from its first on
+-- the map with the interval's label at the given number of its units, from its first on
 unfoldable pub put_units : {M : Type 0} → Interval M → ℕ → Labels M → Labels M
 put_units i zero m = m
 put_units i (suc n) m = insert (put_units i n m) (numbered i (i.first + n)) i.label
 
--- how many units the interval has
+-- the number of units of the interval
 abbrev pub size : {M : Type 0} → Interval M → ℕ
 size i = i.last + 1 - i.first
 

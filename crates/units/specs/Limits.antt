@@ -17,35 +17,35 @@ last_account = 999_999_999
 abbrev pub last_transaction : ℕ
 last_transaction = 999_999
 
--- how many blocks a proposal may have
+-- the greatest number of blocks of a proposal
 abbrev pub most_blocks : ℕ
 most_blocks = 16
 
--- how many records the journal of a node may have
+-- the greatest number of records of a node's journal
 abbrev pub most_records : ℕ
 most_records = 1_000_000
 
--- how old, in seconds, a transaction has to be before the log may clean it up
+-- the age, in seconds, from which the log may clean a transaction up
 abbrev pub clean_up_age : ℕ
 clean_up_age = 86_400
 
--- how many bytes the line of a message or of a reply may have, without its newline
+-- the greatest number of bytes of the line of a message or of a reply, without its newline
 abbrev pub longest_line : ℕ
 longest_line = 8_192
 
--- how few registries a scheme may have
+-- the least number of registries of a scheme
 abbrev pub least_registries : ℕ
 least_registries = 2
 
--- how many registries a scheme may have
+-- the greatest number of registries of a scheme
 abbrev pub most_registries : ℕ
 most_registries = 32
 
--- how many accounts a registry of a scheme may have
+-- the greatest number of accounts of a registry of a scheme
 abbrev pub most_accounts : ℕ
 most_accounts = 1_000
 
--- how many blocks a scheme may allot
+-- the greatest number of blocks that a scheme may allot
 abbrev pub most_allotted : ℕ
 most_allotted = 10_000
 
@@ -53,7 +53,7 @@ most_allotted = 10_000
 abbrev pub last_moment : ℕ
 last_moment = 253_370_764_799
 
--- how many decimal digits a number may have in a message, a record or an order
+-- the greatest number of decimal digits of a number in a message, a record or an order
 abbrev pub most_digits : ℕ
 most_digits = 18
 

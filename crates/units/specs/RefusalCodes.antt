@@ -1,5 +1,4 @@
--- The codes by which an input is refused, and those of what a check found: the twins of the constants in
--- src/refusal_code.rt.
+-- The codes of refusals, and those of the findings of checks: the twins of the constants in src/refusal_code.rt.
 use Rattle.std.specs.Prelude.{ℕ}
 
 -- the line is no message of the grammar
@@ -14,7 +13,7 @@ other_addressee = 42
 abbrev pub sender_not_allowed : ℕ
 sender_not_allowed = 43
 
--- it isn't for that party to say
+-- the message isn't for that party to send
 abbrev pub wrong_party : ℕ
 wrong_party = 44
 
@@ -22,7 +21,7 @@ wrong_party = 44
 abbrev pub other_content : ℕ
 other_content = 45
 
--- the tables have no row for it
+-- the tables have no row for the input
 abbrev pub no_row : ℕ
 no_row = 46
 

@@ -1,4 +1,4 @@
--- What the code that sets and changes labels follows, step by step; no public contract cites it.
+-- The steps of the code that sets and changes labels; no public contract cites them.
 use Rattle.std.specs.Prelude.{◌≡◌, ◌⊎◌, List, [], ◌∷◌, true, false, Option, Some, None, IsSome, find, if◌then◌else◌}
 use Rattle.std.specs.Option.{option_and_then, option_map_or}
 use Rattle.std.specs.List.{AllByRecursion}
@@ -14,7 +14,7 @@ use Rattle.units.specs.declared.unit_map.cutting.Step.{Step}
 use Rattle.units.specs.declared.unit_map.setting.Prepared.{Prepared}
 use Rattle.units.specs.declared.unit_map.cutting.Step.TheVariants.{Nothing, Put, Cut}
 
--- how the spans before the step are had from those after it
+-- how the spans before the step are restored from those after it
 abbrev pub Restores : {M : Type 0} → Step M → (Serial → Option (Span M)) → (Serial → Option (Span M)) → Type 0
 Restores Nothing old new = (q : Serial) → old q ≡ new q
 Restores (Put v) old new = (q : Serial) → old q ≡ (if is_at (unit_cmp v) q then None else new q)
@@ -53,8 +53,8 @@ abbrev pub ArePrepared : {M : Type 0} → List (Prepared M) → (Serial → Opti
 ArePrepared [] old new = old ≡ new
 ArePrepared (p ∷ ps) old new = (before : _) × (ArePrepared ps old before × Prepares p before new)
 
--- one span for each block that was given a label, in the place of those of its units; spans may go on where others end
--- only at the blocks
+-- each block that was given a label has one span, in the place of those of its units; new places where a span goes on
+-- where another ends are only at the blocks
 pub record AreSetIn {M : Type 0} (blocks : List Block) (old new : Serial → Option (Span M)) : Type 0 where
   pub parted : AreParted new
   pub cuts : (q : Serial) → AllByRecursion (λ b. has_unit b.raw q ≡ true → q ≡ first_unit b.raw) blocks → IsCutAt old q → IsCutAt new q
@@ -65,16 +65,16 @@ pub record AreSetIn {M : Type 0} (blocks : List Block) (old new : Serial → Opt
 abbrev pub set_to : {M : Type 0} → (Block → Option M) → List Block → (Serial → Option M) → Serial → Option M
 set_to given blocks labels u = option_map_or given (find (λ b. has_unit b.raw u) blocks) (labels u)
 
--- spans that go on are one in the blocks and at their ends; the labels stay, and spans go on where others end only
--- beyond
+-- no span goes on where another ends in the blocks or at their ends; the labels stay, and elsewhere a span goes on
+-- where another ends only as before
 pub record AreJoinedIn {M : Type 0} (blocks : List Block) (old new : BTreeMap Serial (Span M)) : Type 0 where
   pub parted : AreParted (get unit_cmp new)
   pub ordered : IsOrdered unit_cmp new
   pub means : (f : Serial → Option M) → Mean (get unit_cmp old) f → Mean (get unit_cmp new) f
   pub seams : (q : Serial) → IsSeam (get unit_cmp new) q → IsSeam (get unit_cmp old) q × (reached blocks q ≡ false)
 
--- spans that begin in the blocks have labels that the relation gives, where a label that it gave it gives again, or are
--- out
+-- each span that begins in the blocks has its label changed by the relation, or is taken out; the relation must leave
+-- the labels that it gives unchanged
 pub record AreChangedIn {M : Type 0} (R : M → Option M → Type 0) (blocks : List Block) (old new : BTreeMap Serial (Span M)) : Type 0 where
   pub parted : AreParted (get unit_cmp new)
   pub ordered : IsOrdered unit_cmp new

@@ -1,4 +1,5 @@
--- Spans, which an ordered map has at the first units of intervals, and the intervals that both make.
+-- Spans, which are the values of an ordered map at the first units of intervals, and the interval that a first unit and
+-- its span make.
 use Rattle.std.specs.Prelude.{◌≡◌, ◌+◌, List, map, Bool, true, not, ◌&&◌, Option, Some, None, if◌then◌else◌}
 use Rattle.std.specs.Option.{option_map, option_or}
 use Rattle.std.specs.List.{list_any}
@@ -81,16 +82,16 @@ reaches b u = is_between (first_unit b) (end_unit b) u
 abbrev pub reached : List Block → Serial → Bool
 reached blocks u = list_any (λ b. reaches b.raw u) blocks
 
--- the span with that label, or none
+-- the span with that label, or none where there is no label
 abbrev pub relabelled : {M : Type 0} → Span M → Option M → Option (Span M)
 relabelled s label = option_map (λ m. record { last = s.last; label = m }) label
 
--- the span with the label that becomes of its own, or none
+-- the span with its label changed by the function, or none
 abbrev pub respanned : {M : Type 0} → (M → Option M) → Option (Span M) → Option (Span M)
 respanned after None = None
 respanned after (Some s) = relabelled s (after s.label)
 
--- what becomes of a span whose label is changed by the relation, if there is one
+-- the span, if there is one, has its label changed by the relation
 abbrev pub IsChanged : {M : Type 0} → (M → Option M → Type 0) → Option (Span M) → Option (Span M) → Type 0
 IsChanged R None new = new ≡ None
 IsChanged {M} R (Some s) new = (r : Option M) × R s.label r × (new ≡ relabelled s r)
@@ -103,6 +104,6 @@ AreReshaped {M} old new = (q : Serial) (t : Span M) → new q ≡ Some t → (s 
 abbrev pub filled : {M : Type 0} → RawBlock → Option M → (Serial → Option (Span M)) → Serial → Option (Span M)
 filled b given held q = if has_unit b q then (if is_at (unit_cmp (first_unit b)) q then option_map (λ m. record { last = b.last; label = m }) given else None) else held q
 
--- the labels with the unit labelled so, if it had no label and is to have one
+-- the labels with that label at the unit, where the unit had none and is to have one
 abbrev pub begun : {M : Type 0} → Serial → Option M → (Serial → Option M) → Serial → Option M
 begun v given labels u = if is_at (unit_cmp v) u then option_or (labels u) given else labels u

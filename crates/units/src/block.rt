@@ -47,17 +47,17 @@ pub struct Unit {
     /// The registry that issued it.
     pub origin: Code,
     pub period: Period,
-    /// Any number; one of a `Block` is 1 to `LAST_UNIT`.
+    /// Any number; in a `Block` it is 1 to `LAST_UNIT`.
     pub number: u64,
 }
 
-/// A block as it was written, its numbers not yet looked at.
+/// A block as it was written; its numbers are not checked yet.
 #[derive(Clone, Copy, Debug, PartialEq, Eq)]
 pub struct RawBlock {
     pub origin: Code,
     pub period: Period,
     pub kind: Kind,
-    /// Any number, also one above `last`.
+    /// Any number, even one above `last`.
     pub first: u64,
     /// Any number.
     pub last: u64,
@@ -175,7 +175,7 @@ impl RawBlock {
     ghost use Rattle.units.specs.Block.{IsRawText};
     ghost use Rattle.units.specs.declared.block.RawBlock.{RawBlock};
 
-    /// The block that a text writes, as `NZ:1:1-100:AAU`, whatever its numbers.
+    /// The block that a text writes, such as `NZ:1:1-100:AAU`. Its numbers need not be in range.
     pub fn read(text: &str) -> Option<RawBlock>
         ensures some { IfSome result (λ r. IsRawText text.now r) }
         ensures none { IfNone result ((r : RawBlock) → IsRawText text.now r → ⊥) }
@@ -232,7 +232,7 @@ impl Block {
     ghost use Rattle.units.specs.Unit.{has_unit};
     ghost use Rattle.units.specs.declared.block.RawBlock.{RawBlock};
 
-    /// The block of these numbers, or `Range`.
+    /// The block with these numbers. Fails with `Range` where they are out of range.
     pub fn new(
         origin: Code,
         period: Period,
@@ -259,8 +259,8 @@ impl Block {
         }
     }
 
-    /// The block that a text writes. `Shape`: it writes none, not even of other numbers. `Range`:
-    /// it writes one whose numbers are out of range.
+    /// The block that a text writes. Fails with `Range` where the text writes a block whose numbers are out of range,
+    /// and with `Shape` where it writes no block at all.
     pub fn read(text: &str) -> Result<Block, BlockFault>
         ensures ok { IfOk result (λ b. IsRawText text.now b.raw) }
         ensures shape { result ≡ Err BlockFault.Shape → (r : RawBlock) → IsRawText text.now r → ⊥ }

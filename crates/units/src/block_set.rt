@@ -53,8 +53,8 @@ impl BlockSet {
         }
     }
 
-    /// Adds the block's units. Fails with `BLOCKS_OVERLAP` where one of them is there, of whatever kind, and with
-    /// `OUT_OF_MEMORY` only where none is. After a refusal nothing has changed.
+    /// Adds the block's units. Fails with `BLOCKS_OVERLAP` where one of them is there already, of any kind, and with
+    /// `OUT_OF_MEMORY` only where none is there. After a refusal nothing has changed.
     pub fn add(&mut self, block: Block) -> Result<(), Refusal>
         ensures ok { OnOk result ((u : Serial)
             → map.get self.new u ≡ (if has_unit block.raw u then Some block.raw.kind else map.get self.old u)) }
@@ -73,9 +73,9 @@ impl BlockSet {
         Ok(())
     }
 
-    /// Takes the block's units out. Fails with `UNIT_NOT_HELD` where one of them isn't there or is of another kind, and
-    /// with `OUT_OF_MEMORY`, since what is left may be more blocks, only where all are there. After a refusal nothing
-    /// has changed.
+    /// Takes the block's units out. Fails with `UNIT_NOT_HELD` where one of them isn't there or is of another kind.
+    /// Fails with `OUT_OF_MEMORY` only where all are there: the remaining units may need more blocks. After a refusal
+    /// nothing has changed.
     pub fn take(&mut self, block: Block) -> Result<(), Refusal>
         ensures ok { OnOk result ((u : Serial)
             → map.get self.new u ≡ (if has_unit block.raw u then None else map.get self.old u)) }
@@ -96,8 +96,8 @@ impl BlockSet {
     }
 
     /// Adds the units of all the blocks, or of none. Fails with `BLOCKS_OVERLAP` where two of the blocks share a unit
-    /// or one of their units is there, of whatever kind, and with `OUT_OF_MEMORY` only where neither is so. After a
-    /// refusal nothing has changed.
+    /// or one of their units is there already, of any kind, and with `OUT_OF_MEMORY` only where neither is the case.
+    /// After a refusal nothing has changed.
     pub fn add_all(&mut self, blocks: &[Block]) -> Result<(), Refusal>
         ensures ok { OnOk result ((u : Serial)
             → map.get self.new u
@@ -143,8 +143,8 @@ impl BlockSet {
     }
 
     /// Takes the units of all the blocks out, or of none. Fails with `BLOCKS_OVERLAP` where two of the blocks share a
-    /// unit, else with `UNIT_NOT_HELD` where a unit isn't there or is of another kind than its block, and with
-    /// `OUT_OF_MEMORY` only where neither is so. After a refusal nothing has changed.
+    /// unit, otherwise with `UNIT_NOT_HELD` where a unit isn't there or is of another kind than its block, and with
+    /// `OUT_OF_MEMORY` only where neither is the case. After a refusal nothing has changed.
     pub fn take_all(&mut self, blocks: &[Block]) -> Result<(), Refusal>
         ensures ok { OnOk result ((u : Serial)
             → map.get self.new u ≡ (if covers blocks.now u then None else map.get self.old u)) }
@@ -172,7 +172,7 @@ impl BlockSet {
         Ok(())
     }
 
-    /// Whether each unit of the blocks is there, of whatever kind. Takes no memory.
+    /// Whether each unit of the blocks is there, of any kind. Takes no memory.
     pub fn contains_all(&self, blocks: &[Block]) -> bool
         ensures all { OnTrue result ((u : Serial) → IsTrue (covers blocks.now u) → IsSome (map.get self.now u)) }
         ensures some { OnFalse result ((u : Serial) × IsTrue (covers blocks.now u) × (map.get self.now u ≡ None)) }
@@ -185,7 +185,7 @@ impl BlockSet {
         true
     }
 
-    /// Whether no unit of the blocks is there, of whatever kind. Takes no memory.
+    /// Whether no unit of the blocks is there, of any kind. Takes no memory.
     pub fn disjoint(&self, blocks: &[Block]) -> bool
         ensures none { OnTrue result ((u : Serial) → IsTrue (covers blocks.now u) → map.get self.now u ≡ None) }
         ensures some { OnFalse result ((u : Serial) × IsTrue (covers blocks.now u) × IsSome (map.get self.now u)) }
@@ -198,8 +198,8 @@ impl BlockSet {
         true
     }
 
-    /// The units with their kinds as intervals, by their first units: none shares a unit with another, and neighbours
-    /// of one kind are one. Takes no memory.
+    /// The units with their kinds as intervals, keyed by their first units. No two intervals share a unit, and
+    /// neighbours of one kind are joined. Takes no memory.
     pub fn pieces(&self) -> &BTreeMap<Unit, Span<Kind>>
         ensures kept { AreKept (intervals_of result.now.entries) }
         ensures joined { AreCanonical (λ _. 0) (intervals_of result.now.entries) }
@@ -215,8 +215,8 @@ impl BlockSet {
         self.kinds.count_where(|_| true)
     }
 
-    /// The units as blocks in order, by origin, period and first number, neighbours of one kind
-    /// joined. Or `NoMemory`.
+    /// The units as blocks in order, by origin, period and first number, with neighbours of one kind joined. Fails with
+    /// `NoMemory` where memory runs out.
     pub fn canonical(&self, alloc: Global) -> Result<Vec<Block>, NoMemory>
         ensures ordered { IfOk result (λ v. AreCanonical (λ _. 0) (list_map interval_of v.items)) }
         ensures form { IfOk result

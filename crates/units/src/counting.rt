@@ -8,7 +8,7 @@ use crate::block::Unit;
 use crate::unit_map::Span;
 use std::collections::BTreeMap;
 
-/// How many units the intervals have whose label passes the test. Takes no memory.
+/// The number of units of the intervals whose label passes the test. Takes no memory.
 pub(crate) fn count_where<M: Copy, F: Fn(M) -> bool>(
     spans: &BTreeMap<Unit, Span<M>>,
     test: F,

@@ -65,17 +65,17 @@ impl<M> Interval<M> {
     }
 }
 
-/// What units can be labelled with.
+/// A label of units.
 pub trait Label: Copy {
-    /// What intervals are listed by before their units are looked at; one number for all labels
-    /// where there is no such order.
+    /// The first key by which intervals are ordered, before their units. It is the same for all labels where labels
+    /// have no order.
     ghost group: { Self → ℕ };
 
     /// The group of the label.
     fn group(&self) -> u64
         ensures { result ≡ group self.now };
 
-    /// Whether the two are one label, so that neighbours that have them are joined.
+    /// Whether the two are the same label. Neighbours with the same label are joined.
     fn is_same(&self, other: &Self) -> bool
         ensures { IsTrue result ↔ (self.now ≡ other.now) };
 }
@@ -92,7 +92,8 @@ impl Label for Kind {
     }
 }
 
-/// The blocks of the intervals, in their order: each of the kind that its interval has as its label. Or `NoMemory`.
+/// The blocks of the intervals, in their order. Each block's kind is the label of its interval. Fails with `NoMemory`
+/// where memory runs out.
 pub fn blocks_of(alloc: Global, intervals: &[Interval<Kind>]) -> Result<Vec<Block>, NoMemory>
     requires { AreKept intervals.now }
     ensures { IfOk result (λ v. map interval_of v.items ≡ intervals.now) }

@@ -1,5 +1,5 @@
-//! Registry codes, nodes, units and blocks of units, their texts, and what every crate above shares:
-//! refusals, out of memory and lists.
+//! Registry codes, nodes, units and blocks of units, their texts, and the parts that all other crates share: refusals,
+//! out of memory and lists.
 #![tactic(auto)]
 
 mod block;

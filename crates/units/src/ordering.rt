@@ -23,7 +23,7 @@ fn first_unit<M>(interval: &Interval<M>) -> Unit
     }
 }
 
-/// Whether the next one begins where an interval ends.
+/// Whether `next` begins where `interval` ends.
 fn is_next<M>(interval: &Interval<M>, next: &Interval<M>) -> bool
     ensures { result ≡ is_next interval.now next.now }
 {
@@ -33,14 +33,14 @@ fn is_next<M>(interval: &Interval<M>, next: &Interval<M>) -> bool
         && next.first - interval.last == 1
 }
 
-/// Whether it begins there with the same label.
+/// Whether `next` begins where `interval` ends, with the same label.
 pub(crate) fn goes_on<M: Label>(interval: &Interval<M>, next: &Interval<M>) -> bool
     ensures { IsTrue result ↔ GoesOn interval.now next.now }
 {
     is_next(interval, next) && interval.label.is_same(&next.label)
 }
 
-/// Adds an interval after the others, or lengthens their last one where it goes on there.
+/// Adds an interval after the others, or lengthens the last one where the interval continues it.
 fn push_joined<M: Label>(
     intervals: &mut Vec<Interval<M>>,
     next: Interval<M>,
@@ -54,8 +54,8 @@ fn push_joined<M: Label>(
     Ok(())
 }
 
-/// The intervals in order, by the groups of their labels and then by their units, with neighbours
-/// joined that go on with the same label.
+/// The intervals in order, by the groups of their labels and then by their units. Neighbours with the same label are
+/// joined.
 pub(crate) fn in_order<M: Label>(
     alloc: Global,
     intervals: &[Interval<M>],
@@ -74,8 +74,8 @@ pub(crate) fn in_order<M: Label>(
     Ok(joined)
 }
 
-/// Units are in order by the two letters of their origin, then by their period, then by their number: a law, with no
-/// code.
+/// A law without code: units are ordered by the two letters of their origin, then by their period, then by their
+/// number.
 pub fn order_of_units()
     ensures { (a b : Serial) → unit_cmp a b ≡ ordering_then (ordering_then (nat_cmp a.origin.first b.origin.first)
         (nat_cmp a.origin.second b.origin.second))

@@ -24,8 +24,7 @@ fn meets_any(block: &Block, others: &[Block]) -> bool
     others.iter().any(|other| meet(block, other))
 }
 
-/// Whether a unit is in two of the blocks, whatever their kinds. It compares each two of them, and
-/// takes no memory.
+/// Whether a unit is in two of the blocks, regardless of their kinds. Compares every pair of blocks. Takes no memory.
 pub fn overlaps(blocks: &[Block]) -> bool
     ensures none { OnFalse result (AllApart blocks.now) }
     ensures some { OnTrue result (AllApart blocks.now → ⊥) }

@@ -1,5 +1,4 @@
-//! The codes by which an input is refused, and those of what a check found.
-//! `specs/RefusalCodes.antt` has their twins for contracts.
+//! The codes of refusals, and those of the findings of checks. `specs/RefusalCodes.antt` has their twins for contracts.
 
 /// The line is no message of the grammar.
 pub const NOT_A_MESSAGE: u16 = 41;
@@ -10,15 +9,15 @@ pub const OTHER_ADDRESSEE: u16 = 42;
 /// The sender is no node that may send to this one.
 pub const SENDER_NOT_ALLOWED: u16 = 43;
 
-/// It isn't for that party to say: a proposal whose identifier has another code than its sender's,
-/// Accepted or Rejected from another registry than the acquirer, Completed from another than the
-/// initiator; at a registry a proposal for another acquirer, of its own code, or with a unit twice.
+/// The message isn't for that party to send: a proposal whose identifier has another code than its sender's, Accepted
+/// or Rejected from another registry than the acquirer, Completed from another than the initiator; at a registry a
+/// proposal for another acquirer, of its own code, or with a unit twice.
 pub const WRONG_PARTY: u16 = 44;
 
 /// The identifier is known with another content.
 pub const OTHER_CONTENT: u16 = 45;
 
-/// The tables have no row for it.
+/// The tables have no row for the input.
 pub const NO_ROW: u16 = 46;
 
 /// A notification of a transaction that isn't known.

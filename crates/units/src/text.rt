@@ -4,7 +4,7 @@ ghost use Rattle.units.specs.Text.{IsNumberText, IsFreeOf};
 
 use crate::limits::MOST_DIGITS;
 
-/// What is before the first such ASCII character, and what is after it.
+/// The text before the first such ASCII character, and the text after it.
 pub fn cut(text: &str, at: char) -> Option<(&str, &str)>
     requires { at < 128 }
     ensures some { IfSome result (λ p. (text.now ≡ p.0.now ++ at ∷ p.1.now) × IsFreeOf at p.0.now) }

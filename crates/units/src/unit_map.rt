@@ -34,7 +34,7 @@ use std::collections::BTreeMap;
 use std::marker::Model;
 use walking::change_in;
 
-/// The last number and the label of units in a row, of which an ordered map has the first one as its key.
+/// The last number and the label of units in a row. The first of these units is the key in an ordered map.
 #[derive(Clone, Copy, Debug, PartialEq, Eq)]
 pub struct Span<M> {
     /// The number of the last unit, at most `LAST_UNIT`.
@@ -42,8 +42,8 @@ pub struct Span<M> {
     pub label: M,
 }
 
-/// Which units there are, and the label of each, kept as intervals in order that share no unit, with no two that could
-/// be one.
+/// Which units there are, and the label of each. They are kept as intervals in order that share no unit, with
+/// neighbours of one label joined.
 #[derive(Debug)]
 pub struct UnitMap<M> {
     alloc: Global,
@@ -100,8 +100,8 @@ impl<M> UnitMap<M> {
         }
     }
 
-    /// The intervals, by their first units: none shares a unit with another, and neighbours with equal labels are one.
-    /// Takes no memory.
+    /// The intervals, keyed by their first units. No two intervals share a unit, and neighbours with equal labels are
+    /// joined. Takes no memory.
     pub fn pieces(&self) -> &BTreeMap<Unit, Span<M>>
         ensures kept { AreKept (intervals_of result.now.entries) }
         ensures joined { AreCanonical (λ _. 0) (intervals_of result.now.entries) }
@@ -165,7 +165,7 @@ impl<M: Copy> UnitMap<M> {
         some_passes(&self.spans, block, test)
     }
 
-    /// How many units are there whose label passes the test. Takes no memory.
+    /// The number of units whose label passes the test. Takes no memory.
     pub fn count_where<F: Fn(M) -> bool>(&self, test: F) -> u64
         requires { F.IsAlwaysCallable test }
         ensures { (passes : M → Bool) → ((m : M) (r : Bool) → F.post test m r → r ≡ passes m)
@@ -174,7 +174,7 @@ impl<M: Copy> UnitMap<M> {
         count_where(&self.spans, test)
     }
 
-    /// Takes out the units whose labels pass the test. Only units of the blocks have such labels. Takes no memory.
+    /// Takes out the units whose labels pass the test. Only units of the blocks may have such labels. Takes no memory.
     pub fn remove_in<F: Fn(M) -> bool>(&mut self, blocks: &[Block], test: F)
         requires callable { F.IsAlwaysCallable test }
         requires only { (u : Serial) (m : M) → map.get self.old u ≡ Some m → F.post test m false
@@ -191,8 +191,8 @@ impl<M: Copy> UnitMap<M> {
 }
 
 impl<M: Label> UnitMap<M> {
-    /// Gives the block's units that label, whether they are there or not, or takes them out. After
-    /// `NoMemory` nothing has changed.
+    /// Gives the block's units the label, whether they are there or not, or takes them out where `label` is `None`.
+    /// After `NoMemory` nothing has changed.
     pub fn set(&mut self, block: &Block, label: Option<M>) -> Result<(), NoMemory>
         ensures ok { OnOk result ((u : Serial)
             → map.get self.new u ≡ (if has_unit block.now.raw u then label else map.get self.old u)) }
@@ -201,8 +201,8 @@ impl<M: Label> UnitMap<M> {
         self.set_all(&[*block], |_| label)
     }
 
-    /// Gives the units of each block the label that the function gives the block, whether they are there or not, or
-    /// takes them out. After `NoMemory` nothing has changed.
+    /// Gives the units of each block the label that the function returns for the block, whether they are there or not,
+    /// or takes them out where it returns `None`. After `NoMemory` nothing has changed.
     pub fn set_all<F: Fn(Block) -> Option<M>>(
         &mut self,
         blocks: &[Block],
@@ -221,8 +221,8 @@ impl<M: Label> UnitMap<M> {
         Ok(())
     }
 
-    /// Changes each label to what the function gives. Only units of the blocks have labels that it changes. Takes no
-    /// memory.
+    /// Changes each label to the one that the function returns. Only units of the blocks may have labels that it
+    /// changes. Takes no memory.
     pub fn relabel_in<F: Fn(M) -> M>(&mut self, blocks: &[Block], change: F)
         requires callable { F.IsAlwaysCallable change }
         requires only { (u : Serial) (m r : M) → map.get self.old u ≡ Some m → F.post change m r → (r ≡ m)
@@ -237,8 +237,8 @@ impl<M: Label> UnitMap<M> {
         join_along(&mut self.spans, blocks);
     }
 
-    /// The units as intervals in order: by the groups of their labels and then by origin, period and
-    /// number, neighbours with one label joined. Or `NoMemory`.
+    /// The units as intervals in order, by the groups of their labels and then by origin, period and number, with
+    /// neighbours of one label joined. Fails with `NoMemory` where memory runs out.
     pub fn in_order(&self) -> Result<Vec<Interval<M>>, NoMemory>
         ensures ordered { IfOk result (λ v. AreCanonical M.group v.items) }
         ensures kept { IfOk result (λ v. AreKept v.items) }

@@ -1,4 +1,4 @@
--- What following comes to, once no node is pending: the journals are gone through, or no events lead to them.
+-- The result of following, once no node is pending: the journals are gone through, or no events lead to them.
 use Rattle.std.proofs.Common.{◌≡◌, ℕ, ◌<◌, ◌≤◌, List, [], ◌∷◌, ◌++◌, true, Some, None, Ok, inl, inr, refl, sym, ap, subst, ◌∙◌, length, map, take, arith, length-append, append-nil, append_assoc}
 use Rattle.std.specs.Prelude.{slice_get, slice_index_or, ◌⊎◌}
 use Rattle.std.proofs.lemmas.Bool.{cases_Bool}
@@ -106,7 +106,7 @@ module _ (scheme : Scheme) (journals : Node → List Input) (w : World) (events 
 -- ---- journals that go on beyond what cores record
 
 module _ (scheme : Scheme) (w : World) (n : Node) (quiet : IsQuiet w) (scheme_is : w.scheme ≡ scheme) (node : is_node scheme n ≡ true) where
-  -- what the node records, its verdict says so
+  -- where the node records the input, its verdict on it is to record it
   answer_of_step : (e : WorldEvent) (input : Input) (place : ℕ) → Gives w e n input → (step w e).outcome ≡ Recorded place → answer scheme n (committed_at w n) input ≡ Ok (stepped.Recorded (length (committed_at w n)))
   answer_of_step e input place gives recorded =
       let idle = quiet.idle n (ap (λ (z : Scheme). is_node z n) scheme_is ∙ node) in

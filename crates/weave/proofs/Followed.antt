@@ -1,4 +1,4 @@
--- What is kept while journals are followed, after one record more and after one message more.
+-- The invariants while journals are followed, after one record more and after one message more.
 use Rattle.std.proofs.Common.{◌≡◌, ℕ, ◌+◌, ◌-◌, ◌<◌, ◌≤◌, List, [], ◌∷◌, ◌++◌, Bool, true, false, cond, Some, inl, inr, refl, sym, ap, subst, ◌∙◌, length, arith, length-append}
 use Rattle.std.specs.Prelude.{Contains, if◌then◌else◌, ◌⊎◌}
 use Rattle.std.proofs.lemmas.Bool.{cases_Bool, cond-true}

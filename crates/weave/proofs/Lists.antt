@@ -50,7 +50,7 @@ contains_left xs ys x h = contains_in (xs ++ ys) x (In_left x xs ys (In_contains
 pub contains_last : {X : Type 0} (xs : List X) (x : X) → Contains (xs ++ x ∷ []) x
 contains_last xs x = contains_in (xs ++ x ∷ []) x (In_right x xs (x ∷ []) (inl refl))
 
--- what a list of images has at an index
+-- the element of a list of images at an index
 pub map_get : {X Y : Type 0} (f : X → Y) (xs : List X) (at : ℕ) (r : X) (d : Y) → at < length xs → r ≡ get_or xs at r → get_or (map f xs) at d ≡ f r
 map_get f [] at r d below is = absurd (omega arith)
 map_get f (x ∷ xs) zero r d below is = ap f (sym is)
@@ -61,7 +61,7 @@ image_at f [] k d below = absurd (omega arith)
 image_at f (y ∷ xs) zero d below = refl
 image_at f (y ∷ xs) (suc k) d below = image_at f xs k d (omega arith)
 
--- what stands at an index that the list has, whatever would stand for it
+-- the element at an index within the list, for any default
 pub in_range : {X : Type 0} (xs : List X) (at : ℕ) (r d : X) → at < length xs → r ≡ get_or xs at r → get_or xs at d ≡ r
 in_range [] at r d below is = absurd (omega arith)
 in_range (x ∷ xs) zero r d below is = sym is
@@ -75,7 +75,7 @@ if_none (Some x) f h = h
 pub now_at : {X : Type 0} (xs : List (Bor X)) (at : ℕ) (r : Bor X) (d : X) → at < length xs → r ≡ get_or xs at r → get_or (map (λ (j : Bor X). j.now) xs) at d ≡ (get_or xs at r).now
 now_at {X = X} xs at r d below is = map_get (λ (j : Bor X). j.now) xs at r d below is ∙ ap (λ (j : Bor X). j.now) is
 
--- what a lent value says of the option that it came from
+-- a lent value as the one of the option that it came from
 pub none_lent : {X : Type 0} (r : Option (Bor X)) (o : Option X) → option_copied r ≡ o → r ≡ None → o ≡ None
 none_lent {X = X} r o e is = sym e ∙ ap (λ (z : Option (Bor X)). option_copied z) is
 

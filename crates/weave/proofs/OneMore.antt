@@ -44,7 +44,7 @@ pub record Advances (w v : World) (n : Node) (input : Input) : Type 0 where
   pub settled : at.tail ≡ []
   pub elsewhere : (m : Node) → same_node n m ≡ false → station v m ≡ station w m
 
--- ---- what the events leave
+-- ---- the world after the events
 
 at_node_bag : (w : World) (o : Option Station) (f : Station → Turn) → (at_node w o f).world.bag ≡ w.bag
 at_node_bag w None f = refl
@@ -111,7 +111,7 @@ advances w e n input place all quiet gives recorded = record {
     g : Grown w (e ∷ Commit n 1 ∷ []) n input
     g = record_on w n idle.at input says.0 e idle.is (idle.runs, idle.settled) says.1 (ap (λ (z : Stepped). z.world) first)
 
--- ---- what follows of it
+-- ---- consequences
 
 module _ (w v : World) (n : Node) (input : Input) (a : Advances w v n input) where
   pub committed_here : committed_at v n ≡ committed_at w n ++ input ∷ []

@@ -1,4 +1,4 @@
--- A node's messages are posted one after another: what one more leaves of the world, and when none is left.
+-- A node's messages are posted one after another: the world after one more, and when none is left.
 use Rattle.std.proofs.Common.{◌≡◌, ◌≢◌, ℕ, ◌+◌, ◌<◌, List, [], ◌∷◌, ◌++◌, Bool, true, false, cond, Option, Some, None, inl, inr, refl, sym, ap, subst, ◌∙◌, arith}
 use Rattle.std.specs.Prelude.{slice_get, Contains, option_and_then, ◌⊎◌, ◌||◌, ◌&&◌, ◌==◌}
 use Rattle.std.specs.List.{list_any}
@@ -101,7 +101,7 @@ all_posted w n key node all none = record {
     below : (k : ℕ) (x : Message) → slice_get (sends (committed_of w n)) k ≡ Some x → k < key
     below k x is = omega (arith, slice_get_within (sends (committed_of w n)) k x is, past_end (sends (committed_of w n)) key end)
 
--- ---- who goes on waiting
+-- ---- the nodes that go on waiting
 
 or_false : (b : Bool) → (b || false) ≡ b
 or_false true = refl

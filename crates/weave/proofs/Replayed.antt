@@ -28,7 +28,7 @@ ahead_first scheme n journal recorded k front first at = record {
   ends = inr (subst (IsFirstNotRecorded scheme n journal) at first);
 }
 
--- what resuming an empty core leaves, where it stops
+-- the core that resuming an empty one leaves, where it stops
 pub resumed_first : (scheme s : Scheme) (n m : Node) (old journal recorded : List Input) (fault : ReplayFault) (k : ℕ) → s ≡ scheme → m ≡ n → old ≡ [] → fault ≡ NotRecorded k → recorded ≡ old ++ take (length recorded - length old) journal
     → HasFault s m (old ++ journal) fault → IsAt (length recorded) fault → IsAhead scheme n journal recorded
 resumed_first scheme s n m old journal recorded fault k is_scheme is_node none stops prefix has at =
@@ -42,7 +42,7 @@ resumed_first scheme s n m old journal recorded fault k is_scheme is_node none s
 
 -- ---- one after another
 
--- so far, by their indices
+-- the journals so far, by their indices
 abbrev pub AreAheadSoFar : Scheme → (journals recorded : List (List Input)) → Type 0
 AreAheadSoFar scheme journals recorded =
     (k : ℕ) (n : Node) (long short : List Input) → slice_get (nodes scheme) k ≡ Some n → slice_get journals k ≡ Some long → slice_get recorded k ≡ Some short → IsAhead scheme n long short
@@ -75,7 +75,7 @@ ahead_all scheme js count = record {
   recorded_count = count;
 }
 
--- ---- how long journals are
+-- ---- the lengths of journals
 
 pub lengths_twice : (js : List (Bor (List Input))) → map (λ (j : Bor (List Input)). length j.now) js ≡ map (λ (j : List Input). length j) (map (λ (j : Bor (List Input)). j.now) js)
 lengths_twice [] = refl

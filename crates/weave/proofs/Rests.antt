@@ -1,4 +1,4 @@
--- What is left of journals after the committed records, node by node.
+-- The rests of journals after the committed records, node by node.
 use Rattle.std.proofs.Common.{◌≡◌, ℕ, ◌+◌, ◌<◌, ◌≤◌, All, List, [], ◌∷◌, ◌++◌, Bool, true, false, cond, not, inl, inr, sym, ap, subst, ◌∙◌, filter, length, map, take, arith, append-nil}
 use Rattle.std.specs.Prelude.{get_or, nat_le}
 use Rattle.std.proofs.lemmas.Bool.{cases_Bool, leb-false, leb-true}
@@ -27,7 +27,7 @@ no_longer a b h =
     ]
 
 module _ (w : World) where
-  -- of these nodes, each that has something left stands there with it
+  -- of these nodes, each that has records left is there with its rest
   abbrev pub AreRests : List Node → List Rest → Type 0
   AreRests ns rests = (map (λ r. r.node) rests ≡ filter (has_rest w) ns) × All (λ r. IsRest w r.node r) rests
 

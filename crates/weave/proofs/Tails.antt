@@ -1,5 +1,5 @@
--- A world without its tails: what it shares with the world, and that a record committed of a tail is one that the node
--- takes and commits.
+-- A world without its tails: the parts that are the same as in the world, and that committing a record of a tail is
+-- taking it and committing it.
 use Rattle.std.proofs.Common.{◌≡◌, ℕ, List, [], ◌∷◌, ◌++◌, Bool, true, false, cond, Option, Some, None, Ok, inl, inr, refl, sym, ap, subst, ◌∙◌, length, map, append_assoc, arith}
 use Rattle.std.specs.List.{AllByRecursion}
 use Rattle.std.specs.Prelude.{is_some, nat_le, option_map, option_and_then}
@@ -58,7 +58,7 @@ sent_idle scheme key (Some s) = refl
 pub next_same : (w : World) (n : Node) (key : ℕ) → next_message (without_tails w) n key ≡ next_message w n key
 next_same w n key = ap (option_and_then (λ s. sent w.scheme key s)) (station_idle w n) ∙ sent_idle w.scheme key (station w n)
 
--- what stands without its tail, stands with it
+-- a station without its tail is one with it
 pub raw_station : (o : Option Station) (i : Station) → option_map idle_station o ≡ Some i → (s : Station) × (o ≡ Some s) × (s.runs ≡ i.runs)
 raw_station None i e = absurd (cc (e))
 raw_station (Some s) i e = (s, refl, ap (λ (z : Station). z.runs) (one_some (idle_station s) i e))

@@ -1,5 +1,5 @@
--- Events for a node's next record: which one fits, and where none does. What posting comes to, and where a message
--- is found.
+-- Events for a node's next record: which one fits, and where none does. The result of posting, and the place where a
+-- message is found.
 use Rattle.std.proofs.Common.{◌≡◌, ℕ, List, true, false, Option, Some, None, refl, sym, ap, subst, ◌∙◌, length}
 use Rattle.std.specs.Prelude.{slice_get, Contains}
 use Rattle.std.proofs.lemmas.Bool.{cond-false}

@@ -1,4 +1,4 @@
--- One event of a world that gives a node an input: what it comes to, and which event can give it.
+-- One event of a world that gives a node an input: its outcome, and which event can give the input.
 use Rattle.std.proofs.Common.{◌≡◌, ℕ, Bool, true, false, cond, Some, refl, sym, ap, subst, ◌∙◌}
 use Rattle.std.specs.Prelude.{slice_get}
 use Rattle.units.specs.declared.code.Node.{Node}
@@ -14,7 +14,7 @@ use Rattle.protocol.specs.declared.event.WorldEvent.{WorldEvent}
 use Rattle.protocol.specs.declared.event.WorldEvent.TheVariants.{Take, Commit, Post, Deliver, Crash, Restart}
 use Rattle.safety.proofs.WorldLemmas.StationsAfterPut.{at}
 
--- the node takes the input, be it an order of its or not
+-- the node takes the input, whether it is an order or not
 abbrev pub taken : World → Node → Input → Stepped
 taken w n input = at_node w (station w n) (take_input w.scheme input)
 

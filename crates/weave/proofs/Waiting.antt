@@ -1,5 +1,5 @@
--- A node waits until its own station changes or a message comes for it: no other event of the world lets it record
--- what it didn't before.
+-- A node waits until its own station changes or a message comes for it: no other event of the world lets it record an
+-- input that it couldn't record before.
 use Rattle.std.proofs.Common.{◌≡◌, ℕ, List, ◌∷◌, ◌++◌, Bool, true, false, cond, Option, Some, None, refl, sym, ap, subst, ◌∙◌}
 use Rattle.units.specs.declared.code.Node.{Node}
 use Rattle.wire.specs.declared.input.Input.{Input}

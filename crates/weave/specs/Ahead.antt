@@ -12,7 +12,7 @@ pub record IsAhead (scheme : Scheme) (n : Node) (journal recorded : List Input) 
   pub is : journal ≡ recorded ++ rest
   pub ends : (rest ≡ []) ⊎ IsFirstNotRecorded scheme n journal (length recorded)
 
--- so it is at each node of the scheme, by its index
+-- each node of the scheme, by its index, records the first records of its journal in this sense
 pub record AreAhead (scheme : Scheme) (journals recorded : List (List Input)) : Type 0 where
   pub each : (k : ℕ) (n : Node) (long short : List Input) → slice_get (nodes scheme) k ≡ Some n → slice_get journals k ≡ Some long → slice_get recorded k ≡ Some short → IsAhead scheme n long short
   pub journals_count : length journals ≡ length (nodes scheme)

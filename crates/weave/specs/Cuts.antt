@@ -1,4 +1,4 @@
--- The furthest cut of journals, and what is left beyond it.
+-- The furthest cut of journals, and the records beyond it.
 use Rattle.std.specs.Prelude.{◌≡◌, ◌+◌, Bool, not, nat_le, All, List, [], Some, filter, length, map, slice_get}
 use Rattle.units.specs.declared.code.Node.{Node}
 use Rattle.wire.specs.declared.input.Input.{Input}
@@ -17,16 +17,17 @@ use Rattle.weave.specs.declared.cut.Rest.{Rest}
 abbrev pub goes_beyond : (journals cut : Node → List Input) → Node → Bool
 goes_beyond journals cut n = not (nat_le (length (journals n)) (length (cut n)))
 
--- these are the node's records beyond the cut, and by the records of the cut no node sends the message of the first one
+-- these are the node's records beyond the cut, and by the records of the cut no node sends the message of the first of
+-- them
 pub record IsBeyond (scheme : Scheme) (journals cut : Node → List Input) (r : Rest) : Type 0 where
   pub place : r.place ≡ length (cut r.node)
   pub count : length (journals r.node) ≡ r.place + r.count
   pub next : slice_get (journals r.node) r.place ≡ Some r.next
   pub unsent : WasSent scheme cut r.node r.next → ⊥
 
--- the events lead to the world; they commit first records of the journals, and no events commit more of any; in the
--- world every node is idle, no tonne is in two places and none is lost, and from it there is a way out; and these are
--- the records beyond
+-- the events lead to the world; they commit first records of the journals, and no events commit more of any journal; in
+-- the world every node is idle, no tonne is in two places and none is lost, and there is a way out of it; and these are
+-- the records beyond the cut
 pub record IsCut (scheme : Scheme) (journals : Node → List Input) (c : Cut) : Type 0 where
   pub furthest : IsFurthestCut scheme journals c.events.items
   pub world : c.world ≡ run (opening scheme) c.events.items

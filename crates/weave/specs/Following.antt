@@ -24,7 +24,8 @@ committed_at w n = committed_part (station w n)
 
 -- ---- how far
 
--- every node is idle, all that was sent is posted, and what is committed are the first records of the journals
+-- every node is idle, every message that was sent is posted, and the committed records are the first ones of the
+-- journals
 pub record HasFollowed (w : World) (journals : Node → List Input) : Type 0 where
   pub quiet : IsQuiet w
   pub front : ArePrefixes (committed_at w) journals
@@ -37,7 +38,7 @@ pub record IsFirstLeft (w : World) (journals : Node → List Input) (n : Node) (
   pub left : place < length (journals n)
   pub before : (k : ℕ) (m : Node) → k < at → slice_get (nodes w.scheme) k ≡ Some m → committed_at w m ≡ journals m
 
--- ---- what following comes to
+-- ---- the results of following
 
 -- the events reach a world from which the journals can't be followed further, and the node is the first with a record
 -- left
@@ -47,8 +48,8 @@ pub record IsStuckAt (scheme : Scheme) (journals : Node → List Input) (n : Nod
   pub stuck : IsStuck (run (opening scheme) events) journals
   pub first : IsFirstLeft (run (opening scheme) events) journals n place
 
--- the events lead to the journals and to the world, in which no tonne is in two places and none is lost, and from which
--- there is a way out
+-- the events lead to the journals and to the world; in the world no tonne is in two places and none is lost, and there
+-- is a way out of it
 pub record IsWoven (scheme : Scheme) (journals : Node → List Input) (events : List WorldEvent) (w : World) : Type 0 where
   pub projects : Projects scheme events journals
   pub world : w ≡ run (opening scheme) events
@@ -61,7 +62,7 @@ pub record IsWoven (scheme : Scheme) (journals : Node → List Input) (events : 
 abbrev pub HasNoEvents : Scheme → (Node → List Input) → Type 0
 HasNoEvents scheme journals = (events : List WorldEvent) → Projects scheme events journals → ⊥
 
--- the journals have the fault; of memory nothing can be said
+-- the journals have the fault; running out of memory says nothing about the journals
 abbrev pub IsWeaveFault : Scheme → (Node → List Input) → WeaveFault → Type 0
 IsWeaveFault scheme journals (Stuck n place) = IsStuckAt scheme journals n place × HasNoEvents scheme journals
 IsWeaveFault scheme journals NoMemory = Unit {0}

@@ -1,4 +1,4 @@
--- What is kept while journals are followed, and what each step changes of it. No public contract cites it.
+-- The invariants while journals are followed, and the changes of each step. No public contract cites it.
 use Rattle.std.specs.BTreeMap as tree
 use Rattle.std.specs.Option.{option_map_or}
 use Rattle.std.specs.Prelude.{◌≡◌, ◌<◌, ◌≤◌, ℕ, true, List, [], ◌∷◌, ◌++◌, Contains, length, map, Some, None, if◌then◌else◌}
@@ -20,19 +20,19 @@ use Rattle.weave.specs.declared.following.Visit.TheVariants.{Advanced, Rests}
 abbrev pub numbers_of : Following → TransactionId → List ℕ
 numbers_of f t = option_map_or (λ v. v.items) (tree.get id_cmp f.numbers t) []
 
--- ---- what is kept
+-- ---- the invariants
 
--- the committed journals are followed so far, where these nodes are pending: whole journals are to be reached
+-- the journals are followed towards the whole ones, up to the committed records, with these nodes pending
 pub record IsFollowingWith (scheme : Scheme) (f : Following) (pending : List Node) : Type 0 where
   pub follows : Follows scheme (whole_at f.world) (without_tails f.world) f.events.items (numbers_of f) f.posted.items pending
   pub nodes_are : map (λ s. s.node) f.world.stations ≡ nodes scheme
 
--- and nothing that was sent is left to post
+-- the same, with every message that was sent posted
 pub record IsFollowing (scheme : Scheme) (f : Following) : Type 0 where
   pub follows : IsFollowingWith scheme f f.pending.items
   pub quiet : IsQuiet (without_tails f.world)
 
--- the node's messages are posted below that key, and all those of others
+-- the node's messages with keys below that one are posted, and all messages of other nodes
 pub record IsPosting (scheme : Scheme) (f : Following) (n : Node) (key : ℕ) : Type 0 where
   pub follows : IsFollowingWith scheme f f.pending.items
   pub node : is_node f.world.scheme n ≡ true
@@ -48,7 +48,7 @@ HasWholeSame w v = (n : Node) → whole_at v n ≡ whole_at w n
 abbrev pub left_in : World → List Node → ℕ
 left_in w ns = left_of (whole_at w) (without_tails w) ns
 
--- ---- what a step changes
+-- ---- the changes of a step
 
 -- the node's next record is committed, the event is noted, and the node is pending again
 pub record Takes (f g : Following) (n : Node) (e : WorldEvent) : Type 0 where
@@ -72,7 +72,7 @@ abbrev pub HasPosted : Following → Following → Node → ℕ → Visit → Ty
 HasPosted f g n key Advanced = Posts f g n key
 HasPosted f g n key Rests = (next_message f.world n key ≡ None) × (g ≡ f)
 
--- the world went on and fewer records are left, or it stands still and so does what is pending
+-- the world went on and fewer records are left, or nothing has changed
 abbrev pub IsFewer : List Node → Following → Following → Visit → Type 0
 IsFewer ns f g Advanced = left_in g.world ns < left_in f.world ns
 IsFewer ns f g Rests = g ≡ f

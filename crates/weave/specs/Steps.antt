@@ -1,4 +1,4 @@
--- What a node waits for, and what is posted of a node's messages. No public contract cites it.
+-- The record that a node waits for, and the messages of a node that are posted. No public contract cites it.
 use Rattle.std.specs.Prelude.{◌≡◌, ◌<◌, ◌≤◌, ◌⊎◌, ℕ, true, false, List, [], ◌∷◌, ◌++◌, Contains, length, map, slice_get, slice_index, option_and_then, Option, Some, Ok, ◌+◌, ◌-◌}
 use Rattle.units.specs.Code.{same_node}
 use Rattle.units.specs.declared.code.Node.{Node}
@@ -32,18 +32,18 @@ without_tails w = record w { stations = map idle_station w.stations }
 abbrev pub whole_at : World → Node → List Input
 whole_at w n = whole (station w n)
 
--- ---- what a node waits for
+-- ---- the record that a node waits for
 
 -- no event makes the node record the input
 abbrev pub IsNotRecorded : World → Node → Input → Type 0
 IsNotRecorded w n input = (e : WorldEvent) (place : ℕ) → Gives w e n input → (step w e).outcome ≡ Recorded place → ⊥
 
--- the node may take the input so: as an order of its, or as a message
+-- the event is allowed: the node takes the input as one of its orders, or as a message
 abbrev pub IsAllowed : World → WorldEvent → Type 0
 IsAllowed w (Take n input) = is_order w n input ≡ true
 IsAllowed w _ = Unit {0}
 
--- the event gives the node the input, which the node may take so
+-- the event gives the node the input, and is allowed
 pub record Fits (w : World) (e : WorldEvent) (n : Node) (input : Input) : Type 0 where
   pub gives : Gives w e n input
   pub allowed : IsAllowed w e
@@ -59,7 +59,7 @@ pub record IsNextBy (w : World) (n : Node) (e : WorldEvent) : Type 0 where
   pub recorded : answer w.scheme n (committed_at w n) input ≡ Ok (stepped.Recorded (length (committed_at w n)))
   pub fits : Fits w e n input
 
--- ---- what is posted
+-- ---- the messages that are posted
 
 -- all messages of other nodes are in the bag, and the node's with keys below that one; every node is idle
 pub record IsPostedTo (w : World) (n : Node) (key : ℕ) : Type 0 where
@@ -98,11 +98,11 @@ pub record Follows (scheme : Scheme) (journals : Node → List Input) (w : World
   pub counts : (k : ℕ) (n : Node) → slice_get (nodes scheme) k ≡ Some n → slice_index posted k ≤ sent_count w n
   pub waits : (n : Node) → Contains pending n ⊎ Waits w journals n
 
--- what isn't a node of the scheme has no journal
+-- only nodes of the scheme have journals
 abbrev pub HasNodesAlone : Scheme → (Node → List Input) → Type 0
 HasNodesAlone scheme journals = (n : Node) → is_node scheme n ≡ false → journals n ≡ []
 
--- ---- what is left
+-- ---- the records that are left
 
 -- how many records of these nodes' journals are left
 abbrev pub left_of : (Node → List Input) → World → List Node → ℕ

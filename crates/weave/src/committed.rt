@@ -1,4 +1,4 @@
-//! What a node has committed, and what is left of its journal.
+//! The records that a node has committed, and the rest of its journal.
 ghost use Rattle.std.specs.Prelude.{◌≡◌, IfSome, Ok, length, option_copied, slice_get};
 ghost use Rattle.protocol.specs.Cores.{answer};
 ghost use Rattle.protocol.specs.declared.node_core.Stepped.TheVariants as stepped;
@@ -9,7 +9,7 @@ use units::Node;
 use wire::Input;
 use world::World;
 
-/// How many records the node has committed.
+/// The number of records that the node has committed.
 pub(crate) fn committed_count(world: &World, node: Node) -> usize
     ensures { result ≡ length (committed_at world.now node) }
 {
@@ -26,7 +26,7 @@ fn record_at(journal: &[Input], place: usize) -> Option<&Input>
     journal.get(place)
 }
 
-/// The first record of the node's tail, which the node records after the committed ones.
+/// The first record of the node's tail; the node records it after the committed ones.
 pub(crate) fn next_input(world: &World, node: Node) -> Option<&Input>
     ensures value { option_copied result ≡ slice_get (whole_at world.now node) (length (committed_at world.now node)) }
     ensures recorded { IfSome result

@@ -1,4 +1,4 @@
-//! Cores that record journals, as far as they do.
+//! Cores that record the given journals, as far as the journals can be recorded.
 ghost use Rattle.std.specs.Prelude.{◌≡◌, [], All, IfOk, OnOk, length, map};
 ghost use Rattle.protocol.specs.Registries.{nodes};
 ghost use Rattle.world.specs.Cores as node_cores;
@@ -11,7 +11,7 @@ use units::{NoMemory, Node};
 use wire::Input;
 use world::Core;
 
-/// How many records each core has.
+/// The number of records of each core.
 pub(crate) fn record_counts(alloc: Global, cores: &[Core]) -> Result<Vec<usize>, NoMemory>
     ensures { IfOk result (λ v. v.items ≡ map (λ core. length (node_cores.journal_of core)) cores.now) }
 {
@@ -22,7 +22,7 @@ pub(crate) fn record_counts(alloc: Global, cores: &[Core]) -> Result<Vec<usize>,
     Ok(counts)
 }
 
-/// How many records each journal has.
+/// The number of records of each journal.
 pub(crate) fn lengths_of(alloc: Global, journals: &[&[Input]]) -> Result<Vec<usize>, NoMemory>
     ensures { IfOk result (λ v. v.items ≡ map (λ j. length j.now) journals.now) }
 {
@@ -33,7 +33,8 @@ pub(crate) fn lengths_of(alloc: Global, journals: &[&[Input]]) -> Result<Vec<usi
     Ok(lengths)
 }
 
-/// The node's core, with the first records of the journal: all, or those before the first one that it doesn't record.
+/// The node's core, with the first records of the journal: all of them, or those before the first one that it doesn't
+/// record.
 fn replayed_one(
     alloc: Global,
     scheme: &Scheme,
@@ -55,7 +56,7 @@ fn replayed_one(
     }
 }
 
-/// Adds a core for each of these nodes, which are all nodes, where there are none.
+/// Adds a core for each of these nodes to an empty list. The nodes are all nodes of the scheme.
 fn add_replayed(
     cores: &mut Vec<Core>,
     alloc: Global,
@@ -78,7 +79,8 @@ fn add_replayed(
     Ok(())
 }
 
-/// A core for each journal, with the first records of it: all, or those before the first one that isn't recorded.
+/// A core for each journal, with the journal's first records: all of them, or those before the first one that isn't
+/// recorded.
 pub(crate) fn replayed(
     alloc: Global,
     scheme: &Scheme,

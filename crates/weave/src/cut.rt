@@ -23,13 +23,13 @@ pub struct Rest {
     pub node: Node,
     /// The place of the first of them in the journal, counted from 0.
     pub place: usize,
-    /// How many there are, at least one.
+    /// The number of these records, at least one.
     pub count: usize,
-    /// The first of them: a received message, which no node sends by its records in the cut.
+    /// The first of them: a received message that no node sends by its records in the cut.
     pub next: Input,
 }
 
-/// A list of events, the world that they lead to from the opening one, and what is left of each journal.
+/// A list of events, the world that they lead to from the opening one, and the rest of each journal.
 #[derive(Debug, Drop)]
 pub struct Cut {
     pub events: Vec<WorldEvent>,
@@ -38,7 +38,7 @@ pub struct Cut {
     pub rests: Vec<Rest>,
 }
 
-/// How many records the node's journal has, those of its tail too.
+/// The number of records of the node's journal, including its tail.
 fn whole_count(world: &World, node: Node) -> usize
     ensures { result ≡ length (whole_at world.now node) }
 {
@@ -48,7 +48,7 @@ fn whole_count(world: &World, node: Node) -> usize
     }
 }
 
-/// What is left of the node's journal after the committed records, or `None` where nothing is left.
+/// The rest of the node's journal after the committed records, or `None` where nothing is left.
 fn rest_of(world: &World, node: Node) -> Result<Option<Rest>, NoMemory>
     ensures some { IfOk result (λ o. IfSome o (IsRest world.now node)) }
     ensures none { IfOk result
@@ -67,7 +67,7 @@ fn rest_of(world: &World, node: Node) -> Result<Option<Rest>, NoMemory>
     }))
 }
 
-/// What is left of the journals of these nodes, of each that has something left.
+/// The rests of the journals of these nodes, for each node that has something left.
 fn rests_of(alloc: Global, world: &World, among: &[Node]) -> Result<Vec<Rest>, NoMemory>
     ensures nodes { IfOk result (λ v. map (λ r. r.node) v.items ≡ filter (has_rest world.now) among.now) }
     ensures each { IfOk result (λ v. All (λ r. IsRest world.now r.node r) v.items) }
@@ -82,15 +82,15 @@ fn rests_of(alloc: Global, world: &World, among: &[Node]) -> Result<Vec<Rest>, N
 }
 
 /// The furthest cut of the journals of these cores, one for each node: the log's, then those of the registries in the
-/// scheme's order. Of all lists of events that commit first records of the journals, its events commit the most at every
-/// node. They commit each record at once, and post each message once, as soon as it is sent. Tells of each record that is
-/// woven.
+/// scheme's order. Of all lists of events that commit first records of the journals, its events commit the most at
+/// every node. They commit each record at once, and post each message once, as soon as it is sent. Each record that is
+/// woven is reported to the watch.
 ///
-/// Where nothing is left of any journal, it is what `weave_cores` returns.
+/// Where nothing is left of any journal, the result is that of `weave_cores`.
 ///
 /// # Errors
 ///
-/// Fails with `NoMemory` where there is no room. The cores are gone then.
+/// Fails with `NoMemory` where there is no room. The cores are lost then.
 pub fn cut_cores<W: Watch>(
     alloc: Global,
     scheme: &Scheme,
@@ -111,7 +111,7 @@ pub fn cut_cores<W: Watch>(
             rests,
         });
     }
-    // The cores of that world have the records beyond the cut too.
+    // The cores of that world also have the records beyond the cut.
     drop(world);
     let world = World::run(alloc, scheme, events.as_slice())?;
     Ok(Cut {

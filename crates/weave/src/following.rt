@@ -1,18 +1,18 @@
 //! Journals followed into one world, as far as posted messages allow.
 //!
-//! All records are in the world from the beginning. Those that the journals have been followed to are committed, and
-//! the others are the tails, so that a step commits one record more: an order or an acknowledgement at any time, and a
-//! message where the bag has it. After each step these hold:
+//! All records are in the world from the beginning. The records that have been followed are committed, and the others
+//! are the tails. A step commits one record more: an order or an acknowledgement at any time, and a message where the
+//! bag has it. After each step these hold:
 //!
 //! - the noted events lead from the opening world to this one without its tails;
 //! - the committed records of a node and its tail are its whole journal, at every time the same one;
 //! - each message that a committed record sends is in the bag, `numbers` has its number there, and `posted` counts it;
 //! - a node that isn't pending rests: it has no record left, or no event of the world leads to its next one.
 //!
-//! A step makes the node pending that recorded, and the receiver of each message that it sent. No other node has become
-//! able to go on by it, since a node waits for messages to itself alone. Where none is pending, all rest, and the
-//! journals can't be followed further. The bag only grows, so that no step stops another node: the order of the visits
-//! decides nothing.
+//! A step makes the node pending that recorded, and the receiver of each message that it sent. No other node can go on
+//! because of the step, since a node waits only for messages to itself. Where none is pending, all rest, and the
+//! journals can't be followed further. The bag only grows, and no step stops another node: the order of the visits
+//! doesn't matter.
 ghost use Rattle.std.specs.Prelude.{◌≡◌, ◌<◌, ◌≤◌, ◌+◌, ◌++◌, ◌∷◌, [], All, IfOk, OnOk, Some, length, map, slice_index, vec_capacity, vec_len};
 ghost use Rattle.units.specs.declared.code.Node.{Node};
 ghost use Rattle.scheme.specs.declared.registries.Scheme.{Scheme};
@@ -36,7 +36,7 @@ use std::collections::BTreeMap;
 use units::{NoMemory, Node};
 use world::{Core, World};
 
-/// What a visit of a node came to.
+/// The outcome of a visit of a node.
 #[derive(Clone, Copy)]
 pub(crate) enum Visit {
     /// The world went on.
@@ -49,8 +49,8 @@ pub(crate) enum Visit {
 #[derive(Drop)]
 pub(crate) struct Following {
     pub alloc: Global,
-    /// The records that a node has taken so far are committed, and those that are left of its journal are its tail: no
-    /// core takes a record again that it has already.
+    /// The records that a node has taken are committed, and the remaining records of its journal are its tail: no core
+    /// takes a record again that it has already.
     pub world: World,
     /// These lead to the world without its tails.
     pub events: Vec<WorldEvent>,
@@ -73,8 +73,8 @@ fn apply_post(world: &mut World, node: Node, key: u64) -> Result<Outcome, NoMemo
 }
 
 impl Following {
-    /// The node commits its next record. Returns the event by which it does, where there is room for two events and for
-    /// a node more that has to be looked at.
+    /// The node commits its next record. Returns the event of the commit. There is room then for two events and for one
+    /// more node that has to be looked at.
     fn commit_next(&mut self, node: Node) -> Result<WorldEvent, NoMemory>
         ensures event { IfOk result (λ e. e ≡ Commit node 1) }
         ensures world { OnOk result (self.new.world ≡ (step self.old.world (Commit node 1)).world) }
@@ -96,7 +96,7 @@ impl Following {
         }
     }
 
-    /// The node commits its next record, which the event gives it. Then the node has to be looked at again.
+    /// The node commits its next record, which the event gives to the node. Then the node has to be looked at again.
     fn take(&mut self, node: Node, event: WorldEvent) -> Result<(), NoMemory>
         ensures { OnOk result (Takes self.old self.new node event) }
     {
@@ -146,11 +146,11 @@ impl Following {
                 return Ok(key);
             }
         }
-        // No machine has room for so many messages.
+        // No machine has room for that many messages.
         Err(NoMemory)
     }
 
-    /// Posts what the node at that index has sent and not posted.
+    /// Posts the messages that the node at that index has sent and not posted.
     fn post_all(&mut self, node: Node, at: usize) -> Result<(), NoMemory>
         requires { at < length self.old.posted.items }
         ensures follows { (scheme : Scheme) → index_of scheme node ≡ Some at
@@ -164,8 +164,8 @@ impl Following {
         Ok(())
     }
 
-    /// The node commits the next record of its journal and posts what it sends, if an event gives it the record now.
-    /// Then the node has to be looked at again.
+    /// The node commits the next record of its journal and posts the messages that the record sends, if an event gives
+    /// it the record now. Then the node has to be looked at again.
     fn record_next(&mut self, scheme: &Scheme, node: Node) -> Result<Visit, NoMemory>
         requires follows { IsFollowingWith scheme.now self.old (self.old.pending.items ++ node ∷ []) }
         requires quiet { IsQuiet (without_tails self.old.world) }
@@ -219,7 +219,7 @@ impl Following {
     }
 }
 
-/// Follows the journals of the cores as far as they go, and tells of each record.
+/// Follows the journals of the cores as far as they go, and reports each record to the watch.
 pub(crate) fn follow<W: Watch>(
     alloc: Global,
     scheme: &Scheme,

@@ -15,7 +15,7 @@ pub(crate) struct Left {
     pub place: usize,
 }
 
-/// How many records the journal of that node has, by the node's index.
+/// The number of records of that node's journal, by the node's index.
 fn record_count(scheme: &Scheme, counts: &[usize], node: Node) -> usize
     ensures { result ≡ count_at scheme.now counts.now node }
 {
@@ -25,7 +25,8 @@ fn record_count(scheme: &Scheme, counts: &[usize], node: Node) -> usize
     }
 }
 
-/// The first of the nodes with a record left, and that record's place. `counts` has the records of each node's journal.
+/// The first of the nodes with a record left, and that record's place. `counts` has the number of records of each
+/// node's journal.
 pub(crate) fn first_left(
     world: &World,
     scheme: &Scheme,

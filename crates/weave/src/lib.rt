@@ -1,5 +1,5 @@
-//! From journals of all nodes back to one run: a list of events that leads to them, or that there is none; and the
-//! furthest cut of them that some list of events leads to.
+//! From journals of all nodes back to one run: a list of events that leads to them, or the result that there is none;
+//! and the furthest cut of them that some list of events leads to.
 #![tactic(auto)]
 
 mod committed;

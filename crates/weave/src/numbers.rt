@@ -13,7 +13,7 @@ use units::NoMemory;
 use wire::Message;
 use world::World;
 
-/// One number more of a transaction. After `NoMemory` the transaction may have an empty list.
+/// Adds a number to those of a transaction. After `NoMemory` the transaction may have an empty list.
 pub(crate) fn add_number(
     alloc: Global,
     numbers: &mut BTreeMap<TransactionId, Vec<u64>>,

@@ -1,18 +1,18 @@
-//! Who is told how far the work on journals has come.
+//! Reports on how far the work on journals has come.
 
-/// What is told of records while they are read and woven. It changes nothing of what comes of them.
+/// Receives reports while records are read and woven. It has no influence on the results.
 pub trait Watch {
-    /// A node's records were read: this many.
+    /// Reports that a node's records were read, and their number.
     fn read(&mut self, records: usize);
 
-    /// One more record was woven.
+    /// Reports that one more record was woven.
     fn woven(&mut self);
 
-    /// All records were woven.
+    /// Reports that all records were woven.
     fn finished(&mut self);
 }
 
-/// Nobody, who is told nothing.
+/// A watch that ignores all reports.
 #[derive(Clone, Copy, Debug)]
 pub struct Nobody;
 

@@ -25,13 +25,14 @@ pub struct Woven {
 }
 
 /// A list of events that leads to these journals, one for each node: the log's, then those of the registries in the
-/// scheme's order. The events commit each record at once, and post each message once, as soon as it is sent. Beside
-/// them the world that they lead to, of which holds what `World::run` says of its world.
+/// scheme's order. The events commit each record at once, and post each message once, as soon as it is sent. Returns
+/// with them the world that they lead to; everything that `World::run` states about its world holds for it.
 ///
 /// # Errors
 ///
-/// Fails with `Stuck` exactly when no list of events leads to the journals. Followed as far as they go, it names the
-/// first node with a record left and the place of that record. Fails with `NoMemory` where there is no room.
+/// Fails with `Stuck` exactly when no list of events leads to the journals. The fault has the first node with a record
+/// left after following them as far as they go, and the place of that record. Fails with `NoMemory` where there is no
+/// room.
 pub fn weave(alloc: Global, scheme: &Scheme, journals: &[&[Input]]) -> Result<Woven, WeaveFault>
     requires { length journals.now ≡ length (nodes scheme.now) }
     ensures ok { IfOk result (λ w. IsWoven scheme.now (journal_of scheme.now (map
@@ -43,13 +44,13 @@ pub fn weave(alloc: Global, scheme: &Scheme, journals: &[&[Input]]) -> Result<Wo
     weave_on(alloc, scheme, cores, counts.as_slice(), &mut Nobody)
 }
 
-/// As `weave` does with the journals of these cores, one for each node: the log's, then those of the registries in the
-/// scheme's order. They are the cores of the world that is returned, and none of them takes a record again. Tells of
-/// each record that is woven.
+/// Weaves the journals of these cores as `weave` does. There is one core for each node: the log's, then those of the
+/// registries in the scheme's order. They are the cores of the world that is returned, and none of them takes a record
+/// again. Each record that is woven is reported to the watch.
 ///
 /// # Errors
 ///
-/// Fails as `weave` does. The cores are gone then.
+/// Fails as `weave` does. The cores are lost then.
 pub fn weave_cores<W: Watch>(
     alloc: Global,
     scheme: &Scheme,
@@ -67,8 +68,8 @@ pub fn weave_cores<W: Watch>(
     weave_on(alloc, scheme, cores, counts.as_slice(), watch)
 }
 
-/// Weaves the journals of which the cores have the first records, as far as they are recorded. `counts` has the number
-/// of all records of each journal.
+/// Weaves the journals as far as they are recorded; the cores have their first records. `counts` has the number of all
+/// records of each journal.
 fn weave_on<W: Watch>(
     alloc: Global,
     scheme: &Scheme,

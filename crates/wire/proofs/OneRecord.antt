@@ -1,4 +1,4 @@
--- A value writes one input at most, in one format alone, and its word says of which kind.
+-- A value writes at most one input, in one format alone, and its word says of which kind the input is.
 use Rattle.std.proofs.Common.{◌≡◌, ℕ, ◌+◌, ◌<◌, ◌≤◌, ◌^◌, List, Bool, true, false, true≢false, bytes_eq, codes, Option, Some, refl, sym, ap, subst, ◌∙◌, arith}
 use Rattle.std.proofs.Math.Bridge.{le_prop}
 use mathlib.Core.HLevel.{is_prop→PathP}
@@ -55,25 +55,25 @@ word_is f d word i at is = text_once d (codes "input") word (input_word i) at (w
 clash : {X : Type 0} {s t : List ℕ} → s ≡ t → bytes_eq s s ≡ true → bytes_eq s t ≡ false → X
 clash {s = s} e same other = absurd (true≢false (sym (subst (λ x. bytes_eq s x ≡ true) e same) ∙ other))
 
--- an input of that word is an eligibility order
+-- an input with that word is an eligibility order
 pub eligible_word : (f : RecordFormat) (d : Data) → HasAt d (codes "input") (string (codes "eligible")) → (i : Input) → IsRecord f d i → (p : Code × Bool) × IsRecord f d (Eligible p.0 p.1)
 unfolding input_word
 eligible_word f d at (Eligible c may) is = ((c, may), is)
 eligible_word f d at i is = clash (word_is f d (codes "eligible") i at is) refl refl
 
--- and of that one a message received
+-- an input with that word is a message received
 pub received_word : (f : RecordFormat) (d : Data) → HasAt d (codes "input") (string (codes "received")) → (i : Input) → IsRecord f d i → (p : Message × Moment) × IsRecord f d (Received p.0 p.1)
 unfolding input_word
 received_word f d at (Received m t) is = ((m, t), is)
 received_word f d at i is = clash (word_is f d (codes "received") i at is) refl refl
 
--- an input of the word of an order to open an account is one
+-- an input with the word of an order to open an account is such an order
 pub open_word : (f : RecordFormat) (d : Data) → HasAt d (codes "input") (string (codes "open")) → (i : Input) → IsRecord f d i → (n : Number) × IsAccountOrder f d (codes "open") n
 unfolding input_word
 open_word f d at (OpenAccount n) is = (n, is)
 open_word f d at i is = clash (word_is f d (codes "open") i at is) refl refl
 
--- and so are those of the other words
+-- and so are the inputs with the other words
 pub close_word : (f : RecordFormat) (d : Data) → HasAt d (codes "input") (string (codes "close")) → (i : Input) → IsRecord f d i → (n : Number) × IsAccountOrder f d (codes "close") n
 unfolding input_word
 close_word f d at (CloseAccount n) is = (n, is)
@@ -131,7 +131,7 @@ received_once f d m n t u h k =
     let moments = moment_once d (codes "moment") t u h.1.1.1.1.0 k.1.1.1.1.0 in
     λ i. Received (messages i) (moments i)
 
--- where the one message at the key has units beyond the format, there is none
+-- if the one message at the key has units beyond the format, there is none
 pub none_within : (f : RecordFormat) (d inner : Data) (m : Message) → HasAt d (codes "message") inner → IsMessage inner m → (AreUnitsWithin f m.body → ⊥) → (n : Message) → HasMessage f d n → ⊥
 none_within f d inner m at is beyond n h = beyond (subst (λ (x : Message). AreUnitsWithin f x.body) (sym (inner_once d inner h.0 m n at h.1 is h.2)) h.3)
 
@@ -162,7 +162,7 @@ text_of_one f text i j p q =
 one_more : (n : ℕ) (o : Option ℕ) → o ≡ Some n → o ≡ Some (n + 1) → ⊥
 one_more n o p q = let e : Some n ≡ Some (n + 1) = sym p ∙ q in let same : n ≡ n + 1 = cc (e) in omega (arith, same)
 
--- a value is no record of both
+-- no value is a record of both
 formats_apart : (d : Data) (i j : Input) → IsRecord One d i → IsRecord Two d j → ⊥
 unfolding input_word
 formats_apart d (Propose a) (Propose b) p q = one_more 5 _ p.0.0 q.0.0

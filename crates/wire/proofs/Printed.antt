@@ -1,4 +1,4 @@
--- What is printed for a message: the fields that were wanted, and few bytes.
+-- The text that is printed for a message: it has the expected fields, and few bytes.
 use Rattle.std.proofs.Common.{◌≡◌, ℕ, ◌+◌, ◌*◌, ◌^◌, ◌<◌, ◌≤◌, List, [], ◌∷◌, ◌++◌, length, Bool, true, false, cond, decimal, codes, refl, sym, subst, arith, length-append, lit≤, ltb, ◌/◌, ◌%◌}
 use Rattle.std.proofs.lemmas.Fmt.{length-decimal-le}
 use Rattle.std.specs.Char.{digit_char}
@@ -36,7 +36,7 @@ use Rattle.wire.specs.declared.notified.NotifiedStatus.TheVariants.{Accepted, Re
 use Rattle.wire.proofs.ReadBack.{message_back, message_shallow}
 use Rattle.json_fields.proofs.Written.{printed, printed_reads}
 
--- ---- the fields that were wanted
+-- ---- the expected fields
 
 exact : (m : Message) (b : Body) → HasExactly (object_of (fields_with m b)) (fields_with m b)
 exact m (Proposal p) = (refl, (refl, (refl, (refl, (refl, (refl, (refl, (refl, (refl, (refl, tt))))))))))

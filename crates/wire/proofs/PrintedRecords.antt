@@ -1,4 +1,4 @@
--- What is printed for a record has the fields that were wanted.
+-- The text that is printed for a record has the expected fields.
 use Rattle.std.proofs.Common.{◌≡◌, ℕ, List, refl, sym, subst}
 use Rattle.std.specs.Prelude.{IsUtf8}
 use Rattle.json.specs.Lex.{tokens}

@@ -1,4 +1,4 @@
--- What messages and records are written as is read back as them: their values nest little, and their numbers are short.
+-- The texts of messages and records are read back as them: their values nest little, and their numbers are short.
 use Rattle.std.proofs.Common.{◌≡◌, ℕ, ◌+◌, ◌<◌, ◌≤◌, List, [], ◌∷◌, Some, refl, lit≤, arith}
 use Rattle.json.specs.Tree.{depth, items_depth}
 use Rattle.serde_json.specs.Read.{of_json, of_items}

@@ -182,7 +182,7 @@ has_fields : (r : Reply) → HasExactly (object_of (reply_fields r)) (reply_fiel
 has_fields Received = (refl, (refl, (refl, tt)))
 has_fields (Refused c) = (refl, (refl, (refl, tt)))
 
--- what is written is read as that reply
+-- the text of a reply is read as that reply
 pub written : (r : Reply) → IsReply (reply_text r) r
 written r =
     let h = all_read r in

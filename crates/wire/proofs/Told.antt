@@ -1,4 +1,4 @@
--- What the parts of a message tell of it.
+-- The parts of a message determine it.
 use Rattle.std.proofs.Common.{◌≡◌, ℕ, ◌+◌, ◌<◌, ◌^◌, List, [], ◌∷◌, Option, Some, None, refl, sym, ap, subst, arith}
 use Rattle.std.specs.Prelude.{IfSome, IfNone, codes}
 use Rattle.std.specs.List.{AllByRecursion}
@@ -60,7 +60,7 @@ items_once (r ∷ rs) (q ∷ qs) h k e =
 pub blocks_once : (d : Data) (key : List ℕ) (rs qs : List RawBlock) → AreShort rs → AreShort qs → HasAt d key (blocks rs) → HasAt d key (blocks qs) → rs ≡ qs
 blocks_once d key rs qs h k p q = let e = at_once d key (blocks rs) (blocks qs) p q in items_once rs qs h k (cc (e))
 
--- the content of parts that stand in the object
+-- the content made of parts in the object
 pub content_found : (d : Data) (account to_account : ℕ) (acquirer : Code) (units : List RawBlock) (made : Option Content) → HasAt d (codes "account") (whole account) → HasAt d (codes "to_account") (whole to_account)
     → HasAt d (codes "to_registry") (string (code_text acquirer)) → HasAt d (codes "units") (blocks units) → AllByRecursion (λ b. IsRange b.first b.last) units
     → IfSome made (λ c. c ≡ record { account = account; acquirer = acquirer; to_account = to_account; units = units })

@@ -40,7 +40,7 @@ up_to_last : (bs : List RawBlock) → AllByRecursion (λ b. IsRange b.first b.la
 up_to_last [] are = tt
 up_to_last (b ∷ bs) are = (are.0.2, up_to_last bs are.1)
 
--- has all units of sound messages
+-- it has all units of sound messages
 pub within_two : (b : Body) → IsSound b → AreUnitsWithin Two b
 within_two (Proposal p) is = up_to_last p.content.units is.in_range
 within_two (Notification n) is = tt

@@ -7,10 +7,10 @@ abbrev pub Ascends : ℕ → ℕ → List ℕ → Type 0
 Ascends first last [] = Unit {0}
 Ascends first last (c ∷ cs) = ((first ≤ c) × (c ≤ last)) × Ascends (c + 1) last cs
 
--- what the log found: one or more codes, from `wrong_acquirer` to `acquirer_not_eligible`
+-- the log's findings: one or more codes, from `wrong_acquirer` to `acquirer_not_eligible`
 abbrev pub AreLogCodes : List ℕ → Type 0
 AreLogCodes codes = (1 ≤ length codes) × Ascends wrong_acquirer acquirer_not_eligible codes
 
--- what the acquirer found: one or more codes, from `receiver_unknown` to `kind_not_taken`
+-- the acquirer's findings: one or more codes, from `receiver_unknown` to `kind_not_taken`
 abbrev pub AreAcquirerCodes : List ℕ → Type 0
 AreAcquirerCodes codes = (1 ≤ length codes) × Ascends receiver_unknown kind_not_taken codes

@@ -1,4 +1,4 @@
--- What a notification says: a status, and the codes of findings.
+-- The content of a notification: a status, and the codes of findings.
 use Rattle.std.specs.Prelude.{ℕ, List, []}
 use Rattle.status.specs.declared.status.Status.{Status}
 use Rattle.status.specs.declared.status.Status.TheVariants as status

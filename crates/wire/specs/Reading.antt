@@ -1,4 +1,4 @@
--- What the code that reads messages and records follows; no public contract cites it.
+-- Definitions that the code that reads messages and records follows; no public contract cites them.
 use Rattle.std.specs.Prelude.{◌≡◌, ℕ, ◌+◌, ◌<◌, ◌^◌, List, ◌∷◌, length, codes}
 use Rattle.serde_json.specs.Data.{Data, string}
 use Rattle.json_fields.specs.Fields.{HasKeys, HasAt}
@@ -25,11 +25,11 @@ use Rattle.wire.specs.declared.record_format.RecordFormat.{RecordFormat}
 abbrev pub IsBlockItem : Data → Block → Type 0
 IsBlockItem d b = d ≡ string (raw_text b.raw)
 
--- one that is the text of a block as ordered
+-- an item that is the text of a block as ordered
 abbrev pub IsRawItem : Data → RawBlock → Type 0
 IsRawItem d r = (d ≡ string (raw_text r)) × (r.first < too_long) × (r.last < too_long)
 
--- one that is a code
+-- an item that is a code
 abbrev pub IsCodeItem : Data → ℕ → Type 0
 IsCodeItem d n = (d ≡ whole n) × (n < 2 ^ 16)
 
@@ -39,7 +39,7 @@ HasContent d c =
     HasAt d (codes "account") (whole c.account) × HasAt d (codes "to_account") (whole c.to_account) × HasAt d (codes "to_registry") (string (code_text c.acquirer))
     × HasAt d (codes "units") (blocks c.units) × IsContent c
 
--- the text and the codes say the notified status
+-- the text and the codes are those of the notified status
 abbrev pub Says : List ℕ → List ℕ → NotifiedStatus → Type 0
 Says text told n = (text ≡ status_text (notified_status n)) × (told ≡ notified_codes n) × IsNotified n
 

@@ -17,7 +17,7 @@ use Rattle.wire.specs.declared.message.Body.TheVariants as body
 use Rattle.wire.specs.declared.record_format.RecordFormat.{RecordFormat}
 use Rattle.wire.specs.declared.record_format.RecordFormat.TheVariants.{One, Two}
 
--- the number that tells a format
+-- the number of a format
 abbrev pub number_of : RecordFormat → ℕ
 number_of One = 1
 number_of Two = 2
@@ -37,13 +37,13 @@ abbrev pub AreUnitsWithin : RecordFormat → Body → Type 0
 AreUnitsWithin format (body.Proposal p) = AllByRecursion (λ b. b.last ≤ last_unit_of format) p.content.units
 AreUnitsWithin format _ = Unit {0}
 
--- the fields of an order to transfer units, which are written as they were ordered
+-- the fields of an order to transfer units; the order is written as it was given
 abbrev pub order_fields : Order → List Field
 order_fields o =
     (codes "account", whole o.account) ∷ (codes "input", string (codes "propose")) ∷ (codes "to_account", whole o.to_account)
     ∷ (codes "to_registry", string (code_text o.acquirer)) ∷ (codes "units", blocks o.units) ∷ []
 
--- the fields of an input, keys in byte order; where it is a message received, with the value that writes it
+-- the fields of an input, keys in byte order; for a message received, with the value that writes it
 abbrev pub input_fields : Data → Input → List Field
 input_fields message (Propose o) = order_fields o
 input_fields message (Request t) = (codes "input", string (codes "request")) ∷ (codes "transaction", string (id_text t)) ∷ []
@@ -65,7 +65,7 @@ message_in _ = null
 abbrev pub record_data : Input → Data
 record_data i = object_of (record_fields Two (message_in i) i)
 
--- the text that is written of an input: its fields in format Two as compact JSON
+-- the text of an input: its fields in format Two as compact JSON
 abbrev pub record_text : Input → List ℕ
 record_text i = compact_text (record_data i)
 

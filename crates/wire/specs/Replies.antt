@@ -8,7 +8,7 @@ use Rattle.wire.specs.Objects.{Field, HasExactly, object_of, whole}
 use Rattle.wire.specs.declared.reply.Reply.{Reply}
 use Rattle.wire.specs.declared.reply.Reply.TheVariants.{Received, Refused}
 
--- the fields of a reply, keys in byte order; 0 stands where nothing was refused
+-- the fields of a reply, keys in byte order; the code is 0 if nothing was refused
 abbrev pub reply_fields : Reply → List Field
 reply_fields Received = (codes "code", whole 0) ∷ (codes "result", string (codes "received")) ∷ []
 reply_fields (Refused code) = (codes "code", whole code.number) ∷ (codes "result", string (codes "refused")) ∷ []

@@ -1,4 +1,4 @@
--- What the code that writes messages and records relies on. No public contract cites this.
+-- Definitions that the code that writes messages and records relies on. No public contract cites them.
 use Rattle.status.specs.Order.{IsOrder}
 use Rattle.wire.specs.Messages.{IsSound}
 use Rattle.wire.specs.declared.input.Input.{Input}

@@ -8,8 +8,7 @@ use units::refusal_code::{
 };
 use units::{Items, NoMemory};
 
-/// What the log found: one or more codes from `WRONG_ACQUIRER` to `ACQUIRER_NOT_ELIGIBLE`, strictly
-/// ascending.
+/// The log's findings: one or more codes from `WRONG_ACQUIRER` to `ACQUIRER_NOT_ELIGIBLE`, strictly ascending.
 #[derive(Debug)]
 pub struct LogCodes {
     held: Items<u16>,
@@ -34,8 +33,7 @@ impl Model for LogCodes {
     ghost invariant = { λ c. AreLogCodes c.held };
 }
 
-/// What the acquirer found: one or more codes from `RECEIVER_UNKNOWN` to `KIND_NOT_TAKEN`, strictly
-/// ascending.
+/// The acquirer's findings: one or more codes from `RECEIVER_UNKNOWN` to `KIND_NOT_TAKEN`, strictly ascending.
 #[derive(Debug)]
 pub struct AcquirerCodes {
     held: Items<u16>,
@@ -76,7 +74,7 @@ fn ascends(codes: &[u16], first: u16, last: u16) -> bool
 }
 
 impl LogCodes {
-    /// These codes, or `None` where there is none, one is outside that range, or they don't ascend.
+    /// These codes, or `None` if there is none, one is outside that range, or they don't ascend.
     pub fn new(codes: Items<u16>) -> Option<LogCodes>
         ensures some { IfSome result (λ c. c ≡ codes) }
         ensures none { IfNone result (AreLogCodes codes → ⊥) }
@@ -109,7 +107,7 @@ impl LogCodes {
 }
 
 impl AcquirerCodes {
-    /// These codes, or `None` where there is none, one is outside that range, or they don't ascend.
+    /// These codes, or `None` if there is none, one is outside that range, or they don't ascend.
     pub fn new(codes: Items<u16>) -> Option<AcquirerCodes>
         ensures some { IfSome result (λ c. c ≡ codes) }
         ensures none { IfNone result (AreAcquirerCodes codes → ⊥) }

@@ -1,7 +1,7 @@
-//! Messages and records that stand just as they are written, read without a value of JSON in between.
+//! Messages and records whose text is exactly the one that is written for them, read without building a JSON value.
 //!
-//! What is found in such a text is a guess. It counts only where what is written of it is the text, byte for byte, so
-//! that nothing need be known of how it was found.
+//! Whatever is found in such a text is a guess. It counts only if the text written for it is the given text, byte for
+//! byte, so nothing has to be known about how it was found.
 ghost use Rattle.std.specs.Prelude.{IfOk, IfSome};
 ghost use Rattle.wire.specs.Messages.{IsLine};
 ghost use Rattle.wire.specs.Records.{IsRecordText};
@@ -15,7 +15,7 @@ use crate::writing_records::encode_input;
 use std::alloc::Global;
 use units::NoMemory;
 
-/// The message whose text is this line. `None` where it isn't found, and the line may write one in another way then.
+/// The message whose text is this line. `None` if it isn't found; the line may then write a message in another form.
 pub(crate) fn exact_message(alloc: Global, line: &[u8]) -> Result<Option<Message>, NoMemory>
     ensures { IfOk result (λ found. IfSome found (IsLine line.now)) }
 {
@@ -29,8 +29,8 @@ pub(crate) fn exact_message(alloc: Global, line: &[u8]) -> Result<Option<Message
     Ok(None)
 }
 
-/// The input whose record in format Two has this text. `None` where it isn't found, and the text may write one in
-/// another way then.
+/// The input whose record in format Two has this text. `None` if it isn't found; the text may then write an input in
+/// another form.
 pub(crate) fn exact_input(alloc: Global, text: &[u8]) -> Result<Option<Input>, NoMemory>
     ensures { IfOk result (λ found. IfSome found (IsRecordText Two text.now)) }
 {

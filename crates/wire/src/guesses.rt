@@ -1,5 +1,6 @@
-//! What a text may write, if it stands just as it is written: the most common messages and records. Keys and the signs
-//! between them are counted and not looked at, since whoever asks compares the text with what is written of the guess.
+//! Guesses of the message or record that a text writes, if it has exactly the written form: the most common messages
+//! and records. Keys and the signs between them are counted and not looked at, since the caller compares the text with
+//! the text written for the guess.
 ghost use Rattle.std.specs.Prelude.{◌<◌};
 
 use crate::input::{Input, Number};
@@ -11,7 +12,7 @@ use std::str::from_utf8;
 use units::limits::MOST_BLOCKS;
 use units::{Block, Code, Items, Node, RawBlock, cut, number};
 
-/// How many quotation marks stand before the text of a member: two around its key, and the one that begins the text.
+/// How many quotation marks come before the text of a member: two around its key, and the one that begins the text.
 const MARKS_BEFORE_A_TEXT: u32 = 3;
 
 /// A text that is read from its front.
@@ -21,13 +22,13 @@ struct Front<'a> {
 }
 
 impl<'a> Front<'a> {
-    /// The text; `None` where it isn't UTF-8.
+    /// The text; `None` if it isn't UTF-8.
     fn new(text: &'a [u8]) -> Option<Front<'a>> {
         let rest = from_utf8(text).ok()?;
         Some(Front { rest })
     }
 
-    /// Goes on after these characters, where they come next. Returns whether they do.
+    /// Goes on after these characters, if they come next. Returns whether they do.
     fn skip(&mut self, word: &str) -> bool {
         match self.rest.strip_prefix(word) {
             Some(rest) => {
@@ -38,7 +39,7 @@ impl<'a> Front<'a> {
         }
     }
 
-    /// What comes before the next such character. Goes on after it.
+    /// The text before the next such character. Goes on after it.
     fn before(&mut self, end: char) -> Option<&'a str>
         requires { end < 128 }
     {
@@ -104,7 +105,7 @@ impl<'a> Front<'a> {
         None
     }
 
-    /// The same of blocks as they were ordered.
+    /// The same for blocks as they were ordered.
     fn ordered(&mut self, alloc: Global) -> Option<Items<RawBlock>> {
         let mut list = self.list()?;
         let mut blocks = Vec::new(alloc);
@@ -151,7 +152,7 @@ fn proposal(alloc: Global, front: &mut Front<'_>) -> Option<Message> {
     Some(Message { from, to, id, body })
 }
 
-/// A notification without codes, after them.
+/// A notification without codes, read from after them.
 fn notification(front: &mut Front<'_>) -> Option<Message> {
     let from = front.node()?;
     let notified = notified_status(front.text()?)?;
@@ -175,14 +176,14 @@ pub(crate) fn guess_message(alloc: Global, line: &[u8]) -> Option<Message> {
     message(alloc, &mut front)
 }
 
-/// A message that was received, after the key.
+/// A message that was received, read from after the key.
 fn received(alloc: Global, front: &mut Front<'_>) -> Option<Input> {
     let message = message(alloc, front)?;
     let moment = Moment::new(front.number()?)?;
     Some(Input::Received { message, moment })
 }
 
-/// An acknowledgement, before its key.
+/// An acknowledgement, read from before its key.
 fn acknowledgement(front: &mut Front<'_>) -> Option<Input> {
     let key = Number::new(front.number()?)?;
     Some(Input::Ack(key))
@@ -199,7 +200,7 @@ fn order(alloc: Global, front: &mut Front<'_>) -> Option<Input> {
     Some(Input::Propose(order))
 }
 
-/// An input of which this may be the record.
+/// An input whose record this text may be.
 pub(crate) fn guess_input(alloc: Global, text: &[u8]) -> Option<Input> {
     let mut front = Front::new(text)?;
     if front.skip("{\"input\":\"received\",\"message\":") {

@@ -1,4 +1,4 @@
-//! What a node takes, and records in its journal.
+//! The inputs that a node takes and records in its journal.
 ghost use Rattle.std.specs.Prelude.{◌≡◌, ◌<◌, IfOk, IfSome, IfNone};
 ghost use Rattle.units.specs.Limits.{too_long};
 
@@ -15,7 +15,7 @@ pub struct Number {
     pub ghost short: { value < too_long },
 }
 
-/// What a node takes, and records in its journal.
+/// An input that a node takes and records in its journal.
 #[derive(Debug, Drop)]
 pub enum Input {
     /// An order to transfer units.
@@ -28,17 +28,16 @@ pub enum Input {
     CloseAccount(Number),
     /// The message that the node sent with that key was received.
     Ack(Number),
-    /// Transfers that were Checked `CLEAN_UP_AGE` seconds or more before that moment are to be
-    /// cancelled.
+    /// An order to cancel all transfers that were Checked `CLEAN_UP_AGE` seconds or more before that moment.
     CleanUp(Moment),
-    /// Whether that registry may take part in transfers from here on.
+    /// An order that says whether that registry may take part in transfers from here on.
     Eligible { registry: Code, may: bool },
     /// A message, and the moment at which it came.
     Received { message: Message, moment: Moment },
 }
 
 impl Number {
-    /// That number, where it has at most `MOST_DIGITS` digits.
+    /// That number, if it has at most `MOST_DIGITS` digits.
     pub fn new(value: u64) -> Option<Number>
         ensures some { IfSome result (λ n. n.value ≡ value) }
         ensures none { IfNone result (value < too_long → ⊥) }

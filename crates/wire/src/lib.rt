@@ -1,4 +1,4 @@
-//! What nodes say to one another and what their journals keep, as text.
+//! The messages of nodes and the records of their journals, as text.
 #![tactic(auto)]
 
 mod codes;

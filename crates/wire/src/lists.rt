@@ -24,7 +24,7 @@ fn block(value: &Value) -> Option<Block>
     Block::read(text).ok()
 }
 
-/// The block that the value writes, whatever its numbers.
+/// The block that the value writes, with numbers of any size.
 fn raw_block(value: &Value) -> Option<RawBlock>
     ensures { Reads (IsRawItem (view value.now)) result }
 {
@@ -52,7 +52,7 @@ fn each_block(alloc: Global, values: &[Value]) -> Result<Items<Block>, TextFault
     Ok(Items::from_vec(blocks))
 }
 
-/// The blocks of an array, whatever their numbers.
+/// The blocks of an array, with numbers of any size.
 fn each_raw_block(alloc: Global, values: &[Value]) -> Result<Items<RawBlock>, TextFault>
     ensures { Finds (EachIs IsRawItem (items_view values.now)) result }
 {
@@ -84,7 +84,7 @@ pub fn blocks(alloc: Global, value: &Value) -> Result<Items<Block>, TextFault>
     each_block(alloc, list.as_slice())
 }
 
-/// The blocks at the key `units`, whatever their numbers of at most `MOST_DIGITS` digits.
+/// The blocks at the key `units`, with any numbers of at most `MOST_DIGITS` digits.
 pub fn raw_blocks(alloc: Global, value: &Value) -> Result<Items<RawBlock>, TextFault>
     ensures { Finds (λ rs. HasAt (view value.now) (codes "units") (blocks rs)
         × AllByRecursion (λ b. (b.first < too_long) × (b.last < too_long)) rs) result }

@@ -28,11 +28,11 @@ impl Drop for Proposal {
     }
 }
 
-/// What a message says about its transaction.
+/// The content of a message about its transaction.
 #[derive(Debug)]
 pub enum Body {
     Proposal(Proposal),
-    /// How the transfer stands at the sender.
+    /// The status of the transfer at the sender.
     Notification(NotifiedStatus),
     /// A registry asks the log to cancel the transfer that it proposed.
     Request,
@@ -54,7 +54,7 @@ impl Drop for Body {
 pub struct Message {
     pub from: Node,
     pub to: Node,
-    /// Its code is the initiator.
+    /// The transaction; the code in its id is that of the initiator.
     pub id: TransactionId,
     pub body: Body,
 }
@@ -73,7 +73,7 @@ impl Drop for Message {
 }
 
 impl ProposalStatus {
-    /// The status of a transfer that it stands for.
+    /// This status as a status of transfers.
     pub fn status(self) -> Status
         ensures { result ≡ proposal_status self }
     {
@@ -85,7 +85,7 @@ impl ProposalStatus {
 }
 
 impl NotifiedStatus {
-    /// The status that it tells.
+    /// The status that it notifies.
     pub fn status(&self) -> Status
         ensures { result ≡ notified_status self.now }
     {
@@ -98,7 +98,7 @@ impl NotifiedStatus {
         }
     }
 
-    /// The codes of what was found: none but at Rejected and Terminated.
+    /// The codes of the findings: none except at Rejected and Terminated.
     pub fn codes(&self) -> &[u16]
         ensures value { result.now ≡ notified_codes self.now }
         ensures valid { IsNotified self.now }

@@ -1,14 +1,14 @@
-//! What a notification says.
+//! The content of a notification.
 
 use crate::codes::{AcquirerCodes, LogCodes};
 
-/// How a transfer stands, as one node tells another, with the codes of what was found where it failed.
+/// The status of a transfer, as one node notifies another of it, with the codes of the findings if the transfer failed.
 #[derive(Debug, Drop)]
 pub enum NotifiedStatus {
     Accepted,
-    /// By the acquirer, for what it found.
+    /// By the acquirer, for these findings.
     Rejected(AcquirerCodes),
-    /// By the log, for what it found.
+    /// By the log, for these findings.
     Terminated(LogCodes),
     Cancelled,
     Completed,

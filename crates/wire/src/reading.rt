@@ -28,7 +28,7 @@ const NO_MESSAGE: Refusal = Refusal {
     code: NOT_A_MESSAGE,
 };
 
-/// What a proposal carries.
+/// The content of a proposal.
 fn content(alloc: Global, value: &Value) -> Result<Content, TextFault>
     ensures { Finds (HasContent (view value.now)) result }
 {
@@ -52,7 +52,7 @@ fn proposal_status(value: &Value) -> Option<ProposalStatus>
     None
 }
 
-/// The status, which has no codes.
+/// The status, which must have no codes.
 fn without_codes(notified: NotifiedStatus, codes: &[u16]) -> Option<NotifiedStatus>
     ensures some { IfSome result (λ n. (n ≡ notified) × (codes.now ≡ [])) }
     ensures none { IfNone result (codes.now ≡ [] → ⊥) }
@@ -85,7 +85,7 @@ fn notified_of(text: &str, codes: Items<u16>) -> Option<NotifiedStatus>
     }
 }
 
-/// What a notification says.
+/// The content of a notification.
 fn notified(alloc: Global, value: &Value) -> Result<NotifiedStatus, TextFault>
     ensures { Finds (HasNotified (view value.now)) result }
 {
@@ -109,7 +109,7 @@ fn is_call(value: &Value, count: usize, name: &str) -> bool
     has_keys(value, count) && has_text(value, "call", name)
 }
 
-/// What a message says about its transaction.
+/// The content of a message about its transaction.
 fn body(alloc: Global, value: &Value) -> Result<Body, TextFault>
     ensures { Finds (HasBody (view value.now)) result }
 {
@@ -153,10 +153,9 @@ fn read_line(alloc: Global, line: &[u8]) -> Result<Message, TextFault>
     }
 }
 
-/// The message that a line writes, in JSON (RFC 8259) without its newline. Refused by
-/// `NOT_A_MESSAGE`: the line has more than `LONGEST_LINE` bytes, is no JSON in UTF-8, or has a key or
-/// a value outside the grammar of messages, or lacks one. By `OUT_OF_MEMORY`: an allocation was
-/// refused, which says nothing of the line.
+/// The message that a line writes, in JSON (RFC 8259) without its newline. Fails with `NOT_A_MESSAGE` if the line has
+/// more than `LONGEST_LINE` bytes, is no JSON in UTF-8, has a key or a value outside the grammar of messages, or lacks
+/// one. Fails with `OUT_OF_MEMORY` if an allocation was refused; that says nothing about the line.
 pub fn decode(alloc: Global, line: &[u8]) -> Result<Message, Refusal>
     ensures ok { IfOk result (λ m. IsLine line.now m) }
     ensures refused { IfErr result (λ e. (e.code ≡ out_of_memory)
@@ -169,8 +168,8 @@ pub fn decode(alloc: Global, line: &[u8]) -> Result<Message, Refusal>
     }
 }
 
-/// A line writes one message at most. So what `encode` writes of a message, `decode` reads as that
-/// message or refuses by `OUT_OF_MEMORY`.
+/// A line writes at most one message. Therefore `decode` reads the text that `encode` writes for a message as that
+/// message, or fails with `OUT_OF_MEMORY`.
 pub fn one_message()
     ensures { (line : List ℕ) (m n : Message) → IsLine line m → IsLine line n → m ≡ n }
 {}

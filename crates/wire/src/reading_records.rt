@@ -26,7 +26,7 @@ use status::{Moment, Order, TransactionId};
 use std::alloc::Global;
 use units::{Block, Code};
 
-/// Whether the object is a record of that word, with `own` keys besides those of the format.
+/// Whether the object is a record with that word, with `own` keys besides those of the format.
 fn has_word(value: &Value, format: RecordFormat, word: &str, own: u8) -> bool
     ensures { IsTrue result ↔ HasWord format (view value.now) word.now own }
 {
@@ -59,7 +59,7 @@ fn request_order(value: &Value, format: RecordFormat) -> Option<TransactionId>
     id_at(value, "transaction")
 }
 
-/// The account of an order of that word.
+/// The account of an order with that word.
 fn account_order(value: &Value, format: RecordFormat, word: &str) -> Option<Number>
     ensures { Reads (IsAccountOrder format (view value.now) word.now) result }
 {
@@ -108,7 +108,7 @@ fn are_up_to(blocks: &[Block], last: u64) -> bool
     blocks.iter().all(|block| block.raw.last <= last)
 }
 
-/// Whether the format has all units of a message with that body.
+/// Whether all units of a message with that body are within the format.
 fn are_units_within(body: &Body, format: RecordFormat) -> bool
     ensures { IsTrue result ↔ AreUnitsWithin format body.now }
 {
@@ -201,9 +201,9 @@ fn read_text(alloc: Global, text: &[u8], format: RecordFormat) -> Result<Input, 
     }
 }
 
-/// The input that a record's text of format Two writes, in JSON (RFC 8259). `Shape`: the text is no
-/// JSON in UTF-8, or has a key or a value outside the grammar of records, or lacks one. `NoMemory`:
-/// an allocation was refused, which says nothing of the text.
+/// The input that a record's text of format Two writes, in JSON (RFC 8259). Fails with `Shape` if the text is no JSON
+/// in UTF-8, has a key or a value outside the grammar of records, or lacks one. Fails with `NoMemory` if an allocation
+/// was refused; that says nothing about the text.
 pub fn decode_input(alloc: Global, text: &[u8]) -> Result<Input, TextFault>
     ensures { Finds (IsRecordText Two text.now) result }
 {
@@ -221,9 +221,8 @@ pub fn decode_input_v1(alloc: Global, text: &[u8]) -> Result<Input, TextFault>
     read_text(alloc, text, RecordFormat::One)
 }
 
-/// In each format a text writes one input at most. So what `encode_input` writes of an input,
-/// `decode_input` reads as that input, unless an allocation is refused. And no text writes an input
-/// in both formats.
+/// In each format a text writes at most one input. Therefore `decode_input` reads the text that `encode_input` writes
+/// for an input as that input, unless an allocation is refused. And no text writes an input in both formats.
 pub fn one_input()
     ensures one { (format : RecordFormat) (text : List ℕ) (i j : Input) → IsRecordText format text i
         → IsRecordText format text j → i ≡ j }

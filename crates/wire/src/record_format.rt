@@ -11,15 +11,14 @@ use units::limits::{LAST_UNIT, LAST_UNIT_OF_FORMAT_ONE};
 /// A format of a journal's records.
 #[derive(Clone, Copy, Debug, PartialEq, Eq)]
 pub enum RecordFormat {
-    /// A record has the keys of its input alone, and no message in it has a unit above
-    /// `LAST_UNIT_OF_FORMAT_ONE`.
+    /// A record has only the keys of its input, and no message in it has a unit above `LAST_UNIT_OF_FORMAT_ONE`.
     One,
-    /// A record has the key `v` too, whose value is the format's number, and units go to `LAST_UNIT`.
+    /// A record also has the key `v`, whose value is the format's number, and units go to `LAST_UNIT`.
     Two,
 }
 
 impl RecordFormat {
-    /// The number that tells the format, in a record of format Two and in a store: 1 or 2.
+    /// The number of the format, in a record of format Two and in a store: 1 or 2.
     pub fn number(self) -> u8
         ensures { result ≡ number_of self }
     {

@@ -1,4 +1,4 @@
-//! What a node replies to a message.
+//! The replies of a node to messages.
 ghost use Rattle.std.specs.Prelude.{◌≡◌, ℕ, List, Err, IfOk, IfSome, IfNone};
 ghost use Rattle.serde_json.specs.View.{view};
 ghost use Rattle.wire.specs.Objects.{HasExactly};
@@ -13,12 +13,12 @@ use thiserror::Error;
 use units::limits::LONGEST_LINE;
 use units::refusal_code::OUT_OF_MEMORY;
 
-/// What a node replies to a message.
+/// The reply of a node to a message.
 #[derive(Clone, Copy, Debug, PartialEq, Eq)]
 pub enum Reply {
     /// The message was received.
     Received,
-    /// The message was refused, for the reason that the code tells.
+    /// The message was refused, for the reason with this code.
     Refused(ReplyCode),
 }
 
@@ -28,7 +28,7 @@ pub enum ReplyFault {
     /// It is not a reply's JSON.
     #[error("not a reply")]
     NotReply,
-    /// An allocation was refused, which says nothing of the line.
+    /// An allocation was refused; that says nothing about the line.
     #[error("out of memory")]
     NoMemory,
 }
@@ -69,13 +69,12 @@ impl Reply {
         }
     }
 
-    /// The reply that a line without its newline writes, in whatever order of keys and with whatever
-    /// blanks between.
+    /// The reply that a line without its newline writes, with the keys in any order and any blanks between.
     ///
-    /// - `NotReply`: it has more than `LONGEST_LINE` bytes, or is no JSON in UTF-8, or its JSON value
-    ///   is not an object of the two keys `code` and `result`, or these are not 0 and `received`, nor
-    ///   a `ReplyCode` and `refused`.
-    /// - `NoMemory`: an allocation was refused, which says nothing of the line.
+    /// - `NotReply`: it has more than `LONGEST_LINE` bytes, or is no JSON in UTF-8, or its JSON value is not an object
+    ///   with exactly the keys `code` and `result`, or these are neither 0 and `received` nor a `ReplyCode` and
+    ///   `refused`.
+    /// - `NoMemory`: an allocation was refused; that says nothing about the line.
     pub fn read(alloc: Global, line: &[u8]) -> Result<Reply, ReplyFault>
         ensures ok { IfOk result (λ r. IsReply line.now r) }
         ensures fault { result ≡ Err ReplyFault.NotReply → (r : Reply) → IsReply line.now r → ⊥ }
@@ -91,7 +90,7 @@ impl Reply {
     }
 }
 
-/// What `write` writes is read as that reply, and a line writes one reply at most.
+/// The text of a reply is read as that reply, and a line writes at most one reply.
 pub fn one_reply()
     ensures written { (r : Reply) → IsReply (reply_text r) r }
     ensures one { (line : List ℕ) (r s : Reply) → IsReply line r → IsReply line s → r ≡ s }

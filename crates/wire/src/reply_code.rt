@@ -13,7 +13,7 @@ pub struct ReplyCode {
 }
 
 impl ReplyCode {
-    /// That number, where it is in the range.
+    /// That number, if it is in the range.
     pub fn new(number: u16) -> Option<ReplyCode>
         ensures some { IfSome result (λ c. c.number ≡ number) }
         ensures none { IfNone result ((not_a_message ≤ number) × (number ≤ out_of_memory) → ⊥) }

@@ -1,4 +1,4 @@
-//! When messages and inputs are the same.
+//! Equality of messages and of inputs.
 ghost use Rattle.std.specs.Prelude.{◌≡◌, ◌↔◌, IsTrue};
 
 use crate::input::{Input, Number};

@@ -117,8 +117,8 @@ pub(crate) fn write_message(
     out.end_object()
 }
 
-/// The text of a message: compact JSON, keys in byte order, no newline, at most 8,192 bytes. Or
-/// `NoMemory`, where an allocation was refused.
+/// The text of a message: compact JSON, keys in byte order, no newline, at most 8,192 bytes. Fails with `NoMemory` if
+/// an allocation was refused.
 pub fn encode(alloc: Global, message: &Message) -> Result<Vec<u8>, NoMemory>
     ensures text { IfOk result (λ v. v.items ≡ message_text message.now) }
     ensures line { IfOk result (λ v. IsLine v.items message.now) }

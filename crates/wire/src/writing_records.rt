@@ -101,7 +101,7 @@ fn put_received(
     out.put_number("moment", moment.seconds)
 }
 
-/// The fields of an input's record but those of the format.
+/// The fields of an input's record, except those of the format.
 fn put_input(alloc: Global, out: &mut JsonText, input: &Input) -> Result<(), NoMemory>
     ensures fields { OnOk result
         (out.new ≡ after_fields out.old (input_fields (message_in input.now) input.now)) }
@@ -130,8 +130,8 @@ fn write_record(alloc: Global, out: &mut JsonText, input: &Input) -> Result<(), 
     out.end_object()
 }
 
-/// The text of a record in format Two, which says what was taken: compact JSON, keys in byte order, no
-/// newline. Or `NoMemory`, where an allocation was refused.
+/// The text of the record of an input in format Two: compact JSON, keys in byte order, no newline. Fails with
+/// `NoMemory` if an allocation was refused.
 pub fn encode_input(alloc: Global, input: &Input) -> Result<Vec<u8>, NoMemory>
     ensures text { IfOk result (λ v. v.items ≡ record_text input.now) }
     ensures record { IfOk result (λ v. IsRecordText Two v.items input.now) }

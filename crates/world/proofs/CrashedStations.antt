@@ -1,4 +1,4 @@
--- What a crash leaves of a station, by its journal and how many of its records are committed.
+-- A station after a crash, by its journal and how many of its records are committed.
 use Rattle.std.proofs.Common.{◌≡◌, ℕ, ◌+◌, ◌-◌, ◌≤◌, Bool, true, false, List, [], take, drop, length, sym, ap, subst, ◌∙◌, arith}
 use Rattle.std.specs.Prelude.{nat_le}
 use Rattle.std.proofs.Math.ListN.{drop_of_length-le}
@@ -13,7 +13,7 @@ use Rattle.world.specs.Cores.{journal_of, node_of}
 use Rattle.world.specs.declared.any_core.Core.{Core}
 use Rattle.world.proofs.TailsOfJournals.{take_more}
 
--- a running node of which the first records are committed
+-- a running node with its first records committed
 abbrev pub at : Node → ℕ → List Input → Station
 at n c j = record { node = n; committed = take c j; tail = drop c j; runs = true }
 

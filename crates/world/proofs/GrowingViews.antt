@@ -1,4 +1,4 @@
--- What a world shows, gathered one element at a time.
+-- The views of a world, gathered one element at a time.
 use Rattle.std.proofs.Common.{◌≡◌, Bool, true, false, ℕ, zero, suc, ◌+◌, ◌<◌, List, [], ◌∷◌, ◌++◌, map, take, length, get_or, Option, Some, None, refl, sym, ap, ◌∙◌, subst, arith}
 use Rattle.std.specs.Prelude.{option_and_then, slice_get}
 use Rattle.std.specs.List.{filter, filter_map, flat_map, cons_option}
@@ -18,7 +18,7 @@ use Rattle.world.specs.declared.views.Stock.{Stock}
 pub front_more : {X : Type 0} (xs : List X) (i : ℕ) (x : X) → i < length xs → x ≡ get_or xs i x → take (i + 1) xs ≡ take i xs ++ x ∷ []
 front_more xs i x h is = take_more xs i x h ∙ ap (λ y. take i xs ++ y ∷ []) (sym is)
 
--- ---- what is gathered of all elements, and of those that pass a test
+-- ---- the values gathered from all elements, and from those that pass a test
 
 pub flat_map_next : {X Y : Type 0} (f : X → List Y) (xs : List X) (i : ℕ) (x : X) → i < length xs → x ≡ get_or xs i x → flat_map f (take (i + 1) xs) ≡ flat_map f (take i xs) ++ f x
 flat_map_next f xs i x h is = ap (flat_map f) (front_more xs i x h is) ∙ flat_map-append f (take i xs) (x ∷ []) ∙ ap (λ l. flat_map f (take i xs) ++ l) (append-nil (f x))
@@ -38,7 +38,7 @@ filter_next keeps f xs i x h is e = seen_next keeps f xs i x h is ∙ ap (λ l. 
 pub filter_past : {X Y : Type 0} (keeps : Y → Bool) (f : X → Y) (xs : List X) (i : ℕ) (x : X) → i < length xs → x ≡ get_or xs i x → keeps (f x) ≡ false → filter keeps (map f (take (i + 1) xs)) ≡ filter keeps (map f (take i xs))
 filter_past keeps f xs i x h is e = seen_next keeps f xs i x h is ∙ ap (λ l. filter keeps (map f (take i xs)) ++ l) (fails keeps (f x) e) ∙ append-nil (filter keeps (map f (take i xs)))
 
--- ---- what is gathered of the elements of which there is something
+-- ---- the values gathered from the elements that have one
 
 one : {X Y : Type 0} (f : X → Option Y) (x : X) → filter_map f (x ∷ []) ≡ option_to_list (f x)
 one {Y = Y} f x = of (f x)
@@ -61,7 +61,7 @@ next f (x ∷ xs) (suc k) = ap (cons_option (f x)) (next f xs k) ∙ cons_append
 pub filter_map_next : {X Y : Type 0} (f : X → Option Y) (xs : List X) (k : ℕ) → filter_map f (take (k + 1) xs) ≡ filter_map f (take k xs) ++ option_to_list (option_and_then f (slice_get xs k))
 filter_map_next f xs k = let same : k + 1 ≡ suc k = omega arith in ap (λ i. filter_map f (take i xs)) same ∙ next f xs k
 
--- ---- what the registries hold
+-- ---- the holdings of the registries
 
 lines_push : (w : World) (ms : List SchemeRegistry) (lss : List (List HeldBlock)) (m : SchemeRegistry) (ls : List HeldBlock) → AreLines w ms lss → AreHoldings (registry_at w m.code) ls → AreLines w (ms ++ m ∷ []) (lss ++ ls ∷ [])
 lines_push w [] [] m ls are holds = (holds, tt)

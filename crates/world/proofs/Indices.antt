@@ -1,4 +1,4 @@
--- Where a node stands among the stations of a world.
+-- The index of a node among the stations of a world.
 use Rattle.std.proofs.Common.{◌≡◌, ℕ, zero, suc, ◌+◌, ◌<◌, Bool, true, false, List, [], ◌∷◌, map, find, length, get_or, Some, None, cond, refl, sym, ap, ◌∙◌, subst, arith}
 use Rattle.std.proofs.Math.ListN.{set}
 use Rattle.std.specs.List.{position_from}
@@ -72,7 +72,7 @@ put_from (x ∷ ss) (suc j) s h = rw h.0 (ap (λ (l : List Station). station_of 
 pub index_put : (ss : List Kept) (n : Node) (at : ℕ) (s : Kept) → node_of s.core ≡ n → IsIndex ss n at → put_station (station_of s) (map station_of ss) ≡ map station_of (set ss at s)
 index_put ss n at s e p = put_from ss at s (subst (λ (m : Node). StandsAt ss m at) (sym e) p.stands)
 
--- a node of which the same is seen
+-- a node with the same view
 pub same_seen : (ss : List Kept) (at : ℕ) (old new : Kept) → old ≡ get_or ss at old → station_of new ≡ station_of old → map station_of (set ss at new) ≡ map station_of ss
 same_seen [] at old new is e = refl
 same_seen (x ∷ ss) zero old new is e = ap (λ (s : Station). s ∷ map station_of ss) (e ∙ ap station_of is)

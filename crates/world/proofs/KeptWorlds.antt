@@ -1,4 +1,5 @@
--- What a world keeps beside what is seen of it: after a turn of one station, and after a message is posted.
+-- The fields of the code's world that the protocol's world doesn't have: after a turn of one station, and after a
+-- message is posted.
 use Rattle.std.proofs.Common.{◌≡◌, ℕ, zero, suc, Bool, true, false, List, [], ◌∷◌, ◌++◌, map, Option, Some, None, get_or, inl, inr, refl, sym, ap, ◌∙◌, subst}
 use Rattle.std.specs.BTreeSet.{contains}
 use Rattle.std.specs.Ordering.{nat_cmp}
@@ -66,7 +67,7 @@ posted_nothing scheme ss bag n key k e =
 
 -- ---- a turn
 
--- the scheme, the node and the keys of what it posted are as before
+-- the scheme, the node and the keys of the messages that it posted are as before
 pub record Stays (old new : Kept) : Type 0 where
   pub scheme : scheme_of new.core ≡ scheme_of old.core
   pub node : node_of new.core ≡ node_of old.core
@@ -167,7 +168,7 @@ kept_post scheme ss bag at p old new k e is core marks =
       among = All-push (λ (p : Posted). is_node scheme p.node ≡ true) bag p k.among inside;
     }
 
--- what the node of that index sends
+-- the messages that the node of that index sends
 sends_from : (scheme : Scheme) (ss : List Kept) (bag : List Posted) (n : Node) (at key : ℕ) (s : Kept) (o : Option Message) → AreKept scheme ss bag → Some at ≡ index_of scheme n → s ≡ get_or ss at s
     → o ≡ sent (scheme_of s.core) key (station_of s) → option_and_then (sent scheme key) (station (world_of scheme ss bag) n) ≡ o
 sends_from scheme ss bag n at key s o k e is so =

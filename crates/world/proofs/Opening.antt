@@ -20,7 +20,7 @@ opens_more ss ms i m h is old =
     ∙ sym (map-append (λ (m : SchemeRegistry). opening_station (Registry m.code)) (take i ms) (get_or ms i m ∷ []))
     ∙ sym (ap (map (λ (m : SchemeRegistry). opening_station (Registry m.code))) (take_more ms i m h)))
 
--- the nodes of stations, as the protocol's words see them
+-- the nodes of stations, in the protocol's world
 seen_nodes : (ss : List Kept) → map (λ s. node_of s.core) ss ≡ map (λ s. s.node) (map station_of ss)
 seen_nodes [] = refl
 seen_nodes (s ∷ ss) = ap (λ (l : List Node). node_of s.core ∷ l) (seen_nodes ss)

@@ -1,4 +1,4 @@
--- What the protocol's words say of a registry of a world, and of a code that the scheme lacks.
+-- The protocol's facts about a registry of a world, and about a code that the scheme lacks.
 use Rattle.std.proofs.Common.{◌≡◌, ℕ, zero, suc, ◌<◌, Bool, true, false, List, [], ◌∷◌, find, length, get_or, Option, Some, None, option_map, is_some, cond, refl, ap, ◌∙◌, subst, arith}
 use Rattle.std.specs.Option.{option_or}
 use Rattle.units.specs.Code.{same_code}
@@ -57,7 +57,7 @@ holds_none scheme c s e = rw (not_allotted c scheme.members s e) refl
 
 -- ---- a registry of the scheme
 
--- what a contract says of the registry that was found, or of none
+-- the contract's fact about the registry that was found, or about none
 pub registry_is : (w : World) (c : Code) (r : RecordedStatus) → Some r ≡ cond (has_member w.scheme c) (Some (registry_at w c)) None → r ≡ registry_at w c
 registry_is w c r e = pick (has_member w.scheme c) e
   where

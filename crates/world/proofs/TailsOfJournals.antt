@@ -1,4 +1,4 @@
--- A journal of which more is committed, and the messages that its committed part sends.
+-- A journal after more of it was committed, and the messages that its committed part sends.
 use Rattle.std.proofs.Common.{◌≡◌, ℕ, ◌+◌, ◌-◌, ◌<◌, ◌≤◌, subst, true, List, [], ◌∷◌, ◌++◌, take, drop, length, None, zero, suc, refl, sym, ap, ◌∙◌, arith}
 use Rattle.std.specs.Prelude.{nat_le, slice_get}
 use Rattle.std.proofs.Math.Seq.{take-append-add}

@@ -1,4 +1,4 @@
--- What a world keeps beside what the protocol's words see of it.
+-- The fields of the code's world that the protocol's world doesn't have.
 use Rattle.std.specs.BTreeSet.{contains}
 use Rattle.std.specs.Ordering.{nat_cmp}
 use Rattle.std.specs.Prelude.{◌≡◌, ℕ, true, false, List, [], map, All}
@@ -22,12 +22,12 @@ pub record IsFresh (scheme : Scheme) (s : Station) : Type 0 where
   pub scheme_is : scheme_of s.core ≡ scheme
   pub none : (key : ℕ) → contains nat_cmp s.posted key ≡ false
 
--- the core goes by that scheme, and the station's keys are those of its messages in the bag
+-- the core has that scheme, and the station's keys are those of its messages in the bag
 pub record IsKept (scheme : Scheme) (bag : List Posted) (s : Station) : Type 0 where
   pub scheme_is : scheme_of s.core ≡ scheme
   pub marked : (key : ℕ) → contains nat_cmp s.posted key ≡ was_posted (world_of scheme [] bag) (node_of s.core) key
 
--- each node of the scheme has its station, and nodes of the scheme alone posted messages
+-- each node of the scheme has its station, and only nodes of the scheme posted messages
 pub record AreKept (scheme : Scheme) (stations : List Station) (bag : List Posted) : Type 0 where
   pub nodes_are : map (λ s. node_of s.core) stations ≡ nodes scheme
   pub kept : All (IsKept scheme bag) stations

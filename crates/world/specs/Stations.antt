@@ -1,4 +1,4 @@
--- A station as the protocol's words see it.
+-- A station of the code as a station of the protocol.
 use Rattle.std.specs.Prelude.{[], List, map, take, drop, true}
 use Rattle.scheme.specs.declared.registries.Scheme.{Scheme}
 use Rattle.protocol.specs.World as worlds
@@ -6,7 +6,7 @@ use Rattle.world.specs.Cores.{journal_of, node_of}
 use Rattle.world.specs.declared.any_core.Core.{Core}
 use Rattle.world.specs.declared.station.Station.{Station}
 
--- its node, its journal, of which the first records are committed, and whether it runs
+-- its node, its journal with the first records committed, and whether it runs
 abbrev pub station_of : Station → worlds.Station
 station_of s = record { node = node_of s.core; committed = take s.committed (journal_of s.core); tail = drop s.committed (journal_of s.core); runs = s.runs }
 

@@ -1,4 +1,4 @@
--- What the registries of a world hold.
+-- The holdings of the registries of a world.
 use Rattle.std.specs.Prelude.{◌≡◌, Bool, true, false, List, map, Option, Some, None}
 use Rattle.registry_core.specs.HeldBlock.{HeldBlock}
 use Rattle.scheme.specs.declared.members.SchemeRegistry.{SchemeRegistry}
@@ -14,7 +14,7 @@ HoldsIf r true (Some lines) = AreHoldings r lines
 HoldsIf r false None = Unit {0}
 HoldsIf r _ _ = ⊥
 
--- what each registry holds, in the scheme's order
+-- the holdings of each registry, in the scheme's order
 pub record AreStocks (w : World) (members : List SchemeRegistry) (stocks : List Stock) : Type 0 where
   pub codes : map (λ s. s.code) stocks ≡ map (λ m. m.code) members
   pub lines : AreLines w members (map (λ s. s.lines) stocks)

@@ -34,13 +34,13 @@ fn core_before(core: &Core, records: usize) -> Result<Core, NoMemory>
     match replay(core, &core.journal()[..records]) {
         Ok(core) => Ok(core),
         Err(ReplayFault::NoMemory) => Err(NoMemory),
-        // A journal's first records are recorded again.
+        // The first records of a journal are always recorded again.
         Err(ReplayFault::NotRecorded(_)) => unreachable!(),
     }
 }
 
-/// Lets the core have the first `records` records of its journal alone. Only where records are lost is the journal that
-/// is left replayed. After `NoMemory` the core is as it was.
+/// Cuts the core's journal to its first `records` records. Only where this drops records is the remaining journal
+/// replayed. After `NoMemory` the core is as it was.
 fn cut_core(core: &mut Core, records: usize) -> Result<(), NoMemory>
     requires { records ≤ length (journal_of core.old) }
     ensures front { OnOk result (take records (journal_of core.new) ≡ take records (journal_of core.old)) }
@@ -75,7 +75,7 @@ impl Station {
         }
     }
 
-    /// Takes an input, which gives the protocol's outcome. After `NoMemory` the node is as it was.
+    /// Takes an input, with the protocol's outcome. After `NoMemory` the node is as it was.
     pub(crate) fn take(&mut self, input: &Input) -> Result<Outcome, NoMemory>
         ensures ok { IfOk result
             (λ o. record { station = station_of self.new; outcome = o }
@@ -111,8 +111,8 @@ impl Station {
         }
     }
 
-    /// Stops the node, where it runs and its tail has `kept` records: these are committed, and the others are lost.
-    /// After `NoMemory` the node is as it was.
+    /// Stops the node, where it runs and its tail has `kept` records: these are committed, and the other records of the
+    /// tail are lost. After `NoMemory` the node is as it was.
     pub(crate) fn crash(&mut self, kept: u64) -> Result<Outcome, NoMemory>
         ensures ok { IfOk result
             (λ o. record { station = station_of self.new; outcome = o } ≡ worlds.crash kept (station_of self.old)) }
@@ -159,7 +159,7 @@ impl Station {
         }
     }
 
-    /// The message with that key was posted. Fails with `NoMemory`, and nothing has changed.
+    /// Notes that the message with that key was posted. After `NoMemory` nothing has changed.
     pub(crate) fn mark_posted(&mut self, key: u64) -> Result<(), NoMemory>
         ensures seen { station_of self.new ≡ station_of self.old }
         ensures core { self.new.core ≡ self.old.core }

@@ -1,4 +1,4 @@
-//! The nodes of a world, by the node that each is.
+//! The stations of a world, one for each node.
 ghost use Rattle.std.specs.BTreeSet.{contains};
 ghost use Rattle.std.specs.Ordering.{nat_cmp};
 ghost use Rattle.std.specs.Prelude.{◌≡◌, ◌++◌, ◌∷◌, [], ℕ, false, map, All, IfOk, OnOk};
@@ -40,7 +40,7 @@ fn add_opening_station(
     Ok(())
 }
 
-/// Adds the stations of the opening world where there are none: the log, then the registries in the scheme's order.
+/// Adds the stations of the opening world to an empty list: the log, then the registries in the scheme's order.
 fn add_opening_stations(
     stations: &mut Vec<Station>,
     alloc: Global,
@@ -88,7 +88,7 @@ pub(crate) fn cores_of(alloc: Global, stations: Vec<Station>) -> Result<Vec<Core
     Ok(cores)
 }
 
-/// The stations of these cores, each of which has committed and posted nothing.
+/// The stations of these cores; each has committed and posted nothing.
 pub(crate) fn uncommitted_stations(
     alloc: Global,
     cores: Vec<Core>,

@@ -1,4 +1,4 @@
-//! What a world shows: of each node its journal with the tail, and what the tables of its core say.
+//! Queries on a world: for each node, its journal with the tail, and the contents of its core's tables.
 ghost use Rattle.std.specs.List.{filter, filter_map, list_any};
 ghost use Rattle.std.specs.Option.{option_copied, option_to_list};
 ghost use Rattle.std.specs.Prelude.{◌≡◌, ◌++◌, [], cond, map, is_some, slice_get, Some, None, option_map, option_and_then, IfOk, IfNone, IfSome, OnOk};
@@ -28,7 +28,7 @@ use std::alloc::Global;
 use units::{Block, Code, Items, NoMemory, Node, Unit};
 use wire::{Body, Input, Message};
 
-/// What a registry holds: lines by account and then in the order of units.
+/// The holdings of a registry: lines by account and then in the order of units.
 #[derive(Debug)]
 pub struct Stock {
     pub code: Code,
@@ -118,7 +118,7 @@ fn add_all_proposed<'a>(
 }
 
 impl World {
-    /// The scheme that the world goes by.
+    /// The scheme of the world.
     pub fn scheme(&self) -> &Scheme
         ensures { result.now ≡ self.now.scheme }
     {
@@ -137,7 +137,8 @@ impl World {
         Some(&self.stations[at])
     }
 
-    /// Where a transaction stands at a node, or `None` where the node has no record of it or the scheme no such node.
+    /// Where a transaction stands at a node, or `None` where the node has no record of it or the scheme has no such
+    /// node.
     pub fn status(&self, node: Node, id: TransactionId) -> Option<Status>
         ensures { result ≡ stands (transitions_of (live_of self.now node)) id }
     {
@@ -209,8 +210,8 @@ impl World {
         }
     }
 
-    /// What a registry holds, as lines by account and then in the order of units; or `None` where the scheme has no
-    /// such registry. Fails with `NoMemory`.
+    /// The holdings of a registry, as lines by account and then in the order of units; or `None` where the scheme has
+    /// no such registry. Fails with `NoMemory` where memory runs out.
     pub fn holdings(&self, registry: Code) -> Result<Option<Vec<HeldBlock>>, NoMemory>
         ensures { IfOk result
             (λ found. HoldsIf (registry_at self.now registry) (has_member self.now.scheme registry)
@@ -222,7 +223,7 @@ impl World {
         }
     }
 
-    /// The transfers that registries proposed, by code and then by number. Or `NoMemory`.
+    /// The transfers that registries proposed, by code and then by number. Fails with `NoMemory` where memory runs out.
     pub fn transactions(&self, alloc: Global) -> Result<Vec<ProposedTransfer<'_>>, NoMemory>
         ensures { IfOk result (λ v. map transfer_of v.items ≡ transactions self.now) }
     {
@@ -246,7 +247,7 @@ impl World {
     }
 
     /// The transfers that owe their units, by code and then by number: Completed at their initiators and not at their
-    /// acquirers. Looks at each transfer once. Or `NoMemory`.
+    /// acquirers. Looks at each transfer once. Fails with `NoMemory` where memory runs out.
     pub fn due(&self, alloc: Global) -> Result<Vec<ProposedTransfer<'_>>, NoMemory>
         ensures { IfOk result (λ v. map transfer_of v.items ≡ due self.now) }
     {
@@ -260,7 +261,7 @@ impl World {
         Ok(due)
     }
 
-    /// The transfers that owe a unit, by code and then by number. Or `NoMemory`.
+    /// The transfers that owe a unit, by code and then by number. Fails with `NoMemory` where memory runs out.
     pub fn owed(&self, alloc: Global, unit: &Unit) -> Result<Vec<TransactionId>, NoMemory>
         ensures { IfOk result
             (λ v. v.items ≡ map (λ p. p.id) (filter (λ p. have_unit p.content.units unit.now) (due self.now))) }
@@ -275,7 +276,7 @@ impl World {
         Ok(owed)
     }
 
-    /// What each registry holds, in the scheme's order. Or `NoMemory`.
+    /// The holdings of each registry, in the scheme's order. Fails with `NoMemory` where memory runs out.
     pub fn stocks(&self, alloc: Global) -> Result<Vec<Stock>, NoMemory>
         ensures { IfOk result (λ v. AreStocks self.now self.now.scheme.members v.items) }
     {

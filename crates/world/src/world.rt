@@ -88,7 +88,8 @@ fn is_registry(node: Node) -> bool
 }
 
 impl World {
-    /// The opening world of a scheme: empty journals, an empty bag, all nodes running. Or `NoMemory`.
+    /// The opening world of a scheme: empty journals, an empty bag, all nodes running. Fails with `NoMemory` where
+    /// memory runs out.
     pub fn new(alloc: Global, scheme: &Scheme) -> Result<World, NoMemory>
         ensures { IfOk result (λ w. w ≡ opening scheme.now) }
     {
@@ -102,11 +103,11 @@ impl World {
     }
 
     /// The world of these cores, one for each node of the scheme: the log's, then those of the registries in the
-    /// scheme's order. Each node runs, its core's journal is its tail, of which nothing is committed, and no message
-    /// is posted. Or `NoMemory`.
+    /// scheme's order. Each node runs, its core's journal is its tail, nothing is committed, and no message is posted.
+    /// Fails with `NoMemory` where memory runs out.
     ///
-    /// There need be no list of events that leads to this world, so that nothing is known of what `apply` says of
-    /// worlds that events lead to.
+    /// This world need not be reachable by a list of events: the guarantees that `apply` gives for worlds that events
+    /// lead to need not hold for it.
     pub fn uncommitted(alloc: Global, scheme: &Scheme, cores: Vec<Core>) -> Result<World, NoMemory>
         requires nodes { map node_of cores.items ≡ nodes scheme.now }
         requires schemes { All (λ core. scheme_of core ≡ scheme.now) cores.items }
@@ -122,7 +123,8 @@ impl World {
     }
 
     /// The cores of all nodes, each with its journal and the tail: the log's, then those of the registries in the
-    /// scheme's order. Each goes by the scheme. Or `NoMemory`; the world is gone then too.
+    /// scheme's order. Each core has the world's scheme. Fails with `NoMemory` where memory runs out; the world is lost
+    /// then too.
     pub fn into_cores(self) -> Result<Vec<Core>, NoMemory>
         ensures stations { map (λ s. s.node) self.stations ≡ nodes self.scheme }
         ensures nodes { IfOk result (λ v. map node_of v.items ≡ nodes self.scheme) }
@@ -276,11 +278,11 @@ impl World {
         }
     }
 
-    /// Moves the world by an event, and returns what it came to. After `NoMemory` the world is as it was.
+    /// Moves the world by an event, and returns the outcome. After `NoMemory` the world is as it was.
     ///
-    /// Where events led to the world, no tonne is in two places after this one and none is lost, by journals with
-    /// their tails and by committed journals: see `run`. And the event moves a unit's owner only by committing
-    /// Completed of a transfer with it.
+    /// Where events led to the world, no tonne is in two places after this event and none is lost, for journals with
+    /// their tails and for committed journals: see `run`. The event moves a unit's owner only by committing Completed
+    /// of a transfer with the unit.
     pub fn apply(&mut self, event: &WorldEvent) -> Result<Outcome, NoMemory>
         ensures ok { IfOk result (λ o. record { world = self.new; outcome = o } ≡ step self.old event.now) }
         ensures err { OnErr result (self.new ≡ self.old) }
@@ -298,7 +300,7 @@ impl World {
         self.move_by(event)
     }
 
-    /// Moves the world by all these events, one after another, none left out.
+    /// Moves the world by all these events, one after another.
     fn apply_all(&mut self, events: &[WorldEvent]) -> Result<(), NoMemory>
         ensures { OnOk result (self.new ≡ run self.old events.now) }
     {
@@ -308,14 +310,15 @@ impl World {
         Ok(())
     }
 
-    /// The world that all these events lead to from the opening one, one after another, none left out. Or `NoMemory`.
+    /// The world that all these events lead to from the opening one, one after another, none left out. Fails with
+    /// `NoMemory` where memory runs out.
     ///
-    /// By journals with their tails and by committed journals, no tonne is in two places and none is lost: an
-    /// allotted unit is held by one registry and owed by no transfer, or held by none and owed by exactly one
-    /// completed transfer; no unit is spendable in two registries; a registry that holds a unit is its owner in the
-    /// log's book; and no node has Completed for a transaction that another one has Rejected, Terminated or
-    /// Cancelled. No delivery to such a world is refused but where a journal is full. And starts, commits and
-    /// messages alone lead from it to a world at rest, where each allotted unit is spendable.
+    /// For journals with their tails and for committed journals, no tonne is in two places and none is lost: an
+    /// allotted unit is held by one registry and owed by no transfer, or held by none and owed by exactly one completed
+    /// transfer; no unit is spendable in two registries; a registry that holds a unit is its owner in the log's book;
+    /// and no node has Completed for a transaction that another one has Rejected, Terminated or Cancelled. No delivery
+    /// to such a world is refused except where a journal is full. And starts, commits and messages alone lead from it
+    /// to a world at rest, where each allotted unit is spendable.
     pub fn run(alloc: Global, scheme: &Scheme, events: &[WorldEvent]) -> Result<World, NoMemory>
         ensures world { IfOk result (λ w. w ≡ run (opening scheme.now) events.now) }
         ensures live { IfOk result (λ w. IsSafe scheme.now (live_of w)) }

@@ -1,8 +1,9 @@
 -- Histories whose received messages were all sent agree: where one node stands Completed, no node stands Rejected,
--- Terminated or Cancelled. `Causal` says that each node's history was made by its verdicts, and that what it received
--- was sent. No events appear here. A status at a registry has a cause (`told`), the cause was sent by the log, and the
--- log stands by what it sent (`log_said`). So a Completed anywhere puts the log at Accepted or Completed, and any other
--- end anywhere puts it elsewhere. A Rejected at the acquirer is refuted by the Accepted that the same acquirer sent.
+-- Terminated or Cancelled. `Causal` says that each node's history was made by its verdicts, and that the messages that
+-- it received were sent. No events appear here. A status at a registry has a cause (`told`), the cause was sent by the
+-- log, and the log's status agrees with the messages that it sent (`log_said`). A Completed anywhere therefore puts the
+-- log at Accepted or Completed, and any other end anywhere puts it elsewhere. A Rejected at the acquirer is refuted by
+-- the Accepted that the same acquirer sent.
 use Rattle.std.proofs.Common.{◌≡◌, List, true, false, Option, Some, None, ◌⊎◌, inl, inr, refl, sym, ap, subst, ◌∙◌}
 use Rattle.std.proofs.lemmas.Bool.{cases_Bool}
 use Rattle.units.specs.Code.{same_code}

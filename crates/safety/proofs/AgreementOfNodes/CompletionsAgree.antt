@@ -1,8 +1,7 @@
--- What the completions of transfers at their two registries have to do with one another. An acquirer completes
--- when the log tells it so, the log completed then, and the log completes when the initiator tells it so
--- (`log_completed`, `initiator_completed`). The offers say in the same way that the content is the same at all
--- three nodes (`transfer`). At one registry no transaction is completed twice, so that completions can be counted
--- by transaction.
+-- The completions of a transfer at its two registries. An acquirer completes when the log notifies it, the log
+-- completed then, and the log completes when the initiator notifies it (`log_completed`, `initiator_completed`). The
+-- offers show in the same way that the content is the same at all three nodes (`transfer`). At one registry no
+-- transaction is completed twice, and completions can be counted by transaction.
 use Rattle.std.proofs.Common.{◌≡◌, List, ◌∷◌, Bool, true, false, not, cond, Option, Some, None, option_map, inl, inr, refl, sym, ap, subst, ◌∙◌}
 use Rattle.std.specs.Prelude.{◌&&◌}
 use Rattle.std.proofs.lemmas.Bool.{and_parts, and_from, not-true}

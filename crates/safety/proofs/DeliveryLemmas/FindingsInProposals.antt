@@ -103,7 +103,7 @@ of_initiator : (a : Option Holder) (o : Option Code) (c : Code) → is_owner o c
 of_initiator None o c h = refl
 of_initiator (Some a) o c h = not_from_true (is_owner o c) h
 
--- what is under way at the log, and what its initiator was told, leaves Completed there
+-- a transfer under way at the log, with the notification that its initiator received, leaves Completed there
 busy_completed : (now log : Status) → IsOwnStatus now → IsBusy log → (log ≡ word_to now) ⊎ ((word_to now ≡ Accepted) × (log ≡ Completed)) → now ≡ Completed
 busy_completed Completed log own under h = refl
 busy_completed Checked log own under h = absurd own

@@ -1,8 +1,8 @@
--- Where the log tells a registry Terminated, it found eligibility alone, over every list of events. One input
--- makes the log say so only if it checks a proposal, and `FindingsInProposals` says what it finds. A notification
--- that the log sent stays among what it sent, but what it looked at may have changed since. So the claim is
--- carried along the events as an invariant of the log's live journal: an event leaves that journal as it is, cuts
--- it off, or adds one input to it.
+-- Where the log notifies a registry of Terminated, it found eligibility alone, over every list of events. One input
+-- leads to this only where the log checks a proposal, and `FindingsInProposals` has the possible findings. A
+-- notification that the log sent remains sent, but the facts that it was based on may have changed since. The claim is
+-- therefore carried along the events as an invariant of the log's live journal: an event leaves that journal as it is,
+-- cuts it off, or adds one input to it.
 use Rattle.std.proofs.Common.{◌≡◌, ℕ, List, [], ◌∷◌, ◌++◌, Bool, true, false, cond, Option, Some, None, ◌⊎◌, inl, inr, refl, sym, ap, subst, ◌∙◌, append_assoc, append-nil, take, drop, length, take-append-drop, Contains}
 use Rattle.std.specs.Prelude.{nat_le, option_and_then, slice_get}
 use Rattle.std.proofs.lemmas.Bool.{cases_Bool}

@@ -1,7 +1,8 @@
--- What a registry sent, the log refuses only where its journal is full. A refusal has one of a few causes, each a
--- test on the message and the history. The sender recorded what it sent, so each cause is refuted from the
--- sender's history, and the table has a row for the message at whatever the log knows. Where the log already has
--- an answer of the acquirer, the two answers are compared: no acquirer both accepts and rejects one transfer.
+-- The log refuses a message that a registry sent only where the log's journal is full. A refusal has one of a few
+-- causes, each a test on the message and the history. The sender recorded the messages that it sent, and each cause is
+-- refuted from the sender's history; and the table has a row for the message for each recorded status at the log. Where
+-- the log already has an answer of the acquirer, the two answers are compared: no acquirer both accepts and rejects one
+-- transfer.
 use Rattle.protocol.specs.Checks.{log_findings}
 use Rattle.std.proofs.Common.{◌≡◌, List, true, false, not, Some, None, ◌⊎◌, inl, inr, refl, sym, ap, subst, ◌∙◌}
 use Rattle.std.proofs.lemmas.Bool.{cases_Bool}

@@ -1,8 +1,8 @@
--- What the log sent, its addressee refuses only where its journal is full. The log sends to the initiator or the
--- acquirer of a content that it knows, so the causes about addresses are refuted by `LogSendings`. For the table,
--- the words of the log about one transfer are compared: an addressee that has come to an end was told so before,
--- and the log does not say two different ends. That a completed unit is not held by the acquirer follows from its
--- one owner, which is the transfer that owes it.
+-- The addressee of a message that the log sent refuses it only where the addressee's journal is full. The log sends to
+-- the initiator or the acquirer of a content that it knows, and the causes about addresses are refuted by
+-- `LogSendings`. For the table, the notifications of the log about one transfer are compared: an addressee at an end
+-- was notified of it before, and the log does not send two different ends. A completed unit is not held by the
+-- acquirer, since it has one owner: the transfer that owes it.
 use Rattle.std.proofs.Common.{◌≡◌, ℕ, List, [], true, false, not, Option, Some, None, ◌⊎◌, inl, inr, refl, sym, ap, subst, ◌∙◌}
 use Rattle.std.specs.Prelude.{◌&&◌, option_map}
 use Rattle.std.proofs.lemmas.Bool.{and_from, and_left, and_right, or_from, not_from_true, cases_Bool}
@@ -81,7 +81,7 @@ one_word now s log other (inl a) (inr b) = absurd (word_not_completed now (sym a
 one_word now s log other (inr a) (inl b) = absurd (other (sym b ∙ a.1))
 one_word now s log other (inr a) (inr b) = a.0 ∙ sym b.0
 
--- where the initiator stands at an end, it was told so before
+-- where the initiator stands at an end, it was notified of that end before
 told_again : (now s : Status) → IsOwnStatus now → word_to now ≡ s → (now ≡ Proposed → ⊥) → initiator_row (Stands now) (Notified (word_to now)) ≡ Refused → ⊥
 told_again Proposed s own e other h = other refl
 told_again Checked s own e other h = own
@@ -212,7 +212,7 @@ module _ (scheme : Scheme) (f : Node → List Entry) (causal : Causal scheme f) 
 
     -- to the acquirer
 
-    -- to the acquirer, by the row of what it knows
+    -- to the acquirer, by the row of its recorded status
     abbrev finish : TransactionId → Option Transition → ℕ → Status → Verdict
     finish t o moment told =
         by_row scheme here (decide.moved t (content_in o) moment (acquirer_sends c t [] (Notified told)))
@@ -242,7 +242,7 @@ module _ (scheme : Scheme) (f : Node → List Entry) (causal : Causal scheme f) 
               (subst (λ (o : Option Transition). is_status (option_map (λ (y : Transition). y.new) o) Completed ≡ false) (sym last) (subst (λ z. same_status z Completed ≡ false) (sym accepted) refl)));
         }
 
-    -- so its acquirer holds none of them
+    -- its acquirer holds none of them
     not_held : (t : TransactionId) (x l : Transition) → newest (transitions_of here) t ≡ Some x → x.new ≡ Accepted → same_code t.code c ≡ false → newest (transitions_of (f Itl)) t ≡ Some l → l.new ≡ Completed
         → holds_some scheme c (transitions_of here) x.content ≡ false
     not_held t x l last accepted foreign log_last done =
@@ -257,7 +257,7 @@ module _ (scheme : Scheme) (f : Node → List Entry) (causal : Causal scheme f) 
               held_or_owed scheme f causal p.unit c t (registry_known c t x last, held) owe))
         ]
 
-    -- an acquirer that was not told of a cancellation has the content
+    -- an acquirer that was not notified of a cancellation has the content
     taken_content : (t : TransactionId) (x : Transition) → newest (transitions_of here) t ≡ Some x → same_code t.code c ≡ false → (x.new ≡ Cancelled → ⊥) → (k : Content) × (x.content ≡ Some k)
     taken_content t x last foreign other =
         elim (known scheme c here (causal.made (Registry c)) t x last foreign) [

@@ -1,4 +1,4 @@
--- What comes of deliveries in worlds that events lead to.
+-- The refusals of deliveries in worlds that events lead to.
 use Rattle.std.proofs.Common.{◌≡◌, ℕ, List, Bool, true, false, cond, Option, Some, None, refl, sym, ap, subst}
 use Rattle.std.specs.Prelude.{slice_get}
 use Rattle.units.specs.RefusalCodes.{journal_full}

@@ -1,5 +1,5 @@
 -- The furthest cut of journals. While some record is next after an order of records, it is put after them. Each record
--- that is put there leaves fewer of the journals, so that this ends: no record is next any more. Every other order of
+-- that is put there leaves fewer of the journals, and this ends when no record is next any more. Every other order of
 -- first records of the journals is part of that one (`greedy_to`), and events commit their records in an order.
 use Rattle.std.proofs.Common.{◌≡◌, ℕ, zero, suc, ◌+◌, ◌<◌, ◌≤◌, List, [], ◌∷◌, ◌++◌, Bool, true, false, true≢false, ◌⊎◌, inl, inr, refl, sym, ap, subst, ◌∙◌, append_assoc, length, arith, length-append}
 use Rattle.std.specs.List.{list_any}

@@ -1,7 +1,7 @@
--- Orders of records: from any part of the journals that an order makes, one of its records is next. The order is
--- gone through from its first record. The first record that the part does not have yet is next: all records before
--- it are there, so its verdict is the same, and what it received was sent. This stays so with more records at
--- other nodes, as what was sent stays sent.
+-- Orders of records: from any part of the journals that an order makes, one of its records is next. The order is gone
+-- through from its first record. The first record that the part does not have yet is next: all records before it are
+-- there, its verdict is the same, and the message that it received was sent. It remains next when other nodes have more
+-- records, since the messages that were sent remain sent.
 use Rattle.std.proofs.Common.{◌≡◌, List, [], ◌∷◌, ◌++◌, false, ◌⊎◌, inl, inr, refl, sym, ap, subst, ◌∙◌, append_assoc}
 use Rattle.std.proofs.lemmas.Bool.{cond-true, cond-false, cases_Bool}
 use Rattle.std.proofs.lemmas.List.{append-nil, append_cancel_left}

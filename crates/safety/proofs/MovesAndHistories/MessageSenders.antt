@@ -1,4 +1,4 @@
--- What a node sends names it as the sender.
+-- Each message that a node sends names the node as its sender.
 use Rattle.std.proofs.Common.{◌≡◌, ℕ, List, [], ◌∷◌, inl, inr, refl, sym, ap, ◌∙◌}
 use Rattle.units.specs.declared.code.Code.{Code}
 use Rattle.units.specs.declared.code.Node.{Node}

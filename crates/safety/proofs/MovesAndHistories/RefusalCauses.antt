@@ -38,7 +38,7 @@ welcome_repeat code e = absurd (cc (e))
 pub welcome_late : Welcome IsLate
 welcome_late code e = absurd (cc (e))
 
--- where no cause stands, the answer is what it would be without them
+-- where no cause holds, the verdict is as it would be without them
 refuse_none : (cs : Causes) (v : Verdict) → NoneStands cs → refuse cs v ≡ v
 refuse_none [] v n = refl
 refuse_none (c ∷ cs) v n = cond-false c.0 (IsRefused c.1) (refuse cs v) n.0 ∙ refuse_none cs v n.1

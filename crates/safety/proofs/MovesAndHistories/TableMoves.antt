@@ -119,7 +119,7 @@ by_row_made scheme es to Repeat x h = absurd h
 by_row_made scheme es to Late x h = absurd h
 by_row_made scheme es to Refused x h = absurd h
 
--- one transition, told in other words
+-- one transition, in other words
 same_moved : (t u : TransactionId) (k l : Option Content) (moment : ℕ) (ms ns : List Message) (new : Status) → t ≡ u → k ≡ l → ms ≡ ns → decide.moved t k moment ms new ≡ decide.moved u l moment ns new
 same_moved t u k l moment ms ns new a b e =
     ap (λ z. decide.moved z k moment ms new) a ∙ ap (λ z. decide.moved u z moment ms new) b ∙ ap (λ z. decide.moved u l moment z new) e

@@ -1,8 +1,8 @@
--- The rows of the status tables, read backwards: if a row moves, which status it started from, which word it
--- told and where it leads. Each lemma goes through all statuses of one table, and `cc` refutes the cases that
--- the table does not have; of a column without a word, the rows that move are computed (`one_moves`). The lemmas
--- about `Known` also cover transactions that are unknown, or known without a content. The last section shows which
--- inputs always have a row, so that the table is no cause of a refusal.
+-- The rows of the status tables, read backwards: if a row moves, which status it started from, which notification it
+-- took and which status it leads to. Each lemma goes through all statuses of one table, and `cc` refutes the cases that
+-- the table does not have; for a column without a notification, the rows that move are computed (`one_moves`). The
+-- lemmas about `Known` also cover transactions that are unknown, or known without a content. The last section shows
+-- which inputs always have a row: for these the table is no cause of a refusal.
 use Rattle.std.proofs.Common.{◌≡◌, ◌⊎◌, ℕ, List, [], ◌∷◌, Bool, true, false, Option, Some, None, inl, inr, refl, sym, ap, subst, ◌∙◌}
 use Rattle.std.specs.Prelude.{◌&&◌, filter}
 use Rattle.std.specs.Option.{option_map_or}
@@ -45,7 +45,7 @@ log_from Proposed Proposed new h = absurd (cc)
 log_from Terminated Terminated new h = absurd (cc)
 log_from _ _ new h = absurd (cc)
 
--- what the initiator was told when it went to this status
+-- the notification that the initiator received when it moved to this status
 abbrev pub word_to : Status → Status
 word_to Completed = Accepted
 word_to s = s
@@ -106,9 +106,9 @@ status_known (Some x) a h = go x.content refl h
 pub known_status : (x : Transition) (k : Content) → x.content ≡ Some k → known (Some x) ≡ Stands x.new
 known_status x k e = ap (λ (o : Option Content). option_map_or (λ c. Stands x.new) o Bare) e
 
--- ---- rows that move, whatever is known
+-- ---- rows that move for every recorded status
 
--- whatever can be known of a transaction
+-- each recorded status of a transaction
 every : List RecordedStatus
 every = Unknown ∷ Bare ∷ Stands Proposed ∷ Stands Checked ∷ Stands Accepted ∷ Stands Rejected ∷ Stands Terminated ∷ Stands Cancelled ∷ Stands Completed ∷ []
 
@@ -286,7 +286,7 @@ acquirer_offered = moves_nothing acquirer_row acquirer_equal acquirer_bare
 pub log_offered : (x : Transition) (found : List ℕ) (new : Status) → log_row (known (Some x)) (column_of_proposal (content_in (Some x)) found) ≡ Move new → ⊥
 log_offered = moves_nothing log_row log_equal log_bare
 
--- ---- the acquirer takes no unit in that it holds
+-- ---- the acquirer does not take in a unit that it holds
 
 pub unless_moves : (held : Bool) (row : Row) (new : Status) → unless_held held row ≡ Move new → (row ≡ Move new) × ((same_status new Completed && held) ≡ false)
 unless_moves false row new h = (h, without new)

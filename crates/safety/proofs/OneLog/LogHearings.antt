@@ -1,8 +1,8 @@
--- What the log's history says of what it heard, and that the log stands by what it sent. A transfer that stands
--- Accepted or Completed was accepted by its acquirer (`log_backed`). What the log told a registry is still its
--- status, except that Accepted may have become Completed (`log_sent`). The proof looks at the move that sent the
--- notification, and then at each later move of the same transaction. The content that the log passed on also stays
--- (`log_offered`).
+-- The messages that the log received, by its history, and that its status agrees with the messages that it sent. A
+-- transfer that stands Accepted or Completed was accepted by its acquirer (`log_backed`). The status in a notification
+-- of the log to a registry is still the log's status, except that Accepted may have become Completed (`log_sent`). The
+-- proof looks at the move that sent the notification, and then at each later move of the same transaction. The content
+-- that the log passed on also stays (`log_offered`).
 use Rattle.std.proofs.Common.{◌≡◌, ℕ, List, [], ◌∷◌, false, Option, Some, None, ◌⊎◌, inl, inr, refl, sym, ap, subst, ◌∙◌}
 use Rattle.std.proofs.lemmas.Bool.{not-false}
 use Rattle.units.proofs.Same.{node_of_same}

@@ -1,7 +1,7 @@
--- What the log records for one input: nothing, one transition, or cancellations alone. And induction over its
--- transitions. A clean-up may cancel many transfers at once, so that the induction over entries is not one over
--- transitions. `each_log_move` makes it one: it asks for a step for one transition, and for a step for a
--- cancellation in front of others of the same input.
+-- The log records for one input: nothing, one transition, or cancellations alone. And induction over its transitions. A
+-- clean-up may cancel many transfers at once, and the induction over entries is not one over transitions.
+-- `each_log_move` makes it one: it asks for a step for one transition, and for a step for a cancellation in front of
+-- others of the same input.
 use Rattle.std.proofs.Common.{◌≡◌, ℕ, List, [], ◌∷◌, ◌++◌, Bool, true, false, cond, ◌⊎◌, inl, inr, refl, sym, ap, subst, map}
 use Rattle.std.specs.Prelude.{nat_le, length, filter, flat_map}
 use Rattle.units.specs.RefusalCodes.{journal_full}

@@ -1,4 +1,4 @@
--- The log by itself, whatever messages come: whose units the book says they are, and which transfers are under way.
+-- The log by itself, for all messages: the owners of units in its book, and the transfers that are under way.
 -- The invariant `InBook` is about one unit: a transfer of it that is under way was proposed by the unit's owner, at
 -- most one is under way, and for each registry the book's moves to it and from it make up whether the registry is the
 -- owner. A check without findings puts a transfer under way, and a completion moves the unit; all other moves leave

@@ -91,7 +91,7 @@ module _ (scheme : Scheme) (c : Code) where
         | inr old ↦ contents_apart es h.1 x k old foreign known
       ]
 
-  -- so the blocks of an awaited transfer share no unit
+  -- the blocks of an awaited transfer share no unit
   pub awaited_apart : (es : List Entry) (t : TransactionId) (x : Transition) (k : Content) (blocks : List Block) → Made scheme (Registry c) es → newest (transitions_of es) t ≡ Some x → same_code t.code c ≡ false → x.content ≡ Some k
       → raws blocks ≡ k.units → AllApart blocks
   awaited_apart es t x k blocks h was foreign known units =

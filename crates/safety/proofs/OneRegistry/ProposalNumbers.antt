@@ -1,5 +1,5 @@
--- The numbers of a registry's own transactions: none is above the number of its propose records, so that the next
--- number is new. A transaction of the registry's own gets its first transition from a propose record, with the number
+-- The numbers of a registry's own transactions: none is above the number of its propose records, and the next number is
+-- therefore new. A transaction of the registry's own gets its first transition from a propose record, with the number
 -- of the records until then (`own_number`); each later one names a transaction that was there.
 use Rattle.std.proofs.Common.{◌≡◌, ℕ, ◌+◌, ◌≤◌, List, [], ◌∷◌, Bool, true, Option, Some, None, inl, inr, refl, sym, ap, subst, ◌∙◌, arith}
 use Rattle.std.proofs.lemmas.Bool.{cases_Bool}

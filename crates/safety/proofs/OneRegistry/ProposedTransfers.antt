@@ -1,5 +1,5 @@
--- The proposals that a registry sent, whatever messages come to it: each is of a transaction of its own, no two are
--- of the same one, and each transaction of its own is proposed. `offered` says what becomes of a proposal.
+-- The proposals that a registry sent, for all messages that it receives: each is of a transaction of its own, no two
+-- are of the same one, and each transaction of its own is proposed. `offered` has the later statuses of a proposal.
 use Rattle.std.proofs.Common.{◌≡◌, List, [], ◌∷◌, ◌++◌, true, Option, Some, None, ◌⊎◌, inl, inr, refl, sym, ap, subst, ◌∙◌, map}
 use Rattle.std.specs.List.{filter_map}
 use Rattle.std.proofs.lemmas.List.{map-append}

@@ -31,7 +31,7 @@ use Rattle.units.proofs.Lists.OneValue.{clash}
 use Rattle.safety.proofs.MovesAndHistories.TableMoves.{RegistryMove, proposes, asks, arrives, bares, concludes, finishes}
 use Rattle.safety.proofs.MovesAndHistories.TableRows.{word_to, initiator_from, acquirer_from}
 
--- what an acquirer was told when it went to this status
+-- the notification that an acquirer received when it moved to this status
 abbrev pub Cause : Code → List Entry → TransactionId → Status → Type 0
 Cause c es t Completed = Heard es Itl t Completed
 Cause c es t Cancelled = Heard es Itl t Cancelled
@@ -48,7 +48,7 @@ cause_later c e es t Proposed h = absurd h
 cause_later c e es t Checked h = absurd h
 cause_later c e es t Terminated h = absurd h
 
--- what the initiator was told, unless it proposed the transfer just so
+-- the notification that the initiator received, unless it has just proposed the transfer
 abbrev pub OwnCause : List Entry → TransactionId → Status → Type 0
 OwnCause es t s = (s ≡ Proposed) ⊎ Heard es Itl t (word_to s)
 

@@ -1,4 +1,4 @@
--- What a registry sends: what it offers, what it answers as acquirer, and that its own transfers completed.
+-- The messages that a registry sends: its offers, its answers as acquirer, and that its own transfers completed.
 -- `Says` lists the kinds of message, each with what the history had recorded when it was sent. An induction over the
 -- moves shows that every message that was sent is of one of these kinds. From them it follows that who asked for a
 -- cancellation had proposed the transfer, and that a Rejected that was sent stands for good.

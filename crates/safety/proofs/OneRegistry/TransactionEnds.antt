@@ -52,7 +52,7 @@ arrived_open : (found : List ℕ) → arrived_status found ≡ Completed → ⊥
 arrived_open [] h = cc (h)
 arrived_open (n ∷ ns) h = cc (h)
 
--- what an initiator sends where its transfer comes to stand so is that it completed
+-- where an initiator's transfer moves to this status, the only notification that it sends is Completed
 concluded_completed : (c : Code) (u : TransactionId) (new : Status) (n : NotificationMessage) → In (message.notification n) (concluded_messages c u new) → (u ≡ n.id) × (new ≡ Completed)
 concluded_completed c u Completed n (inl e) = let s = one_notified _ n e in (ap (λ (z : NotificationMessage). z.id) s, refl)
 concluded_completed c u Completed n (inr h) = absurd h
@@ -159,7 +159,7 @@ module _ (scheme : Scheme) (c : Code) where
   pub ends_once : (es : List Entry) (input : Input) (x y : Transition) → Made scheme (Registry c) es → RegistryMove scheme c es input x → In y (transitions_of es) → y.new ≡ Completed → x.id ≡ y.id → ⊥
   ends_once es input x y made move i done same = alive es input x y made move (subst (λ z. newest (transitions_of es) z ≡ Some y) (sym same) (ends_last es made y i done)) done
 
-  -- so one transition completes it
+  -- one transition completes it
   abbrev is_end_of : TransactionId → Transition → Bool
   is_end_of t x = same_id x.id t && same_status x.new Completed
 

@@ -1,4 +1,4 @@
--- One registry by itself, whatever messages it is given: a unit is counted there once or not at all.
+-- One registry by itself, for all messages that it receives: a unit is counted there once or not at all.
 -- The proof is an induction over the registry's transitions with the invariant `Local`: a unit is given away at most
 -- as often as it was there or came, it came at most once more than it went, and at most one transfer of it waits,
 -- which then has it there. The cases are the moves of `RegistryMove`, grouped by what they do to one unit: nothing,

@@ -1,4 +1,4 @@
--- The transfers that are due and have a unit are as many as the completed transfers that owe it.
+-- The number of transfers that are due and have a unit is the number of completed transfers that owe it.
 -- At one registry both are lists of transactions without repeats and with the same members: a proposal is of a
 -- transaction whose newest transition has its content, and a transition to Completed is the newest of its
 -- transaction, which was proposed. The rest is sums over registries.

@@ -137,7 +137,7 @@ module _ (scheme : Scheme) (f : Node → List Entry) (causal : Causal scheme f) 
   abbrev count_taken : SchemeRegistry → ℕ
   count_taken m = count_by (credits m.code s) (at_registry f m.code)
 
-  -- so as much is handed over as is taken in
+  -- as much is handed over as is taken in
   handed_as_taken : sum_by count_handed scheme.members ≡ sum_by count_taken scheme.members
   handed_as_taken =
       let e =

@@ -58,7 +58,7 @@ module _ (scheme : Scheme) (moment : Moment) (t : TransactionId) where
   only : (w : World) (n : Node) (x : Transition) → Last w n t x → IsEnd x.new → (y : Transition) → Last w n t y → IsEnd y.new
   only w n x is e y at = subst (λ (z : Transition). IsEnd z.new) (one_some x y (sym is ∙ at)) e
 
-  -- an acquirer that was not told of a cancellation has a content
+  -- an acquirer that was not notified of a cancellation has a content
   acquirer_content : (w : World) (x p : Transition) (k : Content) → Stage scheme w t x k → Last w (Registry k.acquirer) t p → (p.new ≡ Cancelled → ⊥) → (c : Content) × (p.content ≡ Some c)
   acquirer_content w x p k s there other =
       elim (known scheme k.acquirer (committed_of w (Registry k.acquirer)) ((cau scheme t w x k s).made (Registry k.acquirer)) t p there s.other) [
@@ -183,7 +183,7 @@ module _ (scheme : Scheme) (moment : Moment) (t : TransactionId) where
       go Proposed e h = h
       go Checked e h = h
 
-  -- cancelled at the log and at the initiator: an acquirer that accepted is told so
+  -- cancelled at the log and at the initiator: an acquirer that accepted is notified of it
   cancel_acquirer : (w : World) (x l : Transition) (k : Content) → Stage scheme w t x k → Room scheme w 0 1 → x.new ≡ Cancelled → Last w Itl t l → l.new ≡ Cancelled → Closes scheme w t 0 1
   cancel_acquirer w x l k s room own log log_cancelled = by (newest (transitions_of (committed_of w (Registry k.acquirer))) t) refl
     where
@@ -463,7 +463,7 @@ module _ (scheme : Scheme) (moment : Moment) (t : TransactionId) where
             },
           )
 
-      -- the log stands at the end that the initiator was told of
+      -- the log stands at the end that it notified the initiator of
       told_end : (x : Transition) → Last w (Registry t.code) t x → (st : Status) → x.new ≡ st → (st ≡ Proposed → ⊥) → word_to st ≡ st → (st ≡ Accepted → ⊥) → (l : Transition) × Last w Itl t l × (l.new ≡ st)
       told_end x is st e other word not_accepted =
           elim (subst (OwnCause (committed_of w (Registry t.code)) t) e (told_own scheme t.code (committed_of w (Registry t.code)) (c.made (Registry t.code)) t x is (same_code-refl t.code))) [

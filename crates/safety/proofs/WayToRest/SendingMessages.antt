@@ -1,6 +1,6 @@
--- In a quiet world a message that was sent can be posted, delivered and committed. `send` joins these events into
--- one step. Its result `Went` says by equations what the receiver recorded, and that every other node's history is
--- the same, so that the next step starts from a quiet world of the same scheme again.
+-- In a quiet world a message that was sent can be posted, delivered and committed. `send` joins these events into one
+-- step. Its result `Went` has equations for the receiver's new record and for the histories of the other nodes, which
+-- are the same: the next step starts from a quiet world of the same scheme again.
 use Rattle.std.proofs.Common.{◌≡◌, ℕ, suc, ◌+◌, ◌≤◌, List, [], ◌∷◌, ◌++◌, true, false, cond, Some, inl, inr, sym, ap, subst, ◌∙◌, arith, length}
 use Rattle.std.proofs.lemmas.Bool.{cond-true, cond-false, cases_Bool}
 use Rattle.units.proofs.Same.{node_of_same}

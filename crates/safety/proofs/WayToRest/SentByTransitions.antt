@@ -148,7 +148,7 @@ module _ (scheme : Scheme) (c : Code) where
 
 -- ---- at the log
 
--- what it passes on is told as it was heard
+-- the log passes a notification on as it received it
 log_passed : (q : Transition) (k : Content) (moment : ℕ) (said : NotifiedStatus) (new : Status) → q.content ≡ Some k → notified_status said ≡ new → (new ≡ Accepted) ⊎ ((new ≡ Rejected) ⊎ (new ≡ Completed))
     → SaysAtLog (moved q new moment (notifies Itl (told_to q.id k new) q.id said ∷ [])) new
 log_passed q k moment said Accepted content same h = (said, same, inl refl)
@@ -181,7 +181,7 @@ log_has_said scheme (e ∷ es) made x i =
       | inr j ↦ log_has_said scheme es made.1 x j
     ]
 
--- ---- what is cancelled with a content is told to its acquirer too
+-- ---- a cancellation with a content is sent to its acquirer too
 
 cancelled_move : (scheme : Scheme) (es : List Entry) (input : Input) (x : Transition) → LogMove scheme es input x → x.new ≡ Cancelled → (k : Content) → x.content ≡ Some k
     → In (notifies Itl (Registry k.acquirer) x.id notified.Cancelled) x.messages

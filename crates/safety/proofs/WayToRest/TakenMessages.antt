@@ -1,6 +1,6 @@
--- In a quiet world with room, a message that moves a transfer is recorded with the transition of its table. A
--- message that was sent is refused for want of room alone (`WelcomeMessages`), and there is room. So the verdict
--- is the row of the table, and the lemmas say for each kind of message and node which transition that row makes.
+-- In a quiet world with room, a message that moves a transfer is recorded with the transition of its table. A message
+-- that was sent is refused for lack of room alone (`WelcomeMessages`), and there is room. The verdict is therefore the
+-- row of the table, and the lemmas state for each kind of message and node which transition that row makes.
 use Rattle.status.specs.declared.rows.Row.{Row}
 use Rattle.safety.proofs.MovesAndHistories.NewestTransitions.{newest_id}
 use Rattle.safety.proofs.MovesAndHistories.TableRows.{known_status, unless_same}
@@ -53,7 +53,7 @@ abbrev NoneFull : Causes → Type 0
 NoneFull [] = Unit {0}
 NoneFull (c ∷ cs) = ((c.1 == journal_full) ≡ false) × NoneFull cs
 
--- what is welcome, and refused for no want of room, isn't refused
+-- a message that is welcome, and not refused for lack of room, isn't refused
 unrefused : (cs : Causes) (v : Verdict) → Welcome (refuse cs v) → NoneFull cs → refuse cs v ≡ v
 unrefused [] v w n = refl
 unrefused (c ∷ cs) v w n =

@@ -63,7 +63,7 @@ pub record Stage (scheme : Scheme) (w : World) (t : TransactionId) (x : Transiti
   pub acquirer : has_member scheme k.acquirer ≡ true
   pub other : same_code t.code k.acquirer ≡ false
 
--- a table is read at what stands and what is told
+-- a table is read at a status and a notification
 pub table_at : (table : RecordedStatus → RowInput → Row) (a b c d : Status) → a ≡ b → c ≡ d → table (Stands a) (Notified c) ≡ table (Stands b) (Notified d)
 table_at table a b c d e h = ap (λ z. table (Stands z) (Notified c)) e ∙ ap (λ z. table (Stands b) (Notified z)) h
 
@@ -186,7 +186,7 @@ module _ (scheme : Scheme) (t : TransactionId) where
         let same : o.0 ≡ x = one_some o.0 x (sym at_t ∙ s.is) in
         p.is ∙ ap Some (sym p.got.content) ∙ sym o.2 ∙ ap (λ (z : Transition). z.content) same ∙ s.content
 
-    -- an acquirer that was not told of a cancellation is the one that the initiator named
+    -- an acquirer that was not notified of a cancellation is the one that the initiator named
     pub acquirer_is : (c : Code) (p : Transition) → same_code t.code c ≡ false → Last w (Registry c) t p → (p.new ≡ Cancelled → ⊥) → c ≡ k.acquirer
     acquirer_is c p elsewhere is going =
         elim (known scheme c (committed_of w (Registry c)) (cau.made (Registry c)) t p is elsewhere) [
@@ -233,7 +233,7 @@ module _ (scheme : Scheme) (t : TransactionId) where
     pub log_tells : (l : Transition) → Last w Itl t l → (st : Status) → l.new ≡ st → SaysAtLog l st
     log_tells l is st e = subst (SaysAtLog l) e (log_has_said scheme (committed_of w Itl) (cau.made Itl) l (id_at Itl l is).0)
 
-    -- what the log cancelled with a content, its acquirer was told
+    -- the acquirer is notified of a transfer that the log cancelled with a content
     pub log_tells_acquirer : (l : Transition) → Last w Itl t l → l.new ≡ Cancelled → l.content ≡ Some k → In (notifies Itl (Registry k.acquirer) t notified.Cancelled) (sends (committed_of w Itl))
     log_tells_acquirer l is e content = told_by Itl l (Registry k.acquirer) notified.Cancelled is (cancelled_said scheme (committed_of w Itl) (cau.made Itl) l (id_at Itl l is).0 e k content)
 

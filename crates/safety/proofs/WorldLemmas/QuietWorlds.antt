@@ -144,7 +144,7 @@ deliver_step w p moment n to =
 
 -- ---- in a quiet world
 
--- what a node has sent, a station has sent
+-- a message that a node has sent was sent by a station
 sending : (w : World) (n : Node) (m : Message) → In m (sends (committed_of w n)) → (s : Station) × (station w n ≡ Some s)
 sending w n m i = go (station w n) refl
   where

@@ -1,8 +1,8 @@
--- The one invariant of worlds, `Sound`: every message in the bag, and every message that a node received, is among
--- what the committed journal of its sender sends. Each event is a turn of at most one node, and `Keeps` says what
--- such a turn leaves true: committed journals only get longer, so that what was sent stays sent, and a new input
--- is an order or a message of the bag. The opening world has no journals. The families of histories of a sound
--- world, live or committed, are therefore `Causal`.
+-- The one invariant of worlds, `Sound`: every message in the bag, and every message that a node received, is among the
+-- messages that the committed journal of its sender sends. Each event is a turn of at most one node, and `Keeps` has
+-- the facts that such a turn preserves: committed journals only get longer, the messages that were sent remain sent,
+-- and a new input is an order or a message of the bag. The opening world has no journals. The families of histories of
+-- a sound world, live or committed, are therefore `Causal`.
 use Rattle.std.proofs.Common.{◌≡◌, ℕ, List, [], ◌∷◌, ◌++◌, Bool, true, false, cond, Option, Some, None, inl, inr, refl, sym, ap, subst, ◌∙◌, take, drop, map, length, append_assoc, take-append-drop}
 use Rattle.std.specs.Prelude.{nat_le, slice_get, option_and_then}
 use Rattle.std.proofs.lemmas.Bool.{cases_Bool}

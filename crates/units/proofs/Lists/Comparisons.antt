@@ -1,4 +1,4 @@
--- What a comparison of two numbers says, as a case for each way in which it can come out.
+-- The result of a comparison of two numbers, as a case for each outcome.
 use Rattle.std.proofs.Common.{◌≡◌, ℕ, ◌<◌, refl}
 use Rattle.std.specs.declared.cmp.Ordering.{Ordering}
 use Rattle.std.specs.declared.cmp.Ordering.TheVariants.{Less, Equal, Greater}
@@ -12,6 +12,6 @@ compared P x y l e g = elim (nat_cmp x y) as (λ r. r ≡ nat_cmp x y → P r) [
   | Greater ↦ λ h. g (ranked x y Greater h)
 ] refl
 
--- where another comparison decides what this one leaves open
+-- where another comparison decides when this one finds them equal
 pub compared_then : (P : Ordering → Type 0) (x y : ℕ) (o : Ordering) → (x < y → P Less) → (x ≡ y → P o) → (y < x → P Greater) → P (ordering_then (nat_cmp x y) o)
 compared_then P x y o l e g = compared (λ r. P (ordering_then r o)) x y l e g

@@ -4,7 +4,7 @@ use Rattle.std.specs.Prelude.{slice_get}
 use Rattle.std.specs.List.{position_from}
 use Rattle.std.proofs.lemmas.Option.{slice_get_within}
 
--- what stands at that index passes, and it is the first element that does
+-- the element at that index passes, and it is the first one that does
 pub index_passes : {X : Type 0} (p : X → Bool) (k : ℕ) (xs : List X) (i : ℕ) → position_from p k xs ≡ Some i
     → (j : ℕ) × (i ≡ k + j) × ((x : X) × (slice_get xs j ≡ Some x) × (p x ≡ true) × (find p xs ≡ Some x))
 index_passes p k [] i e = absurd (cc (e))

@@ -1,4 +1,4 @@
--- Membership in a list, by recursion over the list, and what it is in parts, images and choices of lists.
+-- Membership in a list, by recursion over the list, and membership in parts, images and choices of lists.
 use Rattle.std.proofs.Common.{◌≡◌, ℕ, zero, suc, List, [], ◌∷◌, ◌++◌, Bool, true, false, cond, Option, Some, ◌⊎◌, inl, inr, refl, sym, ap, subst, ◌∙◌, map}
 use Rattle.std.specs.Prelude.{filter, flat_map, find, slice_get}
 use Rattle.std.proofs.lemmas.Bool.{cases_Bool, cond-true, cond-false}

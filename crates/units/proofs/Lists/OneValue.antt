@@ -1,4 +1,4 @@
--- A test has one answer, and `Some` holds one value.
+-- A test has one result, and `Some` holds one value.
 use Rattle.std.proofs.Common.{◌≡◌, Bool, true, false, Some, sym, ◌∙◌}
 
 pub clash : {X : Type 0} (a : Bool) → a ≡ true → a ≡ false → X

@@ -1,4 +1,4 @@
--- An ordered map as a finite map: what it has at a key, and when two are the same.
+-- An ordered map as a finite map: its value at a key, and when two are the same.
 use Rattle.std.proofs.Common.{◌≡◌, Bool, true, false, List, [], ◌∷◌, cond, Option, Some, refl, sym, ◌∙◌}
 use Rattle.std.specs.BTreeMap as tree
 use Rattle.std.specs.BTreeMap.{BTreeMap}

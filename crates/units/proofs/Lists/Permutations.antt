@@ -1,4 +1,4 @@
--- What the elements of a list keep in any other order.
+-- Properties of the elements of a list that hold in any other order.
 use Rattle.std.proofs.Common.{List}
 use Rattle.std.specs.Prelude.{IsPermutation}
 use Rattle.std.specs.List.{AllByRecursion}

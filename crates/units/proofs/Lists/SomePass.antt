@@ -1,4 +1,4 @@
--- That some element of a list passes a test, and that none does.
+-- Tests that some element of a list passes, and that none passes.
 use Rattle.std.proofs.Common.{◌≡◌, List, [], ◌∷◌, Bool, true, false, inl, inr, refl, sym, subst, ◌∙◌}
 use Rattle.std.specs.Prelude.{◌||◌}
 use Rattle.std.specs.List.{list_any}

@@ -1,4 +1,4 @@
-//! Intervals that are cut in two, so that one begins at a unit, and how that is undone.
+//! Intervals that are cut in two to make one begin at a unit, and how a cut is undone.
 ghost use Rattle.std.specs.Prelude.{◌≡◌, true, false, Some, None, Option, IsSome, IfOk, OnOk, OnErr};
 ghost use Rattle.std.specs.BTreeMap as tree;
 ghost use Rattle.std.specs.BTreeMap.{IsOrdered, IsUnchanged};
@@ -15,7 +15,7 @@ use crate::block::Unit;
 use std::alloc::AllocError;
 use std::collections::BTreeMap;
 
-/// What was done so that an interval can begin at a unit.
+/// A change that makes an interval begin at a unit.
 #[derive(Clone, Copy)]
 pub(super) enum Step<M> {
     /// Nothing.
@@ -26,7 +26,7 @@ pub(super) enum Step<M> {
     Cut(Unit, Unit, Span<M>),
 }
 
-/// Writes over an interval that is there, which takes no memory.
+/// Overwrites an interval that is there. Takes no memory.
 pub(super) fn overwrite<M: Copy>(spans: &mut BTreeMap<Unit, Span<M>>, at: Unit, span: Span<M>)
     ensures puts { IsSome (tree.get unit_cmp spans.old at)
         → Puts at (Some span) (tree.get unit_cmp spans.old) (tree.get unit_cmp spans.new) }
@@ -37,7 +37,7 @@ pub(super) fn overwrite<M: Copy>(spans: &mut BTreeMap<Unit, Span<M>>, at: Unit, 
     }
 }
 
-/// Cuts the interval that begins at a unit in two, so that the second one begins at another unit that it has.
+/// Cuts the interval that begins at a unit in two. The second part begins at another unit of the interval.
 fn cut<M: Copy>(
     spans: &mut BTreeMap<Unit, Span<M>>,
     at: Unit,
@@ -88,8 +88,8 @@ fn put<M: Copy>(
     Ok(Step::Put(unit))
 }
 
-/// Makes an interval begin at the unit where one has it, and where none has it puts one in that has the label, if there
-/// is one. After an error nothing has changed.
+/// Makes an interval begin at the unit: cuts the interval that has the unit, or where none has it, puts in one with the
+/// label, if there is a label. After an error nothing has changed.
 pub(super) fn begin<M: Copy>(
     spans: &mut BTreeMap<Unit, Span<M>>,
     unit: Unit,

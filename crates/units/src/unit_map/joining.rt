@@ -46,7 +46,8 @@ fn join<M: Label>(spans: &mut BTreeMap<Unit, Span<M>>, unit: Unit, right: Span<M
     }
 }
 
-/// Joins each interval that begins from one unit to another, both included, with the one that it goes on from.
+/// Joins each interval that begins from one unit to another, both included, with the one that ends right before it,
+/// where the two have one label.
 fn join_between<M: Label>(spans: &mut BTreeMap<Unit, Span<M>>, from: Unit, to: Unit)
     requires parted { AreParted (tree.get unit_cmp spans.old) }
     requires ordered { IsOrdered unit_cmp spans.old }

@@ -45,8 +45,8 @@ pub(super) fn all_pass<M: Copy, F: Fn(M) -> bool>(
     }
 }
 
-/// Whether one of the block's units is in an interval whose label passes the test. It goes from the block's end to its
-/// front, so that each interval is the last one that begins before a number.
+/// Whether one of the block's units is in an interval whose label passes the test. The walk goes from the block's end
+/// to its front: each interval is the last one that begins before a number.
 pub(super) fn some_passes<M: Copy, F: Fn(M) -> bool>(
     spans: &BTreeMap<Unit, Span<M>>,
     block: &Block,

@@ -16,7 +16,7 @@ use crate::block::{Block, Unit};
 use std::alloc::{AllocError, Global};
 use std::collections::{BTreeMap, VecDeque};
 
-/// A block whose ends were prepared for the label that its units are to have, and how each is undone.
+/// A block whose ends were prepared for its new label, with the two steps to undo.
 #[derive(Clone, Copy)]
 pub(super) struct Prepared<M> {
     block: Block,
@@ -25,8 +25,8 @@ pub(super) struct Prepared<M> {
     end: Step<M>,
 }
 
-/// Makes an interval begin at the block's first unit, where it is to have a label or is there, and another after its
-/// last. After an error nothing has changed.
+/// Makes an interval begin at the block's first unit, where the unit is to have a label or is there, and another one
+/// right after its last unit, where an interval goes on there. After an error nothing has changed.
 fn prepare<M: Copy>(
     spans: &mut BTreeMap<Unit, Span<M>>,
     block: &Block,
@@ -55,7 +55,7 @@ fn prepare<M: Copy>(
     }
 }
 
-/// Puts one interval in the place of those that begin in the block, or none.
+/// Replaces the intervals that begin in the block by one, or by none.
 fn fill<M: Copy>(spans: &mut BTreeMap<Unit, Span<M>>, block: &Block, label: Option<M>)
     requires parted { AreParted (tree.get unit_cmp spans.old) }
     requires ordered { IsOrdered unit_cmp spans.old }
@@ -79,7 +79,7 @@ fn fill<M: Copy>(spans: &mut BTreeMap<Unit, Span<M>>, block: &Block, label: Opti
     }
 }
 
-/// Takes back what was prepared, the newest first. Takes no memory.
+/// Undoes the preparations, the newest first. Takes no memory.
 fn undo_all<M: Copy>(spans: &mut BTreeMap<Unit, Span<M>>, mut prepared: VecDeque<Prepared<M>>)
     requires { IsOrdered unit_cmp spans.old }
     ensures restored { (before : Serial → Option (Span M))
@@ -124,8 +124,8 @@ fn prepare_all<M: Copy, F: Fn(Block) -> Option<M>>(
     Ok(prepared)
 }
 
-/// Gives the units of each block their label. Each block is prepared before the first one is filled, so that only
-/// preparing takes memory; after an error what was prepared is undone.
+/// Gives the units of each block their label. All blocks are prepared before the first one is filled: only preparing
+/// takes memory, and after an error the preparations are undone.
 pub(super) fn set_each<M: Copy, F: Fn(Block) -> Option<M>>(
     alloc: Global,
     spans: &mut BTreeMap<Unit, Span<M>>,

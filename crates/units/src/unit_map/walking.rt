@@ -1,4 +1,4 @@
-//! Labels that change, and intervals that are taken out, which takes no memory.
+//! Labels that change, and intervals that are taken out, without taking memory.
 ghost use Rattle.std.specs.Prelude.{◌≡◌, ◌≤◌, ◌+◌, Option, Some, None, true, false};
 ghost use Rattle.std.specs.BTreeMap as tree;
 ghost use Rattle.std.specs.BTreeMap.{IsOrdered};
@@ -28,8 +28,8 @@ fn respan<M: Copy>(spans: &mut BTreeMap<Unit, Span<M>>, at: Unit, span: Span<M>,
     }
 }
 
-/// Gives each interval that begins from one unit to another, both included, the label that becomes of its own, or takes
-/// it out.
+/// Changes the label of each interval that begins from one unit to another, both included, to the one that the function
+/// returns, or takes the interval out where it returns `None`.
 pub(super) fn change_between<M: Copy, F: Fn(M) -> Option<M>>(
     spans: &mut BTreeMap<Unit, Span<M>>,
     from: Unit,
@@ -57,7 +57,8 @@ pub(super) fn change_between<M: Copy, F: Fn(M) -> Option<M>>(
     }
 }
 
-/// Gives each interval that begins in one of the blocks the label that becomes of its own, or takes it out.
+/// Changes the label of each interval that begins in one of the blocks to the one that the function returns, or takes
+/// the interval out where it returns `None`.
 pub(super) fn change_in<M: Copy, F: Fn(M) -> Option<M>>(
     spans: &mut BTreeMap<Unit, Span<M>>,
     blocks: &[Block],

@@ -4,7 +4,7 @@ use Rattle.audit.proofs.Reporting.{keeps_same, on_ok}
 use Rattle.commands.specs.Opened.{HasScheme}
 use Rattle.commands.proofs.standing.stand_alone.Goals as goal
 
--- of a fault, whatever it is
+-- for any fault
 any_err : {X E : Type 0} {Q : E → Type 0} (r : Result X E) → ((e : E) → Q e) → IfErr r Q
 any_err (Ok x) f = tt
 any_err (Err e) f = f e

@@ -1,5 +1,5 @@
--- A connection's invariant has the fact, and no call of it says so. A `&` to a connection holds a `&` to fields of
--- which the invariant is true, so the fact is read there before the walk that Rattle made.
+-- The fact is part of a connection's invariant, and no clause of a call states it. A `&` to a connection holds a `&` to
+-- fields that satisfy the invariant, so the fact is read there before the walk that Rattle made.
 use Rattle.std.proofs.Common.{◌≡◌, IsTrue, false, sym, ap, subst, ◌∷◌, []}
 use base.Logic.{via, mono_r, fst∗, snd∗, sep}
 use base.Fml.{ftrue, fsep}

@@ -19,7 +19,7 @@ limit_of held e = ap (λ (h : SplitterView). h.limit) e
 still_open : (old new : SplitterView) → old ≡ open_with old.rest → new ≡ record old { rest = new.rest } → new ≡ open_with new.rest
 still_open old new e x = x ∙ ap (λ (h : SplitterView). record h { rest = new.rest }) e
 
--- what a fault says of the bytes
+-- what a fault says about the bytes
 over_of : (old new : SplitterView) (piece : List ℕ) (fault : LineFault) (ls : List Line) → fault ≡ faults.TooLong ls → Faults old new piece fault → IsOver old.limit (old.rest ++ piece) ls
 over_of old new piece fault ls e h = let told = subst (λ (f : LineFault). Faults old new piece f) e h in told.1
 

@@ -9,7 +9,7 @@ use Rattle.rehearse.specs.Rehearsal.{FailsSo, IsRehearsal, Reports}
 use Rattle.streams.specs.Inputs.{Takes}
 use Rattle.rehearse.proofs.reporting.report_input.Goals as goal
 
--- the report of what was taken
+-- the report on the input that was read
 reported : (IsText : Scheme → List WorldEvent → List ℕ → Type 0) (r s : Option (List ℕ)) (input slice text : List ℕ) → Takes r s input → slice ≡ input → (scheme : Scheme) × (events : List WorldEvent) × IsRehearsal slice scheme events × IsText scheme events text → Reports IsText r s text
 reported IsText r s input slice text taken same told =
     record { input = input; taken = taken; scheme = told.0; events = told.1; is = subst (λ bytes. IsRehearsal bytes told.0 told.1) same told.2; report = told.3 }
@@ -23,7 +23,7 @@ returns-clause-ok g c =
       subst (Appends (g.W.Write.contents c.args.writer.now) (g.W.Write.contents c.write_text.new.writer)) same c.in_ok-write_text.ensures.ok,
     )
 
--- a fault of the writer, after some of the text
+-- a fault of the writer, after a part of the text
 failed : {T : Type 0} (IsText : Scheme → List WorldEvent → List ℕ → Type 0) (r s v w : Option (List ℕ)) (text bytes : List ℕ) (count : ℕ) (result : Result T OpFault) → IsErrAnd result (λ e. e ≡ Write count)
     → Reports IsText r s text → bytes ≡ text → count < length bytes → Appends v w (take count bytes) → IfErr result (λ e. FailsSo IsText e r s v w)
 failed IsText r s v w text bytes count (Ok t) is told same short wrote = tt

@@ -1,7 +1,7 @@
 use Rattle.std.proofs.Common.{◌≡◌, ◌∙◌, ◌++◌, ◌∷◌, [], List, map, length, refl, sym, ap, append_assoc, append-nil, arith}
 use Rattle.test_runs.proofs.nodes.opened.Goals as goal
 
--- one more is done of those that were left
+-- one more of those left is done
 one_done : {X : Type 0} (all done left rest : List X) (x : X) → all ≡ done ++ left → left ≡ x ∷ rest → all ≡ (done ++ x ∷ []) ++ rest
 one_done {X} all done left rest x split is = split ∙ (ap (λ (xs : List X). done ++ xs) is ∙ sym (append_assoc done (x ∷ []) rest))
 

@@ -6,7 +6,7 @@ use Rattle.world.proofs.station.cut_core.Goals as goal
 at_most : (r n : ℕ) → r < n → r ≤ n
 at_most r n h = omega arith
 
--- what the core has that is made of the journal's first records
+-- the core that was made has the first records of the journal
 left : (c : goal.After-drop) → IsLeft (node_of c.args.core.now) (journal_of c.args.core.now) c.args.records c.replace.new.dest
 left c =
     left_short (node_of c.args.core.now) (journal_of c.args.core.now) c.args.records c.replace.new.dest

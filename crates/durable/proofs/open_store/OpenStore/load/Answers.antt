@@ -9,7 +9,7 @@ use Rattle.stores.specs.declared.fault.StoreFault.{StoreFault}
 use Rattle.stores.specs.declared.fault.StoreFault.TheVariants.{Damaged, Reopen}
 use Rattle.durable.proofs.open_store.OpenStore.load.Goals as goal
 
--- what was read of as many places as there are was read of all
+-- to read as many places as there are is to read all of them
 all : (places : Places) (waiting : Bool) (n : ℕ) (P : Places → Type 0) → (IsTrue waiting → P places) → (waiting ≡ false → n ≡ length places) → P (take n (drop 0 places)) → P places
 all places true n P waits counted found = waits refl
 all places false n P waits counted found = subst P (take_all n places (let m = counted refl in omega (arith, m))) found

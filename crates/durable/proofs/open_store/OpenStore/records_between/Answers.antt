@@ -12,7 +12,7 @@ use Rattle.stores.specs.declared.fault.StoreFault.TheVariants.{Damaged}
 use Rattle.store_tables.proofs.PlacesRead.{front, as-many}
 use Rattle.durable.proofs.open_store.OpenStore.records_between.Goals as goal
 
--- what was found, of every list of places whose front was read, is so of these
+-- a finding that holds for every list of places whose front was read holds for these places
 at-ok : (first n : ℕ) (places : Places) (bodies : List (List ℕ)) (r : Result (Vec Input Global) StoreFault) → length places ≡ n → unbroken places ≡ bodies
     → IfOk r (λ inputs. (all : Places) → length all ≡ n → unbroken all ≡ bodies → AreRecords all inputs.items) → IfOk r (λ inputs. AreRecords places inputs.items)
 at-ok first n places bodies (Ok inputs) len is each = each places len is

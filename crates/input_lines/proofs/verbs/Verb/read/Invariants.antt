@@ -3,6 +3,6 @@ use Rattle.input_lines.specs.Verbs.{verb_text}
 use Rattle.input_lines.specs.declared.verbs.Verb.TheVariants.{Propose}
 use Rattle.input_lines.proofs.verbs.Verb.read.Given as goal
 
--- none of the first words so far is this one
+-- none of the verbs compared so far is this word
 abbrev pub invariant-loop-verb : goal.invariant-loop-verb
 invariant-loop-verb l = (n : ℕ) → n < l.verb-index → l.word ≡ verb_text (get_or l.verb-items n Propose) → ⊥

@@ -7,7 +7,7 @@ use Rattle.units.proofs.Lists.FirstIndices.{index_below, index_find, index_nowhe
 use Rattle.scheme.proofs.Searching.{has_code}
 use Rattle.scheme.proofs.registries.Scheme.member.Goals as goal
 
--- what is lent of an index that the list has
+-- the element that is lent at an index that the list has
 lent : (ms : List SchemeRegistry) (i : ℕ) (r : Option (Bor SchemeRegistry)) (P : Bor SchemeRegistry → Type 0) → i < length ms → MatchOption r (length ms ≤ i) P → IfSome r (λ m. m.now ≡ get_or ms i m.now) → option_copied r ≡ slice_get ms i
 lent ms i None P below past is = absurd (omega (arith, below, past))
 lent ms i (Some m) P below past is = ap Some is ∙ sym (slice_get-get_or ms i m.now below)

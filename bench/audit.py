@@ -1,12 +1,17 @@
 #!/usr/bin/env python3
-"""How long `kyoto-link audit` takes over stores with many records, and how much memory.
+"""Measures the time and the memory of `kyoto-link audit` over stores with many records.
+
+    audit.py [--runs N] [--records N]
 
 The stores have the journals of whole transfers between 2 and between 32 registries, in three sizes, written by SQLite's
-library; the table that `audit` writes shows that each transfer is Completed. Printed are the best times in seconds with the
-ratio of each doubling, the greatest peak of memory as a multiple of the bytes of the records' texts, and, for the largest
-size, the time as a multiple of what SQLite's library takes to find the valid JSON texts in the same files; and how long
-`kyoto-link show` takes over the log's store, as a multiple of what the `sqlite3` shell takes to write the same records. The
-exit status is 1 where a limit is passed; those of memory, of SQLite and of the shell are for the largest size.
+library. In the table that `audit` writes, each transfer must be Completed. A line for each size has the best time in
+seconds, its ratio to that of the previous size, and the greatest peak of memory as a multiple of the bytes of the
+records' texts. For the largest size, the line also has the time as a multiple of the time that SQLite's library needs
+to find the valid JSON texts in the same files, and the time of `kyoto-link show` over the log's store as a multiple of
+the time in which the `sqlite3` shell writes the same records.
+
+The exit status is 1 if a limit is exceeded or a program fails. The limits of memory, of SQLite and of the shell apply
+to the largest size.
 """
 
 import argparse
@@ -24,7 +29,7 @@ MOST_RATIO = 2.3
 MOST_TIMES_SQLITE = 6.0
 MOST_TIMES_SHELL = 6.0
 MOST_TIMES_BYTES = 20.0
-# Records of a whole transfer, at its three nodes.
+# The number of records of a whole transfer, at its three nodes.
 RECORDS_EACH = 7
 MOMENT = 1335830400
 VALID = "SELECT count(*) FROM entries WHERE json_valid(body)"
@@ -47,7 +52,7 @@ def proposal(source, status, to, acquirer, name, units):
 
 
 def journals(codes, count):
-    """The records of each node: each registry in turn gives a unit to the next one."""
+    """Returns the records of each node. Each registry in turn transfers a unit to the next one."""
     records = {node: [] for node in ["ITL", *codes]}
     for number in range(count):
         initiator, acquirer = codes[number % len(codes)], codes[(number + 1) % len(codes)]
@@ -64,7 +69,7 @@ def journals(codes, count):
 
 
 def write_stores(folder, texts_of):
-    """Makes a store for each node with the texts of its records, and returns the bytes of all records."""
+    """Makes a store for each node with the texts of its records, and returns the number of bytes of all records."""
     length = 0
     for node, texts in texts_of.items():
         write_store(folder, node, texts)
@@ -73,7 +78,7 @@ def write_stores(folder, texts_of):
 
 
 def sqlite_time(folder):
-    """The seconds that SQLite's library takes to find the valid texts of all stores."""
+    """Returns the seconds that SQLite's library needs to find the valid texts of all stores."""
     start = time.perf_counter()
     for path in sorted(folder.glob("*.db")):
         store = sqlite3.connect(path)
@@ -83,7 +88,7 @@ def sqlite_time(folder):
 
 
 def times_of_shell(scheme_file, folder, taken, runs):
-    """How many times as long as the `sqlite3` shell `show` takes over the log's store."""
+    """Returns the time of `show` over the log's store as a multiple of the `sqlite3` shell's."""
     ours = min(run([program(), "show", scheme_file, folder, "ITL"], scheme_file, taken)[0] for _ in range(runs))
     shown = sum(1 for line in taken.read_text(encoding="utf-8").splitlines() if line[:1].isdigit())
     theirs = min(run(["sqlite3", "-separator", " ", folder / "ITL.db", RECORDS_OF], scheme_file, taken)[0] for _ in range(runs))
@@ -101,7 +106,7 @@ def check_table(path, name, count):
 
 
 def measure(name, codes, largest, runs, room):
-    """Prints a line for each size, and returns whether it keeps the limits."""
+    """Prints a line for each size, and returns whether all are within the limits."""
     kept, before = True, None
     for size in (largest // 4, largest // 2, largest):
         with tempfile.TemporaryDirectory(dir=room) as place:
@@ -133,10 +138,10 @@ def measure(name, codes, largest, runs, room):
 
 def main():
     parser = argparse.ArgumentParser(description=__doc__.splitlines()[0])
-    parser.add_argument("--runs", type=int, default=3, help="runs of each; the best one counts")
-    parser.add_argument("--records", type=int, default=1_000_000, help="records of all stores in the largest size")
+    parser.add_argument("--runs", type=int, default=3, help="the number of runs of each command; the best time counts")
+    parser.add_argument("--records", type=int, default=1_000_000, help="the number of records of all stores in the largest size")
     words = parser.parse_args()
-    need("sqlite3", "writes records beside show")
+    need("sqlite3", "is compared with show")
     program()
     largest = max(4, words.records // RECORDS_EACH)
     kept = True

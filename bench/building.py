@@ -1,4 +1,4 @@
-"""How a bench has `rt` prove and build the program that measures parts of this repository, and `gcc` a program in C."""
+"""Builds programs for the benches: crates/benches by `rt`, and programs in C by `gcc`."""
 
 import pathlib
 import shutil
@@ -10,18 +10,18 @@ from endings import check_end, run_to_end
 CRATES = pathlib.Path(__file__).resolve().parent.parent / "crates"
 CRATE = CRATES / "benches"
 PROGRAM = CRATE / "out" / "benches"
-# Words by which nothing is measured.
+# Words with which the program measures nothing.
 NOTHING = ["memory", "0"]
 
 
 def need(program, use):
-    """Ends the bench where that program isn't there to be used."""
+    """Exits with status 1 if the program isn't on PATH."""
     if shutil.which(program) is None:
         sys.exit(f"{program}, which {use}, isn't on PATH")
 
 
 def is_built():
-    """Whether the program is there, as the gate or `rt run` built it, and no source was changed since."""
+    """Returns whether the gate or `rt run` built the program, and no source was changed since."""
     if not PROGRAM.exists():
         return False
     built = PROGRAM.stat().st_mtime
@@ -30,7 +30,8 @@ def is_built():
 
 
 def prove_and_build():
-    """Proves and builds the program, where that isn't done yet. rt runs what it built, which measures nothing then."""
+    """Proves and builds the program, unless that is done. `rt run` also runs it, with words with which it measures
+    nothing."""
     if is_built():
         return
     need("rt", "builds the program")
@@ -40,6 +41,6 @@ def prove_and_build():
 
 
 def build_c(source, program, *options):
-    """Has gcc build the program of that source. What gcc says goes to standard error."""
+    """Builds a program from a source in C by gcc, whose messages go to standard error."""
     need("gcc", f"builds {source.name}")
     run_to_end(["gcc", "-O2", "-Wall", "-Wextra", "-o", program, source, *options])

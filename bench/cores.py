@@ -1,11 +1,16 @@
 #!/usr/bin/env python3
-"""How long a registry and the log take for many inputs, and how much memory a registry's records take.
+"""Measures the time of a registry and of the log for many inputs, and the memory of a registry's records.
 
-Each is given 100,000, 200,000 and 400,000 inputs of whole transfers. Printed are the best times, the records a second, and with how much
-longer each doubling takes. Then a registry closes and opens an account, 1,000,000 times in all: printed are the best time, and the peak of
-memory for each record beside the bytes of its text. The log is given 10,000 clean-ups by which none of 100,000 Checked transactions has expired,
-and 10,000 orders on a registry's eligibility beside them. The exit status is 1 where a doubling is over its limit, or the clean-ups take
-longer than the orders.
+    cores.py [--runs N]
+
+A registry and the log take 100,000, 200,000 and 400,000 inputs of whole transfers. For each number the best time, the
+records a second and the ratio to the previous time are printed. Then a registry closes and opens an account, 1,000,000
+times in all; printed are the best time, the peak of memory for each record, and the bytes of its text. Finally the log
+takes 10,000 clean-ups, at which none of 100,000 Checked transactions has expired, and 10,000 orders on a registry's
+eligibility; printed are the best times.
+
+The exit status is 1 if the ratio of a doubling exceeds its limit, if the clean-ups take longer than the orders, or if
+the program fails.
 """
 
 import argparse
@@ -19,9 +24,9 @@ from records import record
 
 SIZES = (100_000, 200_000, 400_000)
 ACCOUNT_ORDERS = 1_000_000
-# For so few inputs the program prints nothing.
+# With this number of inputs the program prints nothing.
 LEAST = 9
-# How many inputs a round of transfers has, and how many of them are recorded.
+# The number of inputs of a round of transfers, and the number of those that are recorded.
 ROUNDS = {"transfers": (9, 7), "log": (8, 6)}
 CLEAN_UPS = 10_000
 # The texts of the two records that alternate.
@@ -30,7 +35,7 @@ MOST_DOUBLING = 2.3
 
 
 def run(work, inputs):
-    """What the program prints, and the peak of its memory in bytes."""
+    """Returns the program's output, and the peak of its memory in bytes."""
     words = [PROGRAM, work, str(inputs)]
     with subprocess.Popen(words, stdout=subprocess.PIPE, text=True) as started:
         printed = started.stdout.read()
@@ -41,7 +46,7 @@ def run(work, inputs):
 
 
 def measured(work, inputs, wanted):
-    """The seconds, and the peak of memory in bytes, where at least so many inputs were recorded."""
+    """Returns the seconds, and the peak of memory in bytes. At least `wanted` inputs must be recorded."""
     printed, peak = run(work, inputs)
     microseconds, recorded = (int(word) for word in printed.split())
     if recorded < wanted:
@@ -50,7 +55,7 @@ def measured(work, inputs, wanted):
 
 
 def print_transfers(work, runs):
-    """Whether each doubling is within its limit."""
+    """Prints a line for each size, and returns whether each doubling is within its limit."""
     steps, records_of_a_round = ROUNDS[work]
     best = dict.fromkeys(SIZES, float("inf"))
     for _ in range(runs):
@@ -72,7 +77,7 @@ def print_transfers(work, runs):
 
 
 def print_accounts(runs):
-    """Prints the best time, and the memory of a record beside its text."""
+    """Prints the best time, the memory of a record, and the bytes of its text."""
     best, peak = min(measured("accounts", ACCOUNT_ORDERS, ACCOUNT_ORDERS) for _ in range(runs))
     _, empty = run("accounts", LEAST)
     memory = (peak - empty) / ACCOUNT_ORDERS
@@ -81,16 +86,16 @@ def print_accounts(runs):
 
 
 def print_clean_ups(runs):
-    """Whether clean-ups by which nothing has expired take no longer than orders on eligibility."""
+    """Prints both times, and returns whether clean-ups that find nothing take no longer than orders on eligibility."""
     clean_ups = min(measured("clean-ups", CLEAN_UPS, 0)[0] for _ in range(runs))
     orders = min(measured("eligibility", CLEAN_UPS, CLEAN_UPS)[0] for _ in range(runs))
-    print(f"{CLEAN_UPS:>9,} clean-ups {clean_ups * 1_000:.2f} ms  as many orders on eligibility {orders * 1_000:.2f} ms (limit of the clean-ups)")
+    print(f"{CLEAN_UPS:>9,} clean-ups {clean_ups * 1_000:.2f} ms  orders on eligibility {orders * 1_000:.2f} ms (limit of the clean-ups)")
     return clean_ups <= orders
 
 
 def main():
     parser = argparse.ArgumentParser(description=__doc__.splitlines()[0])
-    parser.add_argument("--runs", type=int, default=5, help="runs of each size; the best times count")
+    parser.add_argument("--runs", type=int, default=5, help="the number of runs of each size; the best times count")
     given = parser.parse_args()
     prove_and_build()
     runs = max(1, given.runs)
@@ -98,7 +103,7 @@ def main():
     print_accounts(runs)
     kept = print_transfers("log", runs) and kept
     kept = print_clean_ups(runs) and kept
-    print("within the limits" if kept else "over a limit")
+    print("within the limits" if kept else "a limit is exceeded")
     return 0 if kept else 1
 
 

@@ -1,4 +1,4 @@
-"""The furthest cut of the records of all nodes by checker/, and what `kyoto-link audit --cut` has to write of it."""
+"""Finds the furthest cut of all nodes' records by checker/, and the expected output of `kyoto-link audit --cut`."""
 
 import json
 import pathlib
@@ -15,7 +15,7 @@ CALLS = {"AcceptProposal": "proposal", "RequestCancellation": "request"}
 
 
 def message_of(parts):
-    """The message with these keys and values."""
+    """Returns the message with these keys and values."""
     kind = CALLS.get(parts["call"]) or parts["status"]
     status = content = None
     if kind == "proposal":
@@ -27,7 +27,7 @@ def message_of(parts):
 
 
 def given_of(text):
-    """What a record's text says that the node was given."""
+    """Returns the node's input that a record's text describes."""
     parts = json.loads(text)
     name = parts["input"]
     if name == "received":
@@ -45,18 +45,18 @@ def given_of(text):
 
 
 def blocks_of(given):
-    """The blocks that an order or a message names."""
+    """Returns the blocks that an order or a message names."""
     content = given.value[0].content if given.name == "message" else given.value if given.name == "propose" else None
     return content.units if content else []
 
 
 def name_of(message):
-    """One text for equal messages."""
+    """Returns a text that is the same for equal messages."""
     return json.dumps(message_text(message), sort_keys=True)
 
 
 def forged(chance, codes):
-    """A message that no node sends, as there is no such transaction, and that the node which it is for would record."""
+    """Returns a message that its receiver would record and that no node sends, since there is no such transaction."""
     initiator, acquirer = chance.sample(codes, 2)
     kind, status, content = chance.choice(("proposal", "request", "Checked", "Cancelled")), None, None
     to_log = kind in ("proposal", "request")
@@ -68,7 +68,7 @@ def forged(chance, codes):
 
 
 class Cut:
-    """The world that the texts of all nodes' records lead to, followed as far as others sent what they received."""
+    """The world to which the texts of all nodes' records lead, up to messages that no node sent."""
 
     def __init__(self, scheme, records, blocks=()):
         registries, most = formats.scheme(scheme)
@@ -80,7 +80,7 @@ class Cut:
             pass
 
     def follow(self, name, node):
-        """Gives the node the records that come next, up to a message that nobody sent. Whether there was one."""
+        """Gives the node its next records, up to a message that no node sent. Returns whether there was one."""
         start, known = len(node.journal), len(node.sent)
         for place, given in enumerate(self.given[name][start:], start):
             if given.name == "message" and name_of(given.value[0]) not in self.sent:
@@ -92,14 +92,15 @@ class Cut:
         return len(node.journal) > start
 
     def rests(self):
-        """Of each node with records left its name, the first one's place, their number, and the first one's message."""
+        """Yields, for each node with records left, its name, the place of the first one, their number, and the message
+        of the first one."""
         for name, node in self.world.nodes.items():
             place = len(node.journal)
             if place < len(self.given[name]):
                 yield name, place, len(self.given[name]) - place, self.given[name][place].value[0]
 
     def text(self):
-        """What `audit --cut` writes."""
+        """Returns the expected output of `audit --cut`."""
         lines = self.world.table()
         for name, place, count, message in self.rests():
             words = f"{message.kind} {formats.identifier_text(message.transaction)} from {message.sender}"
@@ -107,5 +108,5 @@ class Cut:
         return "".join(f"{line}\n" for line in lines)
 
     def fault(self):
-        """What `audit`, and `audit --cut` too, write on standard error."""
+        """Returns the line that `audit` and `audit --cut` must write to standard error."""
         return next((f"kyoto-link: stuck at {name} {place}\n" for name, place, _, _ in self.rests()), "")

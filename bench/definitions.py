@@ -1,12 +1,16 @@
 #!/usr/bin/env python3
-"""Wrong definitions, each of which a worked equation must refuse.
+"""Plants wrong definitions, each of which a worked equation must refuse.
 
-A definition that nothing pins can be wrong unnoticed, and take code and laws with it. Each change below is planted, alone, in a copy
-of the crate `test_definitions` to which the definitions are copied too, and the checker must then find that the equation that the
-list names fails by its value. Nothing else is proved: the laws and the code above a wrong definition don't count. Printed is a line
-for each change; the exit status is 1 where one isn't refused. With --stack changes of one list are planted at once where their texts
-don't touch, which is quicker and says less: one may make the equation of another fail. The libraries have to be built: `rt lib` in
-crates/protocol.
+    definitions.py [--stack] [--only WORD]
+
+A definition that no equation pins can be wrong unnoticed, with the code and the laws that rest on it. Each change of
+the list is planted alone in a copy of the crate `test_definitions`, with a copy of the definitions, and the checker
+must find that the equation that the list names fails by its value. Laws and code are not proved. With --stack, changes
+of one list are planted together if their texts don't touch, which is faster and shows less, since one change may make
+the equation of another one fail. The libraries must be built: `rt lib` in crates/protocol.
+
+A line is printed for each change. The exit status is 1 if a change isn't refused, if an equation fails without a
+change, or if the checker reports another error.
 """
 
 import argparse
@@ -22,17 +26,17 @@ ROOT = pathlib.Path(__file__).resolve().parent.parent
 CRATE = "test_definitions"
 FILES = [it for it in (ROOT / "crates" / CRATE / "proofs").glob("*.antt") if it.name != "Lib.antt"]
 SHARED = ("ShortNames", "ThreeRegistries")
-# Definitions of records that `protocol` hands on as its own.
+# Definitions of the crate `records` that `protocol` exports as its own.
 RECORDS = ("Records", "Sending", "Unacknowledged")
 WORKED_SCHEME = ROOT / "crates" / "protocol" / "proofs" / "WorkedScheme.antt"
-# An error: its file, and the definition that it is in. One that says that a limit was met says nothing of a value.
+# An error: its file, its definition and its text. The error of a limit doesn't show that a value is wrong.
 ERROR = re.compile(r"^(\S+?):\d+:\d+: error: (?:`(\w+)`: )?(.*)", re.MULTILINE)
 LIMIT = re.compile(r"(step|memory) limit")
 
 
 @dataclasses.dataclass(frozen=True)
 class Change:
-    """In that file the old text, which stands there once, is to be the new one. The equation is one that refuses it."""
+    """A change of a file: `old`, which occurs once, becomes `new`, and `equation` must refuse it."""
 
     name: str
     file: str
@@ -42,13 +46,14 @@ class Change:
 
 
 def swapped(name, file, first, second, equation):
-    """Two neighbours of a list of causes, each the whole of its line but for the sign before it, in the other order."""
+    """Returns a change that swaps two neighbours of a list of causes, each of which is a whole line except for the sign
+    before it."""
     text = (ROOT / "crates" / file).read_text()
     lines = {}
     for it in (first, second):
         found = [line for line in text.splitlines() if it in line]
         if len(found) != 1:
-            sys.exit(f"{name}: {it} stands in {len(found)} lines of {file}")
+            sys.exit(f"{name}: {it} is in {len(found)} lines of {file}")
         lines[it] = found[0]
     one, other = (re.sub(r"^ *(∷ )?", "", lines[it]) for it in (first, second))
     old = f"{lines[first]}\n{lines[second]}"
@@ -61,7 +66,7 @@ CHECKS, DECIDING, HISTORY = "protocol/specs/Checks.antt", "protocol/specs/Decidi
 TABLE, WORLD, UNACKNOWLEDGED = "protocol/specs/Table.antt", "protocol/specs/World.antt", "records/specs/Unacknowledged.antt"
 ROWS = "status/specs/Rows.antt"
 
-# By what they are about: those of one list may be planted together.
+# The changes by their subjects. Changes of one list may be planted together.
 CHANGES = {
     "messages at the log": [
         Change("anybody accepts for the acquirer", LOG, "from t k Accepted = is_not_acquirer from k", "from t k Accepted = false", "only_the_acquirer_accepts"),
@@ -125,11 +130,23 @@ CHANGES = {
         swapped("receiving account before acquirer", CHECKS, "no_such_acquirer)", "account_out_of_range)", "acquirer_before_receiving_account"),
     ],
     "findings": [
-        Change("one kind that is taken is enough", CHECKS, "list_any (λ p. not (takes_kind scheme c p.kind)) (pieces k.units)", "not (list_any (λ p. takes_kind scheme c p.kind) (pieces k.units))", "one_kind_of_two"),
+        Change(
+            "one accepted kind is enough",
+            CHECKS,
+            "list_any (λ p. not (takes_kind scheme c p.kind)) (pieces k.units)",
+            "not (list_any (λ p. takes_kind scheme c p.kind) (pieces k.units))",
+            "one_kind_of_two",
+        ),
         swapped("kind before held", CHECKS, "unit_already_held)", "kind_not_taken)", "held_before_kind"),
         swapped("not allotted before overlap", CHECKS, "unit_repeated)", "unit_not_allotted)", "overlap_before_not_allotted"),
         swapped("kind before busy", CHECKS, "other_transfer)", "other_kind)", "busy_before_kind"),
-        Change("only what is checked is busy", HISTORY, "(stands_at xs x.id Checked || stands_at xs x.id Accepted) && carries x s", "stands_at xs x.id Checked && carries x s", "busy_while_accepted"),
+        Change(
+            "only units of checked transactions are busy",
+            HISTORY,
+            "(stands_at xs x.id Checked || stands_at xs x.id Accepted) && carries x s",
+            "stands_at xs x.id Checked && carries x s",
+            "busy_while_accepted",
+        ),
     ],
     "the world": [
         Change("a stopped node takes inputs", WORLD, "take_input scheme input s = running s (answered s input (verdict scheme s.node (history scheme s.node (journal s)) input))", "take_input scheme input s = answered s input (verdict scheme s.node (history scheme s.node (journal s)) input)", "stopped_registry"),
@@ -146,8 +163,14 @@ CHANGES = {
         Change("a message that nobody sent is an order", WORLD, "is_order w n (Received m moment) = false", "is_order w n (Received m moment) = true", "message_that_nobody_sent"),
     ],
     "tables and messages to be acknowledged": [
-        Change("what was received is due", TABLE, "not (is_received f p.id (Some p.content))", "is_received f p.id (Some p.content)", "due_at_first"),
-        Change("what is acknowledged is awaited", UNACKNOWLEDGED, " && not (is_acknowledged key)", "", "awaits_no_acknowledged"),
+        Change(
+            "units that were received are due",
+            TABLE,
+            "not (is_received f p.id (Some p.content))",
+            "is_received f p.id (Some p.content)",
+            "due_at_first",
+        ),
+        Change("an acknowledged message is awaited", UNACKNOWLEDGED, " && not (is_acknowledged key)", "", "awaits_no_acknowledged"),
     ],
     "rows": [
         Change("rejected again is late at the initiator", ROWS, "initiator_row (Stands Rejected) (Notified Rejected) = Repeat", "initiator_row (Stands Rejected) (Notified Rejected) = Late", "initiator_at_rejected"),
@@ -159,12 +182,24 @@ CHANGES = {
         Change("a request at Terminated is a repeat", ROWS, "log_row (Stands Terminated) Request = Late", "log_row (Stands Terminated) Request = Repeat", "log_at_terminated"),
         Change("a request at Completed is a repeat", ROWS, "log_row (Stands Completed) Request = Late", "log_row (Stands Completed) Request = Repeat", "log_at_completed"),
         Change("a request at Cancelled is a repeat", ROWS, "log_row (Stands Cancelled) Request = Late", "log_row (Stands Cancelled) Request = Repeat", "log_at_cancelled"),
-        Change("findings after a cancellation are told by the log", ROWS, "log_row Bare ProposalWithFindings = Late", "log_row Bare ProposalWithFindings = Move Terminated", "proposed_after_cancellation"),
-        Change("findings after a cancellation are told by the acquirer", ROWS, "acquirer_row Bare ProposalWithFindings = Late", "acquirer_row Bare ProposalWithFindings = Move Rejected", "passed_on_after_cancellation"),
+        Change(
+            "findings after a cancellation are sent by the log",
+            ROWS,
+            "log_row Bare ProposalWithFindings = Late",
+            "log_row Bare ProposalWithFindings = Move Terminated",
+            "proposed_after_cancellation",
+        ),
+        Change(
+            "findings after a cancellation are sent by the acquirer",
+            ROWS,
+            "acquirer_row Bare ProposalWithFindings = Late",
+            "acquirer_row Bare ProposalWithFindings = Move Rejected",
+            "passed_on_after_cancellation",
+        ),
         Change("cancelled again without content is refused", ROWS, "acquirer_row Bare (Notified Cancelled) = Repeat", "acquirer_row Bare (Notified Cancelled) = Refused", "acquirer_without_content"),
         Change("cancelled again with content is refused", ROWS, "acquirer_row (Stands Cancelled) (Notified Cancelled) = Repeat", "acquirer_row (Stands Cancelled) (Notified Cancelled) = Refused", "acquirer_at_cancelled"),
     ],
-    "histories and what is read off them": [
+    "histories and values derived from them": [
         Change("every record counts as a proposal", HISTORY, "count_by (λ e. is_proposal_order e.input) es", "count_by (λ e. true) es", "numbers_in_order"),
         Change("a request is one for every transaction", HISTORY, "is_request_of t (Request u) = same_id u t", "is_request_of t (Request u) = true", "requests_apart"),
         Change("an order is for every registry", HISTORY, "cond (same_code d c) (Some may) None", "Some may", "eligible_registries"),
@@ -173,35 +208,53 @@ CHANGES = {
         Change("units stay reserved", HISTORY, "(stands_at xs x.id Proposed && carries x s)", "carries x s", "units_of_initiator"),
         Change("a unit that is held is credited", REGISTRY, "unless_held true (Move Completed) = Refused", "unless_held true (Move Completed) = Move Completed", "held_already"),
         Change("units that nobody was allotted aren't in an account", REGISTRY, " ++ flat_map (λ x. option_map_or (λ k. pieces k.units) x.content []) xs", "", "held_without_allotment"),
-        Change("a clean-up of all that was ever checked", LOG, "x ∷ filter (λ y. not (same_id y.id x.id)) (newest_of_each xs)", "x ∷ newest_of_each xs", "cleaned_up_by_age"),
-        Change("what nobody was allotted has another owner", CHECKS, "is_some holder && not (is_owner owner c)", "not (is_owner owner c)", "twice_and_not_allotted"),
+        Change(
+            "a clean-up of all transactions that were ever checked",
+            LOG,
+            "x ∷ filter (λ y. not (same_id y.id x.id)) (newest_of_each xs)",
+            "x ∷ newest_of_each xs",
+            "cleaned_up_by_age",
+        ),
+        Change(
+            "units that nobody was allotted have another owner",
+            CHECKS,
+            "is_some holder && not (is_owner owner c)",
+            "not (is_owner owner c)",
+            "twice_and_not_allotted",
+        ),
         Change("an account that isn't there is closed", CHECKS, "has_account scheme c k.to_account && known.is_closed", "known.is_closed", "closed_accounts"),
         Change("a registry that isn't there isn't eligible", CHECKS, "has_member scheme k.acquirer && not (known", "not (known", "wrong_acquirer"),
         Change("a commit takes the whole tail", WORLD, "committed = s.committed ++ take count s.tail; tail = drop count s.tail", "committed = s.committed ++ s.tail; tail = []", "commit_takes_the_first"),
-        Change("what was received is owed", "protocol/specs/Claims.antt", "gives c s x && not (is_received f x.id x.content)", "gives c s x", "one_place"),
+        Change(
+            "units that were received are owed",
+            "protocol/specs/Claims.antt",
+            "gives c s x && not (is_received f x.id x.content)",
+            "gives c s x",
+            "one_place",
+        ),
         Change("units of two periods are the same", "protocol/specs/Pieces.antt", "same_period a.period b.period && (a.number == b.number)", "a.number == b.number", "other_units"),
     ],
 }
 
 
-# ---- a copy of the crate, in which the definitions are its own
+# ---- a copy of the crate, with definitions of its own
 
 
 def definitions():
-    """The files of definitions that a change may be in."""
+    """Returns the files of definitions in which a change may be."""
     records = [ROOT / "crates" / "records" / "specs" / f"{it}.antt" for it in RECORDS]
     return [*(ROOT / "crates" / "protocol" / "specs").glob("*.antt"), *records, ROOT / "crates" / ROWS]
 
 
 def renamed(text):
-    """The text where it reads the definitions of the copy."""
+    """Returns the text with imports from the definitions of the copy."""
     text = re.sub(r"Rattle\.protocol\.specs\.(?!declared\b)", f"Rattle.{CRATE}.specs.", text)
     text = re.sub(rf"Rattle\.records\.specs\.(?=(?:{'|'.join(RECORDS)})\b)", f"Rattle.{CRATE}.specs.", text)
     return text.replace("Rattle.status.specs.Rows.", f"Rattle.{CRATE}.specs.Rows.").replace("Rattle.protocol.proofs.", f"Rattle.{CRATE}.proofs.")
 
 
 def put(files, folder):
-    """These files, renamed, in the place of those that were there."""
+    """Writes these files, renamed, into the folder, in place of its former files."""
     shutil.rmtree(folder, ignore_errors=True)
     folder.mkdir()
     for it in files:
@@ -213,12 +266,12 @@ def plant(change, folder):
     path = folder / pathlib.Path(change.file).name
     text = path.read_text()
     if text.count(change.old) != 1:
-        sys.exit(f"{change.name}: the text to be replaced stands {text.count(change.old)} times in {change.file}")
+        sys.exit(f"{change.name}: the text to be replaced occurs {text.count(change.old)} times in {change.file}")
     path.write_text(text.replace(change.old, change.new))
 
 
 def file_of(equation):
-    """The file of the crate that has the equation."""
+    """Returns the file of the crate that has the equation."""
     return next(it for it in FILES if re.search(rf"^pub {equation} : ", it.read_text(), re.MULTILINE))
 
 
@@ -226,13 +279,13 @@ def file_of(equation):
 
 
 def below(crate, used):
-    """The repository's libraries that a crate stands on."""
+    """Returns the repository's libraries that a crate uses, directly or through others."""
     lower = [it for it in used[crate] if it in used]
     return {*lower, *(lowest for it in lower for lowest in below(it, used))}
 
 
 def checking(root):
-    """The words by which the checker takes the copy of the crate over built libraries."""
+    """Returns the command by which the checker checks the copy of the crate with built libraries."""
     kit = pathlib.Path(subprocess.run(["rt", "doc"], capture_output=True, text=True, check=True).stdout.strip()).parent
     lines = (line for line in (ROOT / "crates.txt").read_text().splitlines() if line and not line.startswith("#"))
     used = {name: libraries.split() for name, libraries in (line.split(":") for line in lines)}
@@ -240,13 +293,13 @@ def checking(root):
     for it in sorted(below(CRATE, used)):
         library = ROOT / "crates" / it / "out" / "rlib" / f"{it}.rlib"
         if not library.exists():
-            sys.exit(f"{it} isn't built: `rt lib` in crates/protocol builds it and all below it")
+            sys.exit(f"{it} isn't built: `rt lib` in crates/protocol builds it and the crates that it uses")
         words += ["--extern", f"{it}={library}"]
     return [*words, "--antt-project", kit / "rattle" / "logic" / "antt-project.json", "--logic-built", kit / "logic_built"]
 
 
 def failing(words):
-    """The equations that fail. Ends the script where the checker says something else."""
+    """Returns the equations that fail. Exits with the checker's messages if it reports another error."""
     ended = subprocess.run(words, capture_output=True, text=True, check=False)
     said = ended.stdout + ended.stderr
     errors = list(ERROR.finditer(said))
@@ -258,7 +311,8 @@ def failing(words):
 
 
 def stacks(changes, together):
-    """The changes in lists: each alone, or in as few as may be, so that in none of them two touch one another."""
+    """Returns the changes in lists: each alone, or, with `together`, in as few lists as possible without two that
+    touch."""
     found = []
     for change in changes:
         fits = (it for it in found if together and all(apart(change, other) for other in it))
@@ -282,8 +336,8 @@ def apart(one, other):
 
 def main():
     parser = argparse.ArgumentParser(description=__doc__, formatter_class=argparse.RawDescriptionHelpFormatter)
-    parser.add_argument("--stack", action="store_true", help="plant several changes at once")
-    parser.add_argument("--only", default="", metavar="WORD", help="only changes that have this in their names")
+    parser.add_argument("--stack", action="store_true", help="plant several changes together")
+    parser.add_argument("--only", default="", metavar="WORD", help="plant only changes with this text in their names")
     args = parser.parse_args()
     chosen = [[it for it in changes if args.only in it.name] for changes in CHANGES.values()]
     good = True

@@ -1,10 +1,15 @@
 #!/usr/bin/env python3
-"""How long threads at a desk take to record and commit proposals, beside SQLite's C library and beside one thread.
+"""Measures how long threads at a desk need to record and commit proposals.
 
-Four threads take 100,000 proposals in all and a fifth commits them, to a store in memory and to one in a file; the C program of
-bench/store.c makes the same number of commits of 64 records each. Then a state with 1,000,000 messages to 31 registries is asked
-10,000 times for the next one, beside 10,000 look-ups in an ordered map of as many keys. Printed are the best times and the records a
-second. The exit status is 1 where the calls for the next message take longer than their limit.
+    desk.py [--records N] [--runs N] [--folder DIR]
+
+Four threads take 100,000 proposals in all and a fifth one commits them, to a store in memory and to one in a file. They
+are compared with one thread, and with the C program of bench/store.c, which makes the same number of commits of 64
+records each. Then a state with 1,000,000 messages to 31 registries is asked 10,000 times for the next one, which is
+compared with 10,000 look-ups in an ordered map of the same number of keys. Printed are the best times and the records a
+second.
+
+The exit status is 1 if the calls for the next message exceed their limit, or if a program fails.
 """
 
 import argparse
@@ -25,7 +30,7 @@ MOST_LOOKUPS = 100
 
 
 def run(words):
-    """The times that the program prints, in milliseconds."""
+    """Returns the times that the program prints, in milliseconds."""
     ended = run_to_end([PROGRAM, *map(str, words)], stdout=subprocess.PIPE, text=True)
     return [int(line) / 1_000 for line in ended.stdout.splitlines()]
 
@@ -44,9 +49,9 @@ def in_c(program, room, records):
 
 def parse_words():
     parser = argparse.ArgumentParser(description=__doc__.splitlines()[0])
-    parser.add_argument("--records", type=int, default=RECORDS, help="proposals in all, at most 999,999")
-    parser.add_argument("--runs", type=int, default=3, help="the best times count")
-    parser.add_argument("--folder", default=TOP.parent, help="where the temporary folder of the stores is made")
+    parser.add_argument("--records", type=int, default=RECORDS, help="the number of proposals in all, at most 999,999")
+    parser.add_argument("--runs", type=int, default=3, help="the number of runs; the best times count")
+    parser.add_argument("--folder", default=TOP.parent, help="the folder in which the temporary folder of the stores is made")
     given = parser.parse_args()
     given.records = min(max(store.BATCH, given.records), MOST_RECORDS)
     given.runs = max(1, given.runs)

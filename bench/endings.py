@@ -1,15 +1,15 @@
-"""Programs that a bench starts. Where one of them ends otherwise than it should, the bench ends too, with status 1."""
+"""Checks the ends of programs that a bench starts. If one is wrong, the bench exits with status 1."""
 
 import subprocess
 import sys
 
-# How many of the last characters of what a program said are told.
+# The number of the last characters of a program's messages that are printed.
 MOST_SAID = 2_000
 
 
 def check_end(words, status, wanted=(0,), said=None):
-    """Ends the bench where the program that these words started ended with a status that isn't wanted, and tells of it. The
-    status is below 0 where a signal ended the program."""
+    """Exits with a message if the program that these words started ended with none of the wanted statuses. A status
+    below 0 is that of a signal."""
     if status in wanted:
         return
     command = " ".join(map(str, words)).split("\n")[0]
@@ -19,7 +19,7 @@ def check_end(words, status, wanted=(0,), said=None):
 
 
 def run_to_end(words, **given):
-    """What `subprocess.run` gives of a program that ends with status 0."""
+    """Runs a program by `subprocess.run`, which must end with status 0, and returns its result."""
     ended = subprocess.run(words, check=False, **given)
     check_end(words, ended.returncode, said=ended.stderr)
     return ended

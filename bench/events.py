@@ -1,23 +1,26 @@
 #!/usr/bin/env python3
-"""Whether `kyoto-link events` and `kyoto-link audit --cut` write what the records of runs with threads explain.
+"""Checks `kyoto-link events` and `kyoto-link audit --cut` over stores of runs, over copies and over forged records.
 
-Four parts, of which those named are tried, and all where none is:
+    events.py [--runs [N]] [--copies [N]] [--records [N]] [--forged [N]] [--seed N]
 
---runs N: random runs over N folders. Under a random scheme of 2 to 5 registries random scripts are run one after
-another over one folder, most of them killed at a random moment. Then `audit` must write a table; `rehearse` of what
-`events` writes must end with it, and checker/ come to the same report and to the very records of the stores; `chart`
-must draw those events with that table; and `audit --cut` must write that table alone.
---copies N: N sets of copies of the stores of runs that go on, one node's copied after another's. `audit --cut` must
-write what bench/cuts.py finds by checker/: the table, what is left of each node's records, and which message that
-waits for. By the table alone held and owed must be what was allotted, no unit in two lines, and no transaction of two
-minds. `audit` must say the same, with the same status. A set with a torn copy, torn by SQLite's library too, isn't
-counted.
---records N: the best times of `audit`, `events` and `audit --cut` over stores with N records, of 2 and 32 registries.
---forged N: N times the stores of a run with one record put in, of a message that nobody sent. `audit` must be stuck,
-and `audit --cut` write the table up to there and that very record.
+The options choose the parts to try; without one of them all four are tried.
 
-The first difference is told with its seed and the folder, which is kept then, and the exit status is 1, as it is
-where no set of copies had records left, and where `events` takes more than 2.5 times as long as `audit`.
+- --runs N: random runs over N folders. Under a random scheme of 2 to 5 registries random scripts are run one after
+  another over one folder, most of them killed at a random moment. Then `audit` must write a table; `rehearse` of the
+  output of `events` must end with that table; checker/ must have the same report and the same records as the stores;
+  `chart` must draw those events with that table; and `audit --cut` must write that table alone.
+- --copies N: N sets of copies of the stores of runs that go on, copied one node after another. `audit --cut` must write
+  the cut that bench/cuts.py finds by checker/: the table, the number of records left at each node, and the message for
+  which the first of them waits. In the table, held and owed units must add up to the allotted ones, no unit may be in
+  two lines, and no transaction may be Completed at one node and undone at another. `audit` must report the same fault
+  with the same status. A set with a torn copy, which SQLite's library finds torn too, isn't counted.
+- --records N: the best times of `audit`, `events` and `audit --cut` over stores with N records, of 2 and 32 registries.
+- --forged N: N times the stores of a run with one record inserted, of a message that no node sent. `audit` must be
+  stuck, and `audit --cut` must write the table up to that record and name it.
+
+A line is printed for each part. At the first difference the script prints it with its seed and its folder, which is
+kept, and exits with status 1. The exit status is also 1 if no set of copies had records left, or if `events` takes more
+than 2.5 times as long as `audit`.
 """
 
 import argparse
@@ -40,13 +43,13 @@ from night import Rehearsal, record_text, wrong_table
 from rehearse import codes_of, program, run, scheme
 
 DEFAULTS = {"runs": 100, "copies": 50, "records": 1_000_000, "forged": 20}
-# After how many seconds at most a run is killed.
+# The most seconds after which a run is killed.
 LONGEST = 0.6
 MOST_TIMES_AUDIT = 2.5
 TRIES = 3
-# Lines of a whole transfer: an event and a commit for each record, and a post for each message.
+# The lines of a whole transfer: an event and a commit for each record, and a post for each message.
 LINES_EACH = 20
-# Among that many registries copies are taken, of a run with that many orders, which has at most that many sets.
+# The registries and the orders of a run whose stores are copied, and the most sets of copies of one run.
 REGISTRIES, ORDERS, SETS = 3, 2_000, 6
 MEMORY = pathlib.Path("/dev/shm")
 STATUSES = ("Proposed", "Checked", "Accepted", "Rejected", "Terminated", "Cancelled", "Completed")
@@ -55,13 +58,14 @@ DAMAGED = re.compile(r"kyoto-link: store (\w+): (?:damaged \d+|device)\n")
 
 
 class Play(Rehearsal):
-    """A random scheme of 2 to 5 registries and random scripts, each line chosen by what those before it lead to."""
+    """A random scheme of 2 to 5 registries and random scripts. Each line is chosen after the effects of those before
+    it."""
 
     def __init__(self, seed):
         super().__init__(seed, (2, 3, 4, 5))
 
     def settle(self):
-        """Has each message that was sent delivered."""
+        """Delivers each message that was sent."""
         nodes, passed = self.world.nodes, collections.Counter()
         while waiting := [name for name, node in nodes.items() if passed[name] < len(node.sent)]:
             for name in waiting:
@@ -82,7 +86,7 @@ class Play(Rehearsal):
         for _ in range(self.random.choice((40, 100, 400))):
             line = self.orders()
             outcome = self.world.apply(formats.event(line))
-            # A script has no acknowledgements, and this one not many orders that come to nothing.
+            # A script has no acknowledgements, and this one has few orders that are not recorded.
             if line.startswith("ack ") or (outcome[:8] != "recorded" and self.random.random() < 0.8):
                 continue
             lines.append(line)
@@ -94,7 +98,7 @@ class Play(Rehearsal):
 
 
 def check_events(folder):
-    """Looks at what the commands write of the stores. How many events there are, and the table."""
+    """Checks the outputs of the commands over the stores. Returns the number of events, and the table."""
     table = do("audit", folder.scheme, folder.stores).stdout
     differ(wrong := wrong_table(folder.text, table.splitlines()), f"the table has {wrong}")
     events = do("events", folder.scheme, folder.stores).stdout
@@ -105,7 +109,7 @@ def check_events(folder):
     report = do("rehearse", given=events).stdout
     outcomes = report.splitlines(keepends=True)[:len(lines)]
     compare(report, "".join([*outcomes, table]), "rehearse of the events and audit write different tables")
-    differ(odd := [it for it in outcomes if not DONE.fullmatch(it)], f"an event of the run came to {odd[:1]}")
+    differ(odd := [it for it in outcomes if not DONE.fullmatch(it)], f"an event of the run has the outcome {odd[:1]}")
     checked, world = worlds.rehearse(events)
     compare(report, checked, "rehearse and checker/ have different reports of the events")
     for name, texts in folder.records().items():
@@ -113,7 +117,7 @@ def check_events(folder):
         same = list(map(record_text, journal)) == texts and world.committed[name] == len(journal)
         differ(not same, f"the events lead to other records of {name}")
     wanted = sum(2 * len(node.journal) + len(node.sent) for node in world.nodes.values())
-    differ(len(lines) != wanted, "the events are more than a record's, its commit and its posts")
+    differ(len(lines) != wanted, "there are other events than one for each record, its commit and its posts")
     cut = do("audit", "--cut", folder.scheme, folder.stores)
     compare(cut.stdout + cut.stderr, table, "audit --cut and audit write different tables")
     chart, last = do("chart", given=events).stdout, "<br/>".join(table.splitlines())
@@ -122,7 +126,7 @@ def check_events(folder):
 
 
 def try_run(seed, path, came):
-    """Random scripts over one folder, and a look at what the stores have then."""
+    """Runs random scripts over one folder, and checks the stores."""
     play = Play(seed)
     folder = Folder(path, play.text)
     for _ in range(play.random.randint(1, 5)):
@@ -143,7 +147,7 @@ def try_run(seed, path, came):
 
 
 def lines_of_transfers(chance, codes):
-    """A script: most transfers are Completed, some Rejected, Terminated or Cancelled."""
+    """Yields the lines of a script: most transfers are Completed, some Rejected, Terminated or Cancelled."""
     for number in range(ORDERS):
         unit, place = number // len(codes) + 1, number % len(codes)
         code, other = codes[place], codes[(place + 1) % len(codes)]
@@ -160,10 +164,10 @@ def lines_of_transfers(chance, codes):
 
 
 def check_cut(folder, stores, ended, records):
-    """Looks at what `audit --cut` wrote of stores with these records. How many of them are left."""
+    """Checks the output of `audit --cut` over stores with these records. Returns the number of records left."""
     cut = Cut(folder.text, records)
     fault = cut.fault()
-    compare(ended.stdout, cut.text(), "audit --cut writes something else than checker/ finds")
+    compare(ended.stdout, cut.text(), "audit --cut writes another cut than checker/ finds")
     differ((ended.returncode, ended.stderr) != (bool(fault), fault), f"audit --cut ended with {ended.stderr.strip()}")
     differ(wrong := wrong_table(folder.text, ended.stdout.splitlines()), f"the table has {wrong}")
     audited = do("audit", folder.scheme, stores, wanted=(0, 1))
@@ -173,10 +177,10 @@ def check_cut(folder, stores, ended, records):
 
 
 def try_copies(seed, path, came):
-    """Sets of copies of the stores of one run, taken while it goes on."""
+    """Takes sets of copies of the stores of a run that goes on, and checks each."""
     chance = random.Random(seed)
     folder, places = Folder(path, scheme(codes_of(REGISTRIES), ORDERS // REGISTRIES)), []
-    # It ends with a question that has to wait, so that the run is there as long as copies are taken.
+    # The last line is a question that waits, so that the run goes on while copies are taken.
     process = folder.start([*lines_of_transfers(chance, folder.codes), "until ITL AA999999 Completed 10000"])
     while process.poll() is None and len(places) < SETS:
         time.sleep(chance.uniform(0, 0.3))
@@ -193,7 +197,7 @@ def try_copies(seed, path, came):
         ended = do("audit", "--cut", folder.scheme, place, wanted=(0, 1, 4))
         if ended.returncode == 4:
             found = DAMAGED.fullmatch(ended.stderr)
-            differ(not found or is_whole(place / f"{found[1]}.db"), f"of {place.name}: {ended.stderr.strip()}")
+            differ(not found or is_whole(place / f"{found[1]}.db"), f"{place.name}: {ended.stderr.strip()}")
             came.update(torn=1)
             continue
         records = folder.records(place)
@@ -204,7 +208,7 @@ def try_copies(seed, path, came):
 
 
 def try_forged(seed, path, came):
-    """The stores of a run with one record put in."""
+    """Inserts one record into the stores of a run, and checks the commands over them."""
     chance = random.Random(seed)
     folder = Folder(path, scheme(codes_of(REGISTRIES), ORDERS // REGISTRIES))
     end_of(folder.start(itertools.islice(lines_of_transfers(chance, folder.codes), 60)))
@@ -213,17 +217,17 @@ def try_forged(seed, path, came):
     place = chance.randrange(len(records[name]) + 1)
     put_in(folder.stores / f"{name}.db", place, text)
     records[name].insert(place, text)
-    differ(folder.records() != records, "show writes other records than were put in")
+    differ(folder.records() != records, "show writes other records than the stores have")
     ended = do("audit", "--cut", folder.scheme, folder.stores, wanted=(1,))
     words = f"{message.kind} {formats.identifier_text(message.transaction)} from {message.sender}"
     lines = f"\nleft {name} {place} {len(records[name]) - place}\nwaits {name} {place} {words}\n"
-    differ(lines not in ended.stdout, f"audit --cut doesn't say that record {place} of {name} waits for {words}")
+    differ(lines not in ended.stdout, f"audit --cut doesn't report that record {place} of {name} waits for {words}")
     left = check_cut(folder, folder.stores, ended, records)
     came.update(folders=1, left=left, records=sum(map(len, records.values())))
 
 
 def measure(registries, count):
-    """Prints the best times over stores of whole transfers. Whether `events` keeps its limit."""
+    """Prints the best times over stores of whole transfers. Returns whether `events` is within its limit."""
     with tempfile.TemporaryDirectory() as place:
         stores, given, taken = (pathlib.Path(place) / name for name in ("stores", "scheme", "output"))
         stores.mkdir()
@@ -240,15 +244,15 @@ def measure(registries, count):
                 elif output == taken and sum(1 for _ in taken.open("rb")) != 1 + LINES_EACH * size:
                     sys.exit("events writes another number of lines")
     best = {name: min(spent) for name, spent in times.items()}
-    told = (f"{name} {spent:.2f} s, {spent / best['audit']:.2f} times audit" for name, spent in best.items())
-    print(f"{registries} registries, {RECORDS_EACH * size:,} records: {'; '.join(told)}", flush=True)
+    parts = (f"{name} {spent:.2f} s, {spent / best['audit']:.2f} times audit" for name, spent in best.items())
+    print(f"{registries} registries, {RECORDS_EACH * size:,} records: {'; '.join(parts)}", flush=True)
     return max(best["events to nowhere"], best["events to a file"]) <= MOST_TIMES_AUDIT * best["audit"]
 
 
-# How a part is tried, what is counted of it, and what is told of it.
+# The function that tries a part, the name of its count, and the line that is printed.
 PARTS = {
     "runs": (try_run, "folders", "{folders} folders with {runs} runs, {killed} of them killed: {events} events, "
-             "{transactions} transactions, {open} of them under way in the end, in {unfinished} folders"),
+             "{transactions} transactions, {open} of them under way at the end, in {unfinished} folders"),
     "copies": (try_copies, "sets", "{sets} sets of copies with {records} records: {with_rest} sets had records left, "
                "{left} in all; {torn} more were torn; SQLite's library copied {by_library} stores, {by_files} not"),
     "forged": (try_forged, "folders", "{folders} folders with a forged record: of {records} records {left} were left"),
@@ -256,11 +260,11 @@ PARTS = {
 
 
 def try_part(part, count, seed):
-    """Tries a part until it has that many, and prints what came."""
-    attempt, counted, told = PARTS[part]
+    """Tries a part until its count is reached, and prints its line."""
+    attempt, counted, line = PARTS[part]
     came = collections.Counter()
     while came[counted] < count:
-        # By turns on a disk and, where there is one, in memory, where all goes faster.
+        # In turn on a disk and, if there is such a folder, in memory, which is faster.
         room = MEMORY if seed % 2 and MEMORY.is_dir() else None
         path = pathlib.Path(tempfile.mkdtemp(prefix="kyoto-link-events-", dir=room))
         try:
@@ -269,7 +273,7 @@ def try_part(part, count, seed):
             sys.exit(f"{part}, seed {seed}: {found}; kept in {path}")
         shutil.rmtree(path)
         seed += 1
-    print(f"{part}: {told.format_map(came)}", flush=True)
+    print(f"{part}: {line.format_map(came)}", flush=True)
     if part == "copies" and not came["with_rest"]:
         sys.exit("no set of copies had records left")
 
@@ -277,7 +281,7 @@ def try_part(part, count, seed):
 def main():
     words = argparse.ArgumentParser(description=__doc__, formatter_class=argparse.RawDescriptionHelpFormatter)
     for part, count in DEFAULTS.items():
-        words.add_argument(f"--{part}", type=int, nargs="?", const=count, metavar="N", help=f"{count:,} if left out")
+        words.add_argument(f"--{part}", type=int, nargs="?", const=count, metavar="N", help=f"N is {count:,} by default")
     words.add_argument("--seed", type=int, default=0, help="the first seed")
     given, kept = vars(words.parse_args()), True
     program()

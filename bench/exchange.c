@@ -1,7 +1,8 @@
-/* exchange EXCHANGES: one thread accepts connections at a port of the loopback interface, reads a line of each, writes a
-   reply and waits for the other end to close; another one connects as often as that, sends the line and reads the reply.
-   Printed is the time of all exchanges in microseconds. The exit status is 1 where a call fails, and 2 where the words
-   are wrong. */
+/* exchange EXCHANGES: measures EXCHANGES exchanges of a line and its reply, each over a connection of its own.
+
+   One thread accepts connections at a port of the loopback interface, reads a line from each, writes a reply and waits
+   for the other end to close. Another one connects, sends the line and reads the reply. The time of all exchanges is
+   printed in microseconds. The exit status is 1 if a call fails, and 2 if the words are wrong. */
 
 #include <arpa/inet.h>
 #include <errno.h>
@@ -33,7 +34,7 @@ static void set_nodelay(int socket) {
     setsockopt(socket, IPPROTO_TCP, TCP_NODELAY, &one, sizeof one);
 }
 
-/* Reads up to a newline, or to the end. Returns how many bytes it read. */
+/* Reads up to a newline or to the end, and returns the number of bytes. */
 static size_t read_line(int socket, char *bytes, size_t room) {
     size_t have = 0;
     while (have < room) {
@@ -73,7 +74,7 @@ static void *serve(void *unused) {
 int main(int words, char **word) {
     count = words == 2 ? atol(word[1]) : 0;
     if (count <= 0) {
-        fprintf(stderr, "exchange: one word is wanted, a number from 1 on\n");
+        fprintf(stderr, "exchange: one word is expected, a number from 1 on\n");
         return 2;
     }
     address.sin_family = AF_INET;

@@ -1,9 +1,11 @@
 #!/usr/bin/env python3
-"""How many exchanges a second a registry's desk has, beside a C client and server that send the same lines.
+"""Measures the exchanges a second of a registry's desk, and compares them with a C client and server.
 
-One message, its reply, and a connection of its own for each, over the loopback interface: one thread sends and one replies,
-in either program. Printed are the best rates of several runs, in which the programs take turns, and the ratio. The exit status
-is 1 where the limit is missed.
+    exchange.py [--exchanges N] [--runs N]
+
+An exchange is one message and its reply over a connection of its own on the loopback interface. In both programs one
+thread sends and one replies, and both send the same lines. The programs run in turn. The best rates and their ratio are
+printed. The exit status is 1 if the ratio is below its limit, or if a program fails.
 """
 
 import argparse

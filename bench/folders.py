@@ -1,4 +1,4 @@
-"""Folders with a scheme and stores in which a bench has the program run, and how stores are copied and changed."""
+"""Runs the program over folders with a scheme and stores, and copies and changes stores."""
 
 import contextlib
 import itertools
@@ -12,12 +12,12 @@ import time
 from cuts import formats
 from rehearse import program
 
-# How many seconds a command may take.
+# The most seconds of a command.
 SECONDS = 300
 
 
 class Difference(Exception):
-    """What was found in the place of what has to be."""
+    """A difference between a result and the expected one."""
 
 
 def differ(found, text):
@@ -26,13 +26,13 @@ def differ(found, text):
 
 
 def compare(found, wanted, text):
-    """Ends with a difference where the two texts aren't the same, and tells of the first lines that aren't."""
+    """Raises `Difference` with the first lines that differ, if the two texts differ."""
     pairs = itertools.zip_longest(found.splitlines(), wanted.splitlines())
     differ(found != wanted, f"{text}: {next((it for it in pairs if it[0] != it[1]), '')}")
 
 
 def do(*words, given=None, wanted=(0,)):
-    """How the program ended with these words, and what it wrote."""
+    """Runs the program with these words and returns its result. Its status must be one of the wanted ones."""
     words = [program(), *map(str, words)]
     ended = subprocess.run(words, input=given, capture_output=True, text=True, check=False, timeout=SECONDS)
     differ(ended.returncode not in wanted, f"{words[1]} ended with status {ended.returncode}: {ended.stderr.strip()}")
@@ -50,14 +50,14 @@ class Folder:
         self.codes = list(formats.scheme(text)[0])
 
     def start(self, lines):
-        """Starts a run of these lines."""
+        """Starts a run with a script of these lines."""
         self.script.write_text("".join(f"{line}\n" for line in lines))
         words = [program(), "run", self.scheme, self.stores, self.script]
         pipe, null = subprocess.PIPE, subprocess.DEVNULL
         return subprocess.Popen(words, stdin=null, stdout=pipe, stderr=pipe, text=True)
 
     def records(self, stores=None):
-        """The texts of each node's records, as `show` writes them."""
+        """Returns the texts of each node's records, as `show` writes them."""
         found = {}
         for name in (formats.ITL, *self.codes):
             lines = do("show", self.scheme, stores or self.stores, name).stdout.splitlines()
@@ -68,7 +68,7 @@ class Folder:
 
 
 def end_of(process, killed=False):
-    """What a run wrote, once it has ended."""
+    """Waits for the end of a run, and returns its output."""
     try:
         text, said = process.communicate(timeout=SECONDS)
     finally:
@@ -79,7 +79,8 @@ def end_of(process, killed=False):
 
 
 def copy_by_library(path, copy):
-    """Copies a store by SQLite's library. Whether that got to read it, which it doesn't while the program has it."""
+    """Copies a store by SQLite's library. Returns whether the library could read it, which fails while the program has
+    it open."""
     reader = sqlite3.connect(f"{path.as_uri()}?mode=ro", uri=True, timeout=0)
     with contextlib.suppress(sqlite3.OperationalError), contextlib.closing(reader):
         reader.execute("SELECT * FROM about").fetchall()
@@ -90,8 +91,8 @@ def copy_by_library(path, copy):
 
 
 def copy_stores(folder, place, chance):
-    """Copies the stores of all nodes, the log's first or last, with pauses. How many were copied by SQLite's library;
-    of the others a file and its log are copied in any order."""
+    """Copies the stores of all nodes, the log's first or last, with pauses, and returns the number of those that
+    SQLite's library copied. Of each other store, the file and its log are copied in any order."""
     names, by_library = chance.sample(folder.codes, len(folder.codes)), 0
     for name in chance.choice(([formats.ITL, *names], [*names, formats.ITL])):
         path = folder.stores / f"{name}.db"
@@ -107,7 +108,7 @@ def copy_stores(folder, place, chance):
 
 
 def is_whole(path):
-    """Whether SQLite's library finds a store whole, without a gap in its places."""
+    """Returns whether SQLite's library finds a store whole, without a gap in its places."""
     with contextlib.suppress(sqlite3.DatabaseError), contextlib.closing(sqlite3.connect(path)) as store:
         count, after = store.execute("SELECT count(*), coalesce(max(place) + 1, 0) FROM entries").fetchone()
         return count == after and store.execute("PRAGMA integrity_check").fetchall() == [("ok",)]
@@ -115,7 +116,7 @@ def is_whole(path):
 
 
 def put_in(path, place, text):
-    """Puts a record into a store, and moves those from there on up."""
+    """Inserts a record into a store at a place, and moves the records from there on by one."""
     with contextlib.closing(sqlite3.connect(path)) as store:
         store.execute("UPDATE entries SET place = -1 - place WHERE place >= ?1", (place,))
         store.execute("UPDATE entries SET place = -place WHERE place < 0")

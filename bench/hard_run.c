@@ -1,6 +1,5 @@
-/* Fails calls of the program that it is loaded into, by LD_PRELOAD: those of the function that FAIL names (connect,
-   accept4 or pthread_create), from the one with the number in FAIL_FROM on, counted from 1, and as many as FAIL_COUNT
-   says. */
+/* A library for LD_PRELOAD that fails calls of the program: FAIL_COUNT calls of the function that FAIL names (connect,
+   accept4 or pthread_create), from the one with the number FAIL_FROM on, counted from 1. */
 
 #define _GNU_SOURCE
 #include <dlfcn.h>

@@ -1,11 +1,16 @@
 #!/usr/bin/env python3
-"""Runs with threads where something can't be had, and with clients that nobody wants: each run must end, and soon.
+"""Runs `kyoto-link run` with too few resources and with bad clients. Each run must end, and in time.
 
-Over 2 and over 32 registries, `kyoto-link run` is started with connects, accepts or threads that fail, with few file
-handles, little memory and few threads, with clients that send a byte now and then, read nothing or sit there, and with
-SIGTERM at random moments. Each run must end within 15 seconds of its script, with its answers and table and status 0, or
-with one line of a fault and its status; and `audit` must find its stores whole afterwards, with each tonne in one place.
-Printed is a line for each kind of run. The exit status is 1 where a run ended otherwise.
+    hard_run.py [--connects N] [--threads N] [--registries N ..] [--only TEXT] [--seed N]
+
+Over 2 and over 32 registries, runs are started with connects, accepts or threads that fail, with few file handles,
+little memory and few threads, with clients that send a byte now and then, read nothing or stay idle, and with SIGTERM
+at random moments. Each run must end within 15 seconds after its script, with its results and table and status 0, with
+one line of a fault and its status, or by SIGTERM if that was sent. Afterwards `audit` must count each tonne once in its
+stores, and after status 0 it must write the run's table.
+
+A line is printed for each kind of run, and one for each run that failed. The exit status is 1 if a run failed. The kind
+`few threads` needs root and is left out without it.
 """
 
 import argparse
@@ -29,20 +34,20 @@ from kills import tonnes
 from rehearse import codes_of, program, scheme
 
 FAILING = pathlib.Path(__file__).resolve().with_name("hard_run.c")
-# How long a question of the script waits, in turns of a millisecond, and how long a run may take beyond its script.
+# The time that a question of the script waits, in turns of a millisecond, and the most seconds of a run after its script.
 TURNS = 3_000
 SECONDS = 15
 FAULTS = {1, 3, 4, 5}
 FAULT = re.compile(r"kyoto-link: [^\n]+\n")
-# What a run that is sent SIGTERM ends with: it may have come to its end just before.
+# The statuses of a run that is sent SIGTERM: it may have ended just before.
 ENDED = (-signal.SIGTERM, 0)
-# Nobody, who has no processes of its own, so that a limit on processes is one on the run's threads.
+# The user nobody, who has no other processes, so that a limit on processes is one on the run's threads.
 NOBODY = 65_534
 
 
 @dataclasses.dataclass
 class Case:
-    """A run: what it fails at, what it may have, and the client that comes to it."""
+    """A run: the calls that fail in it, its limits, and its client."""
     name: str
     fail: dict = dataclasses.field(default_factory=dict)
     limits: dict = dataclasses.field(default_factory=dict)
@@ -55,7 +60,7 @@ def failing(function, start, count):
 
 
 def cases(chance, connects, threads):
-    """The runs of each kind."""
+    """Yields each kind of run with its runs."""
     yield "no failure", [Case("plain")]
     yield "a connect fails once", [failing("connect", it, 1) for it in range(1, connects + 1)]
     yield "a hundred connects fail", [failing("connect", it, 100) for it in (1, 5, 20)]
@@ -70,14 +75,14 @@ def cases(chance, connects, threads):
     if os.geteuid() == 0:
         processes = [1, 2, 3, 5, 8, 10, 15, 20, 25, 30, 40, 60, 100, 150, 200, 250, 300, 350, 400]
         yield "few threads", [Case(f"{it} threads", limits={resource.RLIMIT_NPROC: it}) for it in processes]
-    yield "a client that sends a byte each 1.5 s", [Case("slow", client=send_slowly)]
+    yield "a client that sends a byte every 1.5 s", [Case("slow", client=send_slowly)]
     yield "a client that never reads", [Case("deaf", client=never_read)]
     yield "1,000 idle connections", [Case("idle", client=sit_idle)]
     yield "SIGTERM", [Case(f"after {it:.2f} s", killed_after=it) for it in (chance.uniform(0, 1.5) for _ in range(20))]
 
 
 def ports_of(process):
-    """The ports at which a process listens."""
+    """Returns the ports at which a process listens."""
     inodes = set()
     for it in pathlib.Path(f"/proc/{process.pid}/fd").glob("*"):
         try:
@@ -97,7 +102,7 @@ def connected(ports):
 
 
 def send_slowly(ports, over):
-    """A byte of a line each 1.5 seconds, over as many connections as sessions are served at once, at each node."""
+    """Sends a byte every 1.5 seconds over four connections to each port, the number that a node serves at once."""
     clients = [socket.create_connection(("127.0.0.1", port), timeout=2) for port in ports for _ in range(4)]
     while not over.wait(1.5):
         for it in clients:
@@ -108,7 +113,7 @@ def send_slowly(ports, over):
 
 
 def never_read(ports, over):
-    """Lines without end, whose replies nobody reads."""
+    """Sends lines without end, and reads no reply."""
     clients = [it for it in (connected(ports) for _ in range(8)) if it]
     for it in clients:
         it.setblocking(False)
@@ -121,14 +126,14 @@ def never_read(ports, over):
 
 
 def sit_idle(ports, over):
-    """Connections over which nothing comes, as many as can be had of 1,000."""
+    """Opens up to 1,000 connections and sends nothing over them."""
     clients = [connected(ports) for _ in range(1_000) if not over.is_set()]
     over.wait()
     del clients
 
 
 class Folder:
-    """A scheme, a script of transfers, and new stores for each run."""
+    """A folder with a scheme, a script of transfers, and new stores for each run."""
 
     def __init__(self, room, registries):
         self.codes = codes_of(registries)
@@ -150,7 +155,7 @@ class Folder:
 
 
 def start(folder, stores, case, library):
-    """Starts the run, with what it may have."""
+    """Starts the run with the limits of its case."""
     def limit():
         for what, most in case.limits.items():
             resource.setrlimit(what, (most, most))
@@ -164,19 +169,20 @@ def start(folder, stores, case, library):
 
 
 def wrong_end(case, folder, process, text, said):
-    """What is wrong with how the run ended, if anything is."""
+    """Returns a text about the run's end, if it is wrong, or None."""
     if case.killed_after is not None:
         return None if process.returncode in ENDED else f"status {process.returncode}"
     if process.returncode == 0:
         answers = re.match(rf"(?:\d+ [^\n]+\n){{{folder.lines}}}", text)
-        return None if answers and text.endswith("end\n") and not said else "no answers and table"
+        return None if answers and text.endswith("end\n") and not said else "results or table are missing"
     if process.returncode in FAULTS and FAULT.fullmatch(said):
         return None
     return f"status {process.returncode}"
 
 
 def follow(folder, case, library):
-    """What is wrong with a run and the stores that it left, if anything is, and how long it took."""
+    """Runs a case. Returns a text about the run or its stores, if they are wrong, or None, and the seconds of the
+    run."""
     stores, over, begin = folder.new_stores(), threading.Event(), time.monotonic()
     process = start(folder, stores, case, library)
     client = None
@@ -212,10 +218,10 @@ def follow(folder, case, library):
 
 def main():
     words = argparse.ArgumentParser(description=__doc__, formatter_class=argparse.RawDescriptionHelpFormatter)
-    words.add_argument("--connects", type=int, default=40, help="how many first connects and accepts fail, one in each run")
-    words.add_argument("--threads", type=int, default=40, help="how many first threads can't be made, one in each run")
+    words.add_argument("--connects", type=int, default=40, help="the number of first connects and accepts that fail, one in each run")
+    words.add_argument("--threads", type=int, default=40, help="the number of first threads that can't be made, one in each run")
     words.add_argument("--registries", type=int, nargs="*", default=[2, 32])
-    words.add_argument("--only", default="", help="only the kinds of run whose name has this text")
+    words.add_argument("--only", default="", help="run only the kinds with this text in their names")
     words.add_argument("--seed", type=int, default=None)
     given = words.parse_args()
     program()

@@ -1,10 +1,14 @@
 #!/usr/bin/env python3
-"""Kills runs at random moments: whatever a run had done, its stores have a table, and a new run goes on from there.
+"""Kills runs at random moments. After each kill the stores must have a table, and a new run must go on from there.
 
-A script of transfers, each registry's to the next one, is run over one folder and killed after a random while, again
-and again. After each kill `audit` must write a table in which each allotted unit is held once or owed once, and the next
-script orders what the table lacks. The last run isn't killed: it must end with every transfer Completed at its three
-nodes, and `audit` must write the table that it wrote. The exit status is 1 where that isn't so.
+    kills.py [--kills N] [--registries N] [--transfers N] [--longest SECONDS] [--seed N]
+
+A script of transfers from each registry to the next one is run over one folder and killed after a random time, again
+and again. After each kill `audit` must write a table in which each allotted unit is held once or owed once; the next
+script orders the transfers that are missing from it. The last run isn't killed. It must end with every transfer
+Completed at its three nodes, and `audit` must write the run's table.
+
+A line is printed after each kill and after the last run. The exit status is 1 if a check fails.
 """
 
 import argparse
@@ -21,17 +25,17 @@ from endings import check_end, run_to_end
 from rehearse import codes_of, program, scheme
 
 TURNS = 60_000
-# How a run ends that is killed: it may have come to its end by itself just before.
+# The statuses of a run that is killed: it may have ended just before.
 KILLED = (-signal.SIGKILL, 0)
 
 
 def transactions(table):
-    """The words of the lines of transactions."""
+    """Returns the words of each line of a transaction."""
     return [line.split() for line in table.splitlines() if line.startswith("transaction ")]
 
 
 def tonnes(table):
-    """How many units the table says are held or owed."""
+    """Returns the number of units that are held or owed according to the table."""
     counts = re.findall(r"^(?:registry \w+ held|owed) (\d+)", table, re.MULTILINE)
     return sum(map(int, counts))
 
@@ -41,8 +45,8 @@ def is_completed(words):
 
 
 def script(codes, goal, table):
-    """Orders for what the table lacks of the goal, a unit each, and a question at the end of each transfer that isn't
-    Completed."""
+    """Returns a script that orders the transfers that are missing from the table, a unit each, and then asks for the
+    end of each transfer that isn't Completed."""
     done = {code: 0 for code in codes}
     names = []
     for words in transactions(table):
@@ -57,7 +61,7 @@ def script(codes, goal, table):
                 lines.append(f"propose {code} 1 {other} 1 {code}:1:{number + 1}-{number + 1}:AAU")
                 names.append((other, f"{code}{number + 1}"))
     lines += [f"until {node} {name} Completed {TURNS}" for node, name in names]
-    # A script has a line at least.
+    # A script has at least one line.
     lines = lines or [f"status {codes[0]} {codes[0]}1"]
     return "".join(f"{line}\n" for line in lines)
 
@@ -78,7 +82,7 @@ class Folder:
         return ended.stdout
 
     def started(self, table):
-        """A run of what the table lacks."""
+        """Starts a run of the transfers that are missing from the table."""
         self.script.write_text(script(self.codes, self.goal, table))
         words = [program(), "run", self.scheme, self.stores, self.script]
         return subprocess.Popen(words, stdout=subprocess.PIPE, stderr=subprocess.PIPE, text=True)
@@ -86,10 +90,10 @@ class Folder:
 
 def main():
     words = argparse.ArgumentParser(description=__doc__, formatter_class=argparse.RawDescriptionHelpFormatter)
-    words.add_argument("--kills", type=int, default=50, help="how many runs are killed")
+    words.add_argument("--kills", type=int, default=50, help="the number of runs that are killed")
     words.add_argument("--registries", type=int, default=8)
-    words.add_argument("--transfers", type=int, default=8_000, help="of all registries together")
-    words.add_argument("--longest", type=float, default=0.6, help="after how many seconds at most a run is killed")
+    words.add_argument("--transfers", type=int, default=8_000, help="the number of transfers of all registries together")
+    words.add_argument("--longest", type=float, default=0.6, help="the most seconds after which a run is killed")
     words.add_argument("--seed", type=int, default=None)
     given = words.parse_args()
     chance = random.Random(given.seed)

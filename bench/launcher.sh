@@ -1,7 +1,7 @@
 #!/usr/bin/env bash
-# The launcher in fresh copies of this checkout: the first command, and what may be wrong with a release, with the tools
-# that unpack it, with the folder and with the sources. Prints a line for each case. The exit status is 1 where one ended
-# otherwise than it should.
+# launcher.sh: runs the launcher in fresh copies of this checkout: the first command, and with faults of a release, of the
+# tools that unpack it, of the folder and of the sources. Prints a line for each case, and the faults on standard error.
+# The exit status is 1 if a case ended otherwise than it should.
 set -euo pipefail
 
 top=$(cd -- "$(dirname -- "$(readlink -f -- "${BASH_SOURCE[0]}")")/.." && pwd)
@@ -12,12 +12,12 @@ home=$room/home
 mkdir "$home"
 failed=0
 released='kyoto-link: proved when it was released; ./kyoto-link prove proves it here'
-no_rt='kyoto-link: the program must be proved and built first, and rt, the command of the Rattle kit, which does that, isn'\''t on PATH'
-damaged="is damaged or can't be read or unpacked; 'git checkout release' gets it again"
-other_program="isn't the one that release/MANIFEST tells of; 'git checkout release' gets it again"
-other_sources="kyoto-link: the sources here aren't those that the released program was built of"
+no_rt='kyoto-link: the program must be proved and built first, and rt, the command of the Rattle kit, isn'\''t on PATH'
+damaged="is damaged, or can't be read or unpacked; 'git checkout release' restores it"
+other_program="isn't the one in release/MANIFEST; 'git checkout release' restores it"
+other_sources="kyoto-link: the released program was built from other sources than these"
 
-# A PATH with the tools that the launcher uses but for those named, and no rt.
+# Prints a PATH with the tools that the launcher uses, except those named and rt.
 path_without() {
     local tool folder
     folder=$(mktemp -d -p "$room" path.XXXXXX)
@@ -28,7 +28,7 @@ path_without() {
     printf '%s\n' "$folder"
 }
 
-# A copy of the checkout's files as git knows them, with what is new in them, and nothing that was built.
+# Makes a copy of the checkout's files that git lists, changed and new ones included, without built files, and prints its path.
 fresh() {
     local copy
     copy=$(mktemp -d -p "$room" copy.XXXXXX)
@@ -53,14 +53,14 @@ fail() {
     failed=1
 }
 
-# That the run wrote the example's output, and on standard error these lines alone.
+# Checks that the run wrote the example's output, and on standard error these lines alone.
 ran() {
     [[ $status -eq 0 ]] || fail "status $status"
     cmp -s "$room/out" "$top/examples/one_transfer/output" || fail "another output"
     printf '%s\n' "$@" | sed '/^$/d' | cmp -s - "$room/err" || fail "other lines on standard error"
 }
 
-# That nothing ran, and that standard error has each of these texts.
+# Checks that nothing ran, and that standard error has each of these texts.
 refused() {
     local text
     [[ $status -eq 1 && ! -s $room/out ]] || fail "status $status"
@@ -76,7 +76,7 @@ begin() {
     printf '%s\n' "$case"
 }
 
-# The last line of a comment of a source changes by a byte.
+# Changes a byte of a comment of a source.
 change_source() {
     sed -i '1s/\.$/!/' "$1/crates/kyoto_link/src/main.rt"
 }
@@ -153,7 +153,7 @@ refused "gzip, which unpacks the released program, isn't on PATH" "$no_rt"
 begin "no sha256sum"
 path=$(path_without sha256sum)
 run "$copy"
-refused "sha256sum, by which the sources and the programs are told from others, isn't on PATH"
+refused "sha256sum, which identifies sources and programs, isn't on PATH"
 path=$(path_without)
 
 begin "a comment of a source changed by a byte"
@@ -176,7 +176,7 @@ sed -i 's/^sources: .*/sources: 0/' "$copy/release/MANIFEST"
 run "$copy"
 refused "$other_sources" "$no_rt"
 
-begin "a program here that was built of other sources"
+begin "a program here that was built from other sources"
 mkdir -p "$copy/crates/kyoto_link/out"
 printf '#!/bin/sh\necho wrong\n' >"$copy/crates/kyoto_link/out/kyoto_link"
 chmod 755 "$copy/crates/kyoto_link/out/kyoto_link"

@@ -1,9 +1,11 @@
 #!/usr/bin/env python3
-"""Inputs at each limit of the protocol and of the formats, and one beyond, with a stack of 512 kB.
+"""Runs every command over inputs at each limit of the protocol and the formats and beyond it, with a small stack.
 
-No proof speaks of the stack, so each input is given to every command that reads it while `setrlimit` holds the stack small. A run
-must end with the status, and the line on standard error, that docs/FORMATS.md says. Printed is a line for each input. The exit
-status is 1 where a run ended otherwise.
+    limits.py [--input TEXT]
+
+No proof covers the stack. Each input is given to every command that reads it, with a stack of 512 kB by `setrlimit`. A
+run must end with the status and the line on standard error that docs/FORMATS.md gives. A line is printed for each
+input. The exit status is 1 if a run ended otherwise, or if no input has TEXT in its name.
 """
 
 import argparse
@@ -26,7 +28,7 @@ LONGEST_LINE = 1_048_576
 MOST_REGISTRIES, MOST_ACCOUNTS, MOST_BLOCKS, MOST_RECORDS = 32, 1_000, 10_000, 1_000_000
 MOST_BLOCKS_OF_AN_ORDER = 16
 LAST_UNIT, LAST_ACCOUNT = 999_999_999_999_999, 999_999_999
-# How deep arrays may nest before the JSON reader gives a text up.
+# The deepest nesting of arrays that the JSON reader accepts.
 DEEPEST = 127
 REHEARSED = ("rehearse", "chart")
 FINE = (0, "")
@@ -40,7 +42,7 @@ def fault(text, status=3):
 class Registry:
     code: str
     accounts: list = dataclasses.field(default_factory=lambda: [1, 2])
-    # An account and its blocks, for each allotment.
+    # The account and the blocks of each allotment.
     allotted: list = dataclasses.field(default_factory=list)
 
     def value(self):
@@ -50,18 +52,18 @@ class Registry:
 
 @dataclasses.dataclass
 class Case:
-    """An input, and how each command ends that reads it."""
+    """An input, and the end of each command that reads it."""
 
     name: str
     scheme: str
-    # The lines after the scheme's of `rehearse` and `chart`, and those of the script of `run`.
+    # The lines after the scheme for `rehearse` and `chart`, and the lines of the script for `run`.
     events: list = dataclasses.field(default_factory=list)
     script: list = dataclasses.field(default_factory=lambda: ["status JP JP1"])
     # The texts of each node's records.
     records: dict = dataclasses.field(default_factory=dict)
     rehearsed: tuple = FINE
     stored: tuple = FINE
-    # Where `run`, and `audit` where there are records, end otherwise than `show`.
+    # The end of `run`, and of `audit` if there are records, if it isn't that of `show`.
     ran: tuple = None
     # A line that `run` writes.
     answer: str = None
@@ -72,12 +74,12 @@ def scheme(registries, records=1_000):
 
 
 def two(units=(), accounts=(1, 2), **others):
-    """A scheme of Japan and New Zealand, where New Zealand's account 1 has the units."""
+    """Returns a scheme of Japan and New Zealand, in which New Zealand's account 1 has the units."""
     return scheme([Registry("JP"), Registry("NZ", list(accounts), [(1, list(units))])], **others)
 
 
 def padded(text, length):
-    """The JSON text with spaces at its end, so that it has that many bytes."""
+    """Returns the JSON text with spaces at its end, `length` bytes in all."""
     return text + " " * (length - len(text))
 
 
@@ -86,7 +88,7 @@ def single(unit, code="NZ", kind="AAU"):
 
 
 def shuffled(things):
-    """The same order each time."""
+    """Returns the things in an order that is the same each time."""
     return random.Random(45).sample(things, len(things))
 
 
@@ -95,7 +97,7 @@ def order(units, to="JP 1"):
 
 
 def long_order(length):
-    """An order's line of that many bytes, with more blocks than an order may have."""
+    """Returns the line of an order, `length` bytes long, with more blocks than an order may have."""
     text = "propose NZ 1 JP 1"
     count, rest = divmod(length - len(text), len(single(1)) + 1)
     return f"{text}{(' ' + single(1)) * (count - 1)} NZ:1:1-1{'0' * rest}:AAU"
@@ -106,14 +108,14 @@ def nested(depth):
 
 
 def eligible(count):
-    """Records of the log, each of which turns New Zealand's eligibility round."""
+    """Yields records of the log, each of which changes New Zealand's eligibility."""
     for number in range(count):
         may = "true" if number % 2 else "false"
         yield record(f'"input":"eligible","may":{may},"registry":"NZ"')
 
 
 def whole_inputs():
-    """Inputs as long as they may be, and a byte longer."""
+    """Yields inputs of the greatest length, and a byte longer."""
     text = two()
     left = LONGEST_INPUT - len(text) - 1
     lines = [long_order(LONGEST_LINE)] * (left // (LONGEST_LINE + 1))
@@ -183,7 +185,7 @@ def orders():
 
 def texts():
     both = fault("line 1: shape")
-    yield Case("arrays as deep as the reader takes them", nested(DEEPEST), rehearsed=both, stored=both)
+    yield Case("arrays of the deepest nesting", nested(DEEPEST), rehearsed=both, stored=both)
     both = fault("line 1: not-json")
     for depth in (DEEPEST + 1, 1_000, 500_000):
         yield Case(f"arrays {depth:,} deep", nested(depth), rehearsed=both, stored=both)
@@ -212,7 +214,7 @@ def held_small():
 
 
 def end_of(words, given):
-    """The status of a run with a small stack, and the texts that it wrote. The status is None where it didn't end in time."""
+    """Returns the status of a run with a small stack, and its outputs. The status is None if it didn't end in time."""
     with given.open("rb") as reader:
         words = [program(), *words]
         try:
@@ -229,7 +231,7 @@ def write_stores(folder, records):
 
 
 def is_written(command, case, text):
-    """Whether the text on standard output is whole."""
+    """Returns whether the text on standard output is complete."""
     if command == "chart":
         return text.startswith("sequenceDiagram\n") and text.endswith("end\n")
     lines_of = text.splitlines()
@@ -239,14 +241,14 @@ def is_written(command, case, text):
 
 
 def node_words(case, node, scheme, stores):
-    """The words for a node by itself. A scheme with a fault is told of before its peers are looked at."""
+    """Returns the words for `node`. A fault of the scheme is reported before the peers are read."""
     codes = (codes_of_registries(case.scheme) or ["AA"]) if node == "ITL" else ["ITL"]
     peers = [word for code in codes for word in ("--peer", f"{code}=127.0.0.1:1")]
     return ["node", scheme, stores, node, "--listen", "127.0.0.1:0", *peers]
 
 
 def codes_of_registries(text):
-    """The codes of a scheme's registries, or none where the text is no scheme."""
+    """Returns the codes of a scheme's registries, or none if the text isn't a scheme."""
     try:
         return [it["code"] for it in json.loads(text)["registries"]]
     except (ValueError, RecursionError, TypeError, KeyError):
@@ -254,7 +256,7 @@ def codes_of_registries(text):
 
 
 def runs_of(case, room):
-    """Each command's name, its words, its standard input, and how it is to end."""
+    """Yields each command's name, its words, its standard input, and its expected end."""
     given, given_scheme, given_script = room / "input", room / "scheme", room / "script"
     given.write_text("".join(f"{line}\n" for line in (case.scheme, *case.events)), encoding="utf-8")
     given_scheme.write_text(case.scheme, encoding="utf-8")
@@ -264,35 +266,35 @@ def runs_of(case, room):
     for command in REHEARSED:
         yield command, [command], given, case.rehearsed
     node = next(iter(case.records), "ITL")
-    # A record that its node would not have recorded is no fault of `show`, which reads one store alone.
+    # `show` reads one store alone, and accepts a record that its node would not have recorded.
     yield "show", ["show", given_scheme, stores, node], given, case.stored
     ran = case.ran or case.stored
     yield "audit", ["audit", given_scheme, stores], given, ran if case.records else case.stored
     nothing = room / "nothing"
     nothing.touch()
-    # A node by itself ends with its lines, of which there are none. Of the stores it reads its own alone.
+    # `node` ends at the end of its lines, and has none here. It reads its own store alone.
     own = ran if f"store {node}" in ran[1] else case.stored
     yield "node", node_words(case, node, given_scheme, stores), nothing, own
     yield "run", ["run", given_scheme, stores, given_script], given, ran
 
 
 def check(case):
-    """Says how the commands ended over the input, and returns whether each ended as it should."""
+    """Runs the commands over the input, prints a line, and returns whether each ended as it should."""
     kept, begin = True, time.monotonic()
     with tempfile.TemporaryDirectory() as folder:
         for command, words, given, (status, error) in runs_of(case, pathlib.Path(folder)):
-            got, text, told = end_of(words, given)
+            got, text, errors = end_of(words, given)
             whole = is_written(command, case, text) if status == 0 else text == ""
-            if (got, told) != (status, error) or not whole:
+            if (got, errors) != (status, error) or not whole:
                 kept = False
-                print(f"{command} of {case.name}: status {got}, {told[:200]!r}, {text[:60]!r}..{text[-60:]!r}", flush=True)
+                print(f"{command} of {case.name}: status {got}, {errors[:200]!r}, {text[:60]!r}..{text[-60:]!r}", flush=True)
     print(f"{case.name:<45} {time.monotonic() - begin:7.1f} s  {'as it should' if kept else 'OTHERWISE'}", flush=True)
     return kept
 
 
 def main():
     parser = argparse.ArgumentParser(description=__doc__, formatter_class=argparse.RawDescriptionHelpFormatter)
-    parser.add_argument("--input", help="only inputs whose name has this text")
+    parser.add_argument("--input", help="run only inputs with this text in their names")
     words = parser.parse_args()
     program()
     kept = [check(case) for group in GROUPS for case in group() if words.input is None or words.input in case.name]

@@ -1,14 +1,17 @@
 #!/usr/bin/env python3
-"""How long the first `kyoto-link show` takes over a store of format 1, which it migrates, how much memory, and what it leaves
-where it is killed or has no room.
+"""Measures the migration of stores of format 1 by `kyoto-link show`, kills it, and runs it on a full disk.
 
-Three pairs of sizes, of which the second is twice the first. Printed for each size are the seconds of the migration, which are
-those of the first `show` without those of the next one, with the ratio of each doubling; the greatest peak of memory as a
-multiple of that of the next `show`, which opens the store as it then is; and the time as a multiple of what SQLite's library
-takes to give each record of the same store its new key, in one transaction. Then a migration is killed at random moments: each
-time the store must have format 1 or format 2, with all its records in that format, and the next `show` must write them all. At
-last it gets a disk that is too small: the fault must be `full`, and the store still one of format 1. The exit status is 1 where
-that isn't so, or a limit is passed.
+    migrate.py [--records N] [--kills N]
+
+There are three pairs of sizes, of which the second is twice the first. A line for each size has the seconds of the
+migration, which are those of the first `show` less those of the next one; the ratio of a doubling; the greatest peak of
+memory as a multiple of that of the next `show`, which opens the migrated store; and the time as a multiple of the time
+that SQLite's library needs to give each record of the same store its new key, in one transaction.
+
+Then a migration is killed at random moments. After each kill the store must have format 1 or format 2, with all its
+records in that format, and the next `show` must write them all. Finally a migration runs on a disk that is too small:
+its fault must be `full`, and the store must still have format 1. This is left out, with a line that says it, if no such
+disk can be mounted. The exit status is 1 if a check fails or a limit is exceeded.
 """
 
 import argparse
@@ -32,19 +35,19 @@ MOST_TIMES_OPENING = 1.5
 MOST_TIMES_SQLITE = 12.0
 PAIRS = ((10_000, 20_000), (100_000, 200_000), (500_000, 1_000_000))
 NODE = "AA"
-# What SQLite does in the place of a migration.
+# The statement by which SQLite migrates the records.
 REWRITE = "UPDATE entries SET body = json_insert(body, '$.v', 2)"
 
 
 def texts(count, ending=""):
-    """The texts of that many records: account 1 is closed and opened in turn."""
+    """Yields the texts of `count` records: account 1 is closed and opened in turn."""
     for place in range(count):
         word = "open" if place % 2 else "close"
         yield f'{{"account":1,"input":"{word}"{ending}}}'
 
 
 def shown(count):
-    """What `show` writes of them."""
+    """Yields the lines that `show` must write of these records."""
     yield from (f"{place} {text}\n" for place, text in enumerate(texts(count, ',"v":2')))
     yield "end\n"
 
@@ -61,7 +64,7 @@ class Store:
         self.words = [program(), "show", self.scheme, self.folder, NODE]
 
     def show(self):
-        """The seconds and the peak of memory of a `show`, whose output is looked at."""
+        """Runs `show`, checks its output, and returns its seconds and its peak of memory."""
         measured = run(self.words, self.scheme, self.taken)
         self.check_output()
         return measured
@@ -71,12 +74,12 @@ class Store:
             for wanted in shown(self.count):
                 found = output.readline()
                 if found != wanted:
-                    sys.exit(f"show wrote {found!r} in the place of {wanted!r}")
+                    sys.exit(f"show wrote {found!r} instead of {wanted!r}")
             if output.readline():
-                sys.exit("show wrote more than its end")
+                sys.exit("show wrote lines after its end")
 
     def found(self):
-        """The format of the store, whose records all have to be in it."""
+        """Returns the format of the store. All its records must be of that format."""
         store = sqlite3.connect(self.folder / f"{NODE}.db")
         (form,) = store.execute("SELECT format FROM about").fetchone()
         ending = {1: "", 2: ',"v":2'}[form]
@@ -86,12 +89,12 @@ class Store:
             if row != (place, wanted):
                 sys.exit(f"a store of format {form} has {row} at place {place}")
         if rows.fetchone() is not None:
-            sys.exit(f"a store of format {form} has more records than it had")
+            sys.exit(f"a store of format {form} has more records than before")
         store.close()
         return form
 
     def sqlite_time(self):
-        """The seconds that SQLite's library takes to rewrite a copy of the store."""
+        """Returns the seconds that SQLite's library needs to rewrite a copy of the store."""
         with tempfile.TemporaryDirectory(dir=self.folder.parent) as place:
             copy = shutil.copy(self.folder / f"{NODE}.db", place)
             start = time.perf_counter()
@@ -106,7 +109,7 @@ class Store:
 
 
 def measure(count, before, room):
-    """Prints the line of a size. Returns the seconds, and whether it keeps the limits."""
+    """Prints the line of a size. Returns the seconds, and whether the size is within the limits."""
     with tempfile.TemporaryDirectory(dir=room) as place:
         store = Store(pathlib.Path(place), count)
         beside = store.sqlite_time()
@@ -137,7 +140,7 @@ def measure_pairs(most, room):
 
 
 def kill(count, kills, room):
-    """Kills migrations of such a store at random moments."""
+    """Kills migrations of a store of `count` records at random moments, and checks the store after each."""
     formats = {1: 0, 2: 0}
     with tempfile.TemporaryDirectory(dir=room) as place:
         whole = pathlib.Path(place) / "whole"
@@ -158,7 +161,7 @@ def kill(count, kills, room):
 
 
 def fill(count, room):
-    """Migrates such a store on a disk that has room for it once."""
+    """Migrates a store of `count` records on a disk that has room for it once."""
     disk = room / "disk"
     disk.mkdir()
     with tempfile.TemporaryDirectory(dir=room) as place:
@@ -166,7 +169,7 @@ def fill(count, room):
         size = (source.folder / f"{NODE}.db").stat().st_size
         mount = ["mount", "-t", "tmpfs", "-o", f"size={size + size // 2}", "tmpfs", disk]
         if os.geteuid() != 0 or subprocess.run(mount, check=False, stderr=subprocess.DEVNULL).returncode != 0:
-            print("no small disk can be made here: a full one isn't tried")
+            print("no small disk can be mounted here: a full one isn't tried")
             return
         try:
             shutil.copy(source.folder / f"{NODE}.db", disk)
@@ -175,12 +178,12 @@ def fill(count, room):
             ended = subprocess.run(words, check=False, capture_output=True, text=True)
             check_end(words, ended.returncode, wanted=(4,), said=ended.stderr)
             if ended.stderr != f"kyoto-link: store {NODE}: full\n" or ended.stdout:
-                sys.exit(f"a full disk is told as {ended.stderr!r}, after {len(ended.stdout)} characters of output")
-            # SQLite's library needs room beside the store for itself.
+                sys.exit(f"the fault of a full disk is {ended.stderr!r}, after {len(ended.stdout)} characters of output")
+            # SQLite's library needs room for files of its own beside the store.
             source.folder = pathlib.Path(place) / "copy"
             shutil.copytree(disk, source.folder)
             if source.found() != 1:
-                sys.exit("the store isn't of format 1 after a migration that had no room")
+                sys.exit("the store isn't of format 1 after a migration without room")
         finally:
             run_to_end(["umount", disk])
     print(f"a disk without room for the migration of {count:,} records: `full`, and format 1 with all records", flush=True)
@@ -188,8 +191,8 @@ def fill(count, room):
 
 def main():
     parser = argparse.ArgumentParser(description=__doc__.splitlines()[0])
-    parser.add_argument("--records", type=int, default=1_000_000, help="the most records of a store")
-    parser.add_argument("--kills", type=int, default=50, help="how many migrations are killed")
+    parser.add_argument("--records", type=int, default=1_000_000, help="the greatest number of records of a store")
+    parser.add_argument("--kills", type=int, default=50, help="the number of migrations that are killed")
     words = parser.parse_args()
     program()
     with tempfile.TemporaryDirectory() as folder:

@@ -1,12 +1,17 @@
 #!/usr/bin/env python3
-"""Plants a wrong constant, comparison, connective, constructor, code or field at each place of the protocol's definitions that has
-one, each alone, and lists those that no worked equation refuses.
+"""Plants mutations in the protocol's definitions, and finds those that no worked equation refuses.
 
-The places are found in crates/protocol/specs and in the status tables. A change that the checker doesn't take as a definition (its
-types differ) is none, and is counted apart. The others are tried on the equations of `test_definitions`, and those that stand there
-also on the worked runs of `protocol`. Printed is a line for each change, and at the end those that nothing refuses, which
-docs/MUTATIONS.md explains one by one. The exit status is 1 where one stands that isn't listed there, or where one that is listed is
-refused. The libraries have to be built: `rt lib` in crates/protocol. With --list nothing is checked.
+    mutations.py [--list] [--only WORD] [--done FILE] [--jobs N]
+
+A mutation is a wrong constant, comparison, connective, constructor, code or field, a negated condition or two causes in
+the other order. One is planted alone at each place that has one. The places are found in crates/protocol/specs and in
+the status tables. A mutation that the checker rejects as a definition, since its types differ, is counted apart. The
+others are checked with the equations of `test_definitions`, and those that no equation refuses with the worked runs of
+`protocol`. The libraries must be built: `rt lib` in crates/protocol.
+
+A line is printed for each mutation, and at the end the number of each result. The exit status is 1 if a mutation that
+isn't refused is missing in docs/MUTATIONS.md, which explains each of these, or if one that is there is refused. With
+--list the mutations are printed and nothing is checked.
 """
 
 import argparse
@@ -30,9 +35,9 @@ STATUSES = ["Proposed", "Checked", "Accepted", "Rejected", "Cancelled", "Termina
 COLUMNS = [
     "Propose", "RequestOrder", "RepeatedRequestOrder", "ProposalWithoutFinding", "ProposalWithFindings", "EqualProposal", "Request", "CleanUp",
 ]
-# Each of these in the place of the one before it.
+# Each of these replaces the one before it.
 CYCLES = [STATUSES, ["Repeat", "Late", "Refused"], ["IsRepeat", "IsLate"], ["Unknown", "Bare"], [f"column.{it}" for it in COLUMNS]]
-# Words for which another of the same type may stand.
+# Words that another one of the same type replaces.
 PAIRS = [
     ("true", "false"), ("&&", "||"), ("nat_le", "nat_lt"), ("take", "drop"), ("is_some", "is_none"), ("list_any", "list_all"),
     (".to", ".from"), (".first", ".last"), (".account", ".to_account"), (".committed", ".tail"), ("same_code", "same_node"),
@@ -40,7 +45,7 @@ PAIRS = [
 ]
 NUMBER = re.compile(r"^\d[\d_]*$")
 WORD = re.compile(r"[^\s(){};,]+")
-# Where a word comes from that a file doesn't import.
+# The modules of words that a file may not import.
 SOURCES = {
     "nat_le": "Rattle.std.specs.Prelude", "nat_lt": "Rattle.std.specs.Prelude", "take": "Rattle.std.specs.Prelude", "drop": "Rattle.std.specs.Prelude",
     "is_some": "Rattle.std.specs.Prelude", "is_none": "Rattle.std.specs.Prelude", "not": "Rattle.std.specs.Prelude", "true": "Rattle.std.specs.Prelude",
@@ -55,7 +60,7 @@ INFIX = {"&&", "||", "-", "≤", "<", "⊎", "≢", "≡"}
 
 @dataclasses.dataclass(frozen=True)
 class Mutation:
-    """In that file, in the definition of that name, the text from `begin` to `end` is to be `new`."""
+    """A change of a file: in the definition `name` the text from `begin` to `end` becomes `new`."""
 
     file: str
     name: str
@@ -65,7 +70,7 @@ class Mutation:
     new: str
     needs: tuple
 
-    # Which of the places of that text in the definition, counted from 1.
+    # The number of the place among those of the same text in the definition, counted from 1.
     turn: int = 1
 
     def __str__(self):
@@ -74,7 +79,7 @@ class Mutation:
 
 
 def others_of(word, codes):
-    """What may stand in the place of a word, each with the words that it needs."""
+    """Returns the replacements of a word, each with the words that it needs."""
     found = []
     for cycle in CYCLES:
         if word in cycle:
@@ -104,7 +109,8 @@ def others_of(word, codes):
 
 
 def right_sides(text):
-    """Where the right sides of definitions and the types of fields stand: the definition's name, and the places of each line's part."""
+    """Yields each line of the right side of a definition or of the type of a field: the definition's name, and the
+    line's begin and end."""
     name, at, record = None, 0, False
     for line in text.splitlines(keepends=True):
         bare = line.strip()
@@ -121,7 +127,7 @@ def right_sides(text):
 
 
 def negations(text, begin, end):
-    """Where a condition of `cond` stands."""
+    """Yields the begin and end of each condition of `cond`."""
     for it in re.compile(r"\bcond (?=[\w(])").finditer(text, begin, end):
         at = it.end()
         if text[at] == "(":
@@ -136,7 +142,7 @@ def negations(text, begin, end):
 
 
 def mutations():
-    """All changes, each with a name of its own."""
+    """Yields all mutations, each with a name of its own."""
     turns = collections.Counter()
     for it in unnamed():
         turns[it.file, it.name, it.old, it.new] += 1
@@ -165,7 +171,7 @@ def unnamed():
 
 
 def imports(text, needs):
-    """The lines that bring what a change needs and the file doesn't import."""
+    """Yields the lines that import the words that a mutation needs and the file doesn't import."""
     brought = {it.strip().split(" as ")[-1] for items in re.findall(r"^use [\w.]+\.\{([^}]*)\}", text, re.M) for it in items.split(",")}
     for word in needs:
         name = f"◌{word}◌" if word in INFIX else word
@@ -181,13 +187,13 @@ def planted(it):
 
 
 def check(words):
-    """Where the checker finds an error: among the definitions, or in which equations."""
+    """Runs the checker. Returns the kind of its errors, and the equations that fail."""
     ended = subprocess.run(words, capture_output=True, text=True, check=False)
     said = ended.stdout + ended.stderr
     errors = list(definitions.ERROR.finditer(said))
     if any("/proofs/" not in it[1] for it in errors):
         return "definitions", set()
-    # An error that isn't in a definition is told by its file.
+    # An error outside of a definition is named by its file.
     equations = {it[2] or pathlib.Path(it[1]).stem for it in errors if not definitions.LIMIT.search(it[3])}
     if ended.returncode != 0 and not errors:
         sys.exit(said[-2000:])
@@ -195,8 +201,8 @@ def check(words):
 
 
 def result_of(it, folder, words, refusing):
-    """What becomes of one change: none of a definition, refused by an equation, or not refused. The files of equations that refused
-    others of its definition are tried first."""
+    """Returns the result of a mutation: no definition, refused by an equation, or not refused. The files of equations
+    that refused other mutations of its definition are tried first."""
     shared = [definitions.WORKED_SCHEME, *(file for file in definitions.FILES if file.stem in definitions.SHARED)]
     rest = [file for file in definitions.FILES if file not in shared]
     for files in ([file for file in rest if file in refusing], rest, [file for file in WORKED if file not in shared]):
@@ -218,7 +224,7 @@ def result_of(it, folder, words, refusing):
 
 
 def tried(changes):
-    """What becomes of each change of one definition."""
+    """Yields each mutation of one definition with its result."""
     refusing = set()
     with tempfile.TemporaryDirectory() as place:
         folder = pathlib.Path(place)
@@ -232,10 +238,10 @@ def tried(changes):
 
 def main():
     parser = argparse.ArgumentParser(description=__doc__, formatter_class=argparse.RawDescriptionHelpFormatter)
-    parser.add_argument("--list", action="store_true", help="print the changes, and check none")
-    parser.add_argument("--only", default="", metavar="WORD", help="only changes that have this in their names")
-    parser.add_argument("--done", metavar="FILE", help="an earlier run's output: what it tried isn't tried again")
-    parser.add_argument("--jobs", type=int, default=2, metavar="N", help="how many to check at once (2)")
+    parser.add_argument("--list", action="store_true", help="print the mutations, and check none")
+    parser.add_argument("--only", default="", metavar="WORD", help="check only mutations with this text in their names")
+    parser.add_argument("--done", metavar="FILE", help="the output of an earlier run, whose mutations aren't checked again")
+    parser.add_argument("--jobs", type=int, default=2, metavar="N", help="the number of mutations that are checked at once (2)")
     args = parser.parse_args()
     chosen = [it for it in mutations() if args.only in str(it)]
     if args.list:

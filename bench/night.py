@@ -1,12 +1,17 @@
 #!/usr/bin/env python3
-"""Random rehearsals of all kinds of events, which must come to the same by three ways.
+"""Compares `kyoto-link` with checker/ over random rehearsals of all kinds of events.
 
-night.py COUNT makes rehearsals until they have COUNT events: under random schemes, orders good and bad, messages delivered early,
-late, twice and never, crashes, requests, clean-ups, closings, acknowledgements and full journals. Each is given to `kyoto-link
-rehearse`, whose report must be that of checker/worlds.py; its journals are put into stores, of which `kyoto-link audit` must write the
-report's table; and from the scheme and the table alone it is looked whether held and owed together are what was allotted, no unit is in
-two lines, and no transaction is Completed at one node and Rejected, Terminated or Cancelled at another. A seed that fails is printed,
-with the fewest events found that fail still, and the exit status is 1.
+    night.py [--seed N] [--workers N] COUNT
+
+The script makes rehearsals until they have COUNT events: under random schemes, valid and invalid orders, messages
+delivered early, late, twice and never, crashes, requests, clean-ups, closings, acknowledgements and full journals. For
+each rehearsal the report of `kyoto-link rehearse` must be that of checker/worlds.py, and `kyoto-link audit` of stores
+with its journals must write the table of the report. By the scheme and the table alone, the held and owed units must
+add up to the allotted ones, no unit may be in two lines, and no transaction may be Completed at one node and Rejected,
+Terminated or Cancelled at another.
+
+At the end the rate and the number of each outcome are printed. If a seed fails, it is printed with the shortest list of
+its events found that still fails, and the exit status is 1.
 """
 
 import argparse
@@ -36,7 +41,7 @@ BLOCK = re.compile(r"([A-Z]{2}):([12]):(\d+)-(\d+):\w+")
 
 
 class Rehearsal:
-    """A random scheme and random events, each chosen by what the events before it led to."""
+    """A random scheme and random events. Each event is chosen after the effects of those before it."""
 
     def __init__(self, seed, counts=(2, 2, 3, 3, 4, 5, 8, 32)):
         self.random = random.Random(seed)
@@ -106,7 +111,7 @@ class Rehearsal:
         return f"{name} {node} {self.random.choice((0, 0, 1, 2, 50))}"
 
     def moves(self):
-        """A commit, a post or a delivery that can happen, in most cases."""
+        """Returns a commit, a post or a delivery, which is possible in most cases."""
         world = self.world
         tails = [name for name in world.nodes if world.tail(name)]
         if tails and self.random.random() < 0.4:
@@ -142,7 +147,7 @@ class Rehearsal:
 
 
 def message_text(message):
-    """A message's keys and values."""
+    """Returns a message's keys and values."""
     found = {"from": message.sender, "to": message.receiver, "transaction": formats.identifier_text(message.transaction)}
     if message.kind == "request":
         return {**found, "call": "RequestCancellation"}
@@ -154,7 +159,7 @@ def message_text(message):
 
 
 def record_text(given):
-    """The text of a journal's record, of format 2."""
+    """Returns the text of a journal's record, of format 2."""
     name, value = given.name, given.value
     if name == "message":
         parts = {"input": "received", "message": message_text(value[0]), "moment": value[1]}
@@ -179,7 +184,7 @@ def run(words, given=None):
 
 
 def wrong_table(scheme, table):
-    """What is wrong with a table by itself, or None."""
+    """Returns a text about a table that is wrong by itself, or None."""
     registries, _ = formats.scheme(scheme)
     allotted = sum(block.last - block.first + 1 for it in registries.values() for _, block in it["allotted"])
     counted, lines = 0, collections.defaultdict(list)
@@ -195,9 +200,9 @@ def wrong_table(scheme, table):
         elif words[0] == "transaction":
             statuses = set(words[3::2])
             if "Completed" in statuses and statuses & UNDONE:
-                return f"of two minds: {line}"
+                return f"contradictory statuses: {line}"
     if counted != allotted:
-        return f"{counted} held and owed of {allotted}"
+        return f"{counted} units held and owed of {allotted} allotted"
     for of_line in lines.values():
         of_line.sort()
         if any(one[1] >= other[0] for one, other in zip(of_line, of_line[1:])):
@@ -206,12 +211,12 @@ def wrong_table(scheme, table):
 
 
 def difference(lines, folder):
-    """What the three ways differ in, or None."""
+    """Returns the difference between the program and checker/, or None."""
     text = "\n".join([*lines, ""])
     report, world = worlds.rehearse(text)
-    told = run([program(), "rehearse"], text)
-    if told.returncode or told.stdout != report:
-        return f"rehearse: status {told.returncode}, {told.stderr.strip()}"
+    ended = run([program(), "rehearse"], text)
+    if ended.returncode or ended.stdout != report:
+        return f"rehearse: status {ended.returncode}, {ended.stderr.strip()}"
     table = report.split("\n")[len(lines) - 1:-1]
     wrong = wrong_table(lines[0], table)
     if wrong:
@@ -227,7 +232,7 @@ def difference(lines, folder):
 
 
 def fewest(lines, folder):
-    """As few of the lines as can be found that differ still."""
+    """Returns a short list of the lines that still differ."""
     size = len(lines) // 2
     while size:
         at = 1
@@ -242,7 +247,8 @@ def fewest(lines, folder):
 
 
 def night(given):
-    """The events of one seed, what came of them, and what they differ in."""
+    """Returns the number of events of one seed, the number of each outcome, and the difference with its lines, or
+    None."""
     seed, folder = given
     lines = Rehearsal(seed).lines(LENGTH)
     found = difference(lines, folder)
@@ -255,7 +261,7 @@ def night(given):
 
 def main():
     words = argparse.ArgumentParser(description=__doc__, formatter_class=argparse.RawDescriptionHelpFormatter)
-    words.add_argument("count", type=int, help="how many events in all")
+    words.add_argument("count", type=int, help="the number of events in all")
     words.add_argument("--seed", type=int, default=0, help="the first seed")
     words.add_argument("--workers", type=int, default=os.cpu_count())
     given = words.parse_args()
@@ -269,12 +275,12 @@ def main():
             outcomes += came
             if wrong:
                 seed, found, lines = wrong
-                print(f"seed {seed}: {found}, by these lines:", *lines, sep="\n", flush=True)
+                print(f"seed {seed}: {found}, with these lines:", *lines, sep="\n", flush=True)
                 pool.terminate()
                 sys.exit(1)
     minutes = (time.monotonic() - start) / 60
-    print(f"{events:,} events of {len(seeds):,} rehearsals, {events / minutes:,.0f} a minute, by three ways the same")
-    print("outcomes, and how transactions stood at each node in the end, with what was found:")
+    print(f"{events:,} events of {len(seeds):,} rehearsals, {events / minutes:,.0f} a minute, without a difference")
+    print("outcomes, and the statuses of transactions at each node at the end, with their codes:")
     print(*(f"{count:>12,} {name}" for name, count in sorted(outcomes.items())), sep="\n")
 
 

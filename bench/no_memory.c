@@ -1,6 +1,6 @@
-/* Refuses one allocation of the program that it is loaded into, by LD_PRELOAD: that with the number in REFUSE, from 1 on,
-   of all that the program asks the C library for. Where it comes to that one it makes the file that REFUSED names, and
-   aborts the program where that can't be made. */
+/* A library for LD_PRELOAD that refuses one allocation of the program: the one with the number REFUSE, counted from 1,
+   of all calls of malloc and realloc. At that call it makes the file that REFUSED names, and aborts the program if it
+   can't be made. */
 
 #define _GNU_SOURCE
 #include <dlfcn.h>

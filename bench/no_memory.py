@@ -1,18 +1,21 @@
 #!/usr/bin/env python3
-"""Refuses each allocation of tests and of whole commands in turn: a command writes all or nothing, and no store changes.
+"""Refuses each allocation of tests and of whole commands in turn, and checks that a command writes all or nothing.
 
-Each test of `test_values`, `test_stores` and `test_runs` is a program's run by itself. It is run once for each of its
-allocations, of which that one is refused (`no_memory.c`, loaded before the C library). It must pass: a call that found no
-memory is made again in the test, which looks before at what stands. Or it stops while it reads its own texts. A test whose
-runs would take longer than `--seconds` together has as many of its allocations refused as that allows, spread over all. Not
-run so are the tests of EXEMPT.
+    no_memory.py [--tests TEXT] [--seconds N]
 
-`rehearse` reads the input of each example, `chart` of those with a diagram, a command line is read of the examples that have
-one, and `audit` reads the stores of a whole transfer and of the one whose proposal comes too late. Each is run once with all
-the memory that it asks for, when it must write what its folder has, and then once for each of its allocations. Each time it
-must write what the first run wrote, or nothing, with `out of memory` on standard error and exit status 5; or, where the command
-went wrong and there is no memory to tell how, `out of memory` and the status of that. The stores must have the records that
-they had. The exit status is 1 where that isn't so.
+Each test of `test_values`, `test_stores` and `test_runs` runs alone, once for each of its allocations, of which that
+one is refused (`no_memory.c`, loaded before the C library). The test must pass, as it repeats a call that found no
+memory, after it has checked the state; or it stops while it reads its own texts. If the runs of a test would take
+longer than `--seconds` together, allocations are skipped at equal distances. The tests of EXEMPT are left out.
+
+`rehearse` reads the input of each example, `chart` the examples with a diagram, the command lines of the examples that
+have one are read, and `audit` reads the stores of a whole transfer and of one whose proposal comes too late. Each
+command runs once with all its memory and must write the outputs in its folder, and then once for each of its
+allocations. Each time it must write the same as the first run, or nothing, with `out of memory` on standard error and
+exit status 5. If the command fails with a fault and has no memory for its line, it may write `out of memory` with the
+status of that fault. The stores must keep their records.
+
+A line is printed for each test and each command, and one for each run that failed. The exit status is 1 if one failed.
 """
 
 import argparse
@@ -39,14 +42,14 @@ TOP = pathlib.Path(__file__).resolve().parent.parent
 SOURCE = TOP / "bench" / "no_memory.c"
 OUT_OF_MEMORY = (5, b"", b"kyoto-link: out of memory\n")
 TESTS = ("test_values", "test_stores", "test_runs")
-# What a test says that found no memory for its own texts, and how a test ends that fails.
+# The message of a test that found no memory for its own texts, and the status of a test that fails.
 READING = b"the test's own texts"
 FAILED = -signal.SIGABRT
-# How many seconds a run of a test may take.
+# The most seconds of a run of a test.
 LONGEST = 120
 PROCESSORS = os.cpu_count() or 1
-# Threads that wait for one another end otherwise in each run; an endless session, an input at its limit and millions of
-# interrupted calls take too long to be run thousands of times.
+# Tests of threads that wait for one another end differently in each run. An endless session, an input at its limit and
+# millions of interrupted calls take too long to run thousands of times.
 EXEMPT = {
     "threaded_run::",
     "endless_line::",
@@ -115,7 +118,7 @@ def texts_of(journals):
 
 
 def records_in(folder):
-    """The rows of all stores."""
+    """Returns the rows of all stores."""
     found = {}
     for path in sorted(folder.glob("*.db")):
         store = sqlite3.connect(path)
@@ -125,7 +128,7 @@ def records_in(folder):
 
 
 class Refusing:
-    """Runs programs with one allocation refused. Each thread has a room of its own."""
+    """Runs programs with one allocation refused. Each thread has a folder of its own."""
 
     def __init__(self, room):
         self.room = pathlib.Path(room)
@@ -133,36 +136,37 @@ class Refusing:
         build_c(SOURCE, self.library, "-std=gnu11", "-shared", "-fPIC", "-ldl")
 
     def run(self, words, text, number, test=None, thread=0):
-        """What a run of the program, or of a test's, came to, and whether an allocation was refused. None is where the number is 0.
-        It runs in a folder of its own, since some tests make stores where they run."""
-        told = self.room / f"refused-{thread}"
-        told.unlink(missing_ok=True)
-        given = os.environ | {"LD_PRELOAD": str(self.library), "REFUSE": str(number), "REFUSED": str(told)}
+        """Returns the end of a run of the program or of a test's program, and whether an allocation was refused. With
+        the number 0 none is refused. The run has a folder of its own, since some tests make stores in their folder."""
+        mark = self.room / f"refused-{thread}"
+        mark.unlink(missing_ok=True)
+        given = os.environ | {"LD_PRELOAD": str(self.library), "REFUSE": str(number), "REFUSED": str(mark)}
         words = [test or program(), *words]
         with tempfile.TemporaryDirectory(dir=self.room) as own:
             try:
                 ended = subprocess.run(words, input=text, capture_output=True, env=given, cwd=own, timeout=LONGEST, check=False)
             except subprocess.TimeoutExpired:
-                return (None, b"", b"no end"), told.exists()
-        return (ended.returncode, ended.stdout, ended.stderr), told.exists()
+                return (None, b"", b"no end"), mark.exists()
+        return (ended.returncode, ended.stdout, ended.stderr), mark.exists()
 
 
 def refuse_each(name, refusing, words, text, folder, wanted=None):
-    """Whether each run came to all or nothing, and the first one, with all its memory, to what is wanted. Several threads take
-    the numbers of allocations in turn."""
+    """Returns whether each run wrote all or nothing, and whether the first one, with all its memory, has the wanted
+    end. Several threads take the numbers of allocations in turn."""
     whole, _ = refusing.run(words(folder), text, 0)
     if wanted is None:
         check_end([program(), *words(folder)], whole[0], (0,), whole[2])
     elif whole != wanted:
-        print(f"{name}: status {whole[0]}, {len(whole[1])} bytes written, {whole[2]!r}, which isn't what its folder has")
+        print(f"{name}: status {whole[0]}, {len(whole[1])} bytes written, {whole[2]!r}, other than the outputs in its folder")
         return False
-    # Where it went wrong, and memory lacks to tell how.
+    # The end of a fault without memory for its line.
     untold = (whole[0], *OUT_OF_MEMORY[1:]) if whole[0] else whole
     before = records_in(folder) if folder else None
     numbers = itertools.count(1)
 
     def take(thread):
-        """How many of this thread's runs had an allocation refused, how many ran out of memory, and what else came of them."""
+        """Returns the number of this thread's runs with a refused allocation, the number of those out of memory, and
+        texts about other ends."""
         own = pathlib.Path(shutil.copytree(folder, f"{folder}-{thread}")) if folder else None
         runs, unwritten, others = 0, 0, []
         while True:
@@ -170,8 +174,8 @@ def refuse_each(name, refusing, words, text, folder, wanted=None):
             came, refused = refusing.run(words(own), text, number, thread=thread)
             ends = (whole, OUT_OF_MEMORY, untold) if refused else (whole,)
             if came not in ends or (own and records_in(own) != before):
-                what = f"allocation {number}" if refused else "none"
-                others.append(f"with {what} refused: status {came[0]}, {len(came[1])} bytes written, {came[2]!r}")
+                allocation = f"allocation {number}" if refused else "none"
+                others.append(f"with {allocation} refused: status {came[0]}, {len(came[1])} bytes written, {came[2]!r}")
             if not refused:
                 return runs, unwritten, others
             runs += 1
@@ -182,24 +186,25 @@ def refuse_each(name, refusing, words, text, folder, wanted=None):
     for text in [text for _, _, others in ended for text in others]:
         print(f"{name}: {text}")
     runs, unwritten = (sum(it[part] for it in ended) for part in (0, 1))
-    print(f"{name}: {runs} allocations; out of memory {unwritten} times, else all was written", flush=True)
+    print(f"{name}: {runs} allocations; out of memory {unwritten} times, otherwise all was written", flush=True)
     return not any(others for _, _, others in ended)
 
 
 def expected_of(example):
-    """How a run on the example is to end: its status, and the bytes of standard output and of standard error."""
+    """Returns the expected end of a run on the example: its status, and the bytes of standard output and of standard
+    error."""
     error = example / "error"
     if error.exists():
         said = error.read_bytes()
         if (example / "words").exists():
-            # The program says so line by line, without the empty ones.
+            # The program writes each line of the error that isn't empty.
             return (2, b"", b"".join(b"kyoto-link: " + line + b"\n" for line in said.split(b"\n") if line))
         return (3, b"", said)
     return (0, (example / "output").read_bytes(), b"")
 
 
 def refuse_each_of_examples(refusing):
-    """Whether all examples came to all or nothing."""
+    """Returns whether the runs of all examples wrote all or nothing."""
     kept = True
     folders = sorted(it for it in [*EXAMPLES.iterdir(), *EXAMPLES.glob("*/*")] if it.is_dir())
     for example in folders:
@@ -219,7 +224,7 @@ def refuse_each_of_examples(refusing):
 
 
 def test_programs():
-    """The program of each crate of tests, which `rt test` proves and builds first where that must be."""
+    """Returns the program of each crate of tests. `rt test` proves and builds those that are missing."""
     programs = {}
     for crate in TESTS:
         built = TOP / "crates" / crate / "out" / f"{crate}_tests"
@@ -230,13 +235,13 @@ def test_programs():
 
 
 def tests_of(test):
-    """The names of all tests of that program."""
+    """Returns the names of all tests of a program."""
     listed = run_to_end([test, "--list"], stdout=subprocess.PIPE, text=True).stdout
     return [line.removesuffix(": test") for line in listed.splitlines() if line.endswith(": test")]
 
 
 def allocations_of(refusing, test, name):
-    """How many allocations the test asks for."""
+    """Returns the number of allocations that the test asks for."""
     low, high = 0, 1
     while refusing.run([name], b"", high, test)[1]:
         low, high = high, high * 2
@@ -247,8 +252,9 @@ def allocations_of(refusing, test, name):
 
 
 def refuse_each_of_test(refusing, threads, test, name, seconds):
-    """Whether the test passed with all its memory, and passed, or stopped in reading, with each allocation refused, or with as many
-    as there is time for. How many there are, how many were refused, and how often it passed and stopped in reading."""
+    """Returns whether the test passed with all its memory, and passed or stopped while reading with each allocation
+    refused, or with the ones that the time allows. Returns also the number of allocations, of those refused, of passes
+    and of stops while reading."""
     begin = time.monotonic()
     whole, _ = refusing.run([name], b"", 0, test)
     each = time.monotonic() - begin
@@ -272,12 +278,12 @@ def refuse_each_of_test(refusing, threads, test, name, seconds):
         print(f"test {name}: with allocation {number} refused: {how.strip()}")
     tried = "" if step == 1 else f", {len(numbers)} of them refused"
     more = f", otherwise {len(others)} times" if others else ""
-    print(f"test {name}: {count} allocations{tried}; passed {passed} times, stopped in reading {reading} times{more}", flush=True)
+    print(f"test {name}: {count} allocations{tried}; passed {passed} times, stopped while reading {reading} times{more}", flush=True)
     return not others, (count, len(numbers), passed, reading)
 
 
 def refuse_each_of_tests(refusing, only, seconds):
-    """Whether all tests passed, or stopped in reading, each time. Prints the sums of each program."""
+    """Returns whether all tests passed, or stopped while reading, each time. Prints the sums of each program."""
     kept = True
     with concurrent.futures.ThreadPoolExecutor(PROCESSORS) as threads:
         for crate, test in test_programs().items():
@@ -285,13 +291,13 @@ def refuse_each_of_tests(refusing, only, seconds):
             ended = [refuse_each_of_test(refusing, threads, test, name, seconds) for name in names]
             kept = all(is_kept for is_kept, _ in ended) and kept
             counts, refused, passed, reading = (sum(it[part] for _, it in ended) for part in range(4))
-            print(f"{crate}: {len(names)} tests, {counts} allocations, {refused} of them refused; passed {passed} times, stopped in reading "
-                  f"{reading} times", flush=True)
+            print(f"{crate}: {len(names)} tests, {counts} allocations, {refused} of them refused; passed {passed} times, stopped while "
+                  f"reading {reading} times", flush=True)
     return kept
 
 
 def refuse_each_of_audits(refusing, room):
-    """Whether the audits came to all or nothing, and the stores stayed."""
+    """Returns whether the audits wrote all or nothing, and the stores kept their records."""
     scheme = pathlib.Path(room) / "scheme"
     text = (EXAMPLES / "stale_proposal" / "input").read_bytes()
     scheme.write_bytes(text.split(b"\n", 1)[0] + b"\n")
@@ -306,8 +312,8 @@ def refuse_each_of_audits(refusing, room):
 
 def main():
     words = argparse.ArgumentParser(description=__doc__, formatter_class=argparse.RawDescriptionHelpFormatter)
-    words.add_argument("--tests", metavar="TEXT", help="run those tests alone whose name has that text, and no command")
-    words.add_argument("--seconds", type=float, default=20, help="how long the runs of one test may take together")
+    words.add_argument("--tests", metavar="TEXT", help="run only the tests with this text in their names, and no command")
+    words.add_argument("--seconds", type=float, default=20, help="the most seconds of the runs of one test together")
     given = words.parse_args()
     with tempfile.TemporaryDirectory() as room:
         refusing = Refusing(room)
@@ -316,7 +322,7 @@ def main():
             program()
             kept = refuse_each_of_examples(refusing) and kept
             kept = refuse_each_of_audits(refusing, room) and kept
-    print("all or nothing each time" if kept else "something else was written, a store changed, or a test failed")
+    print("all or nothing each time" if kept else "other texts were written, a store changed, or a test failed")
     return 0 if kept else 1
 
 

@@ -1,11 +1,11 @@
-"""What one node answers to each kind of line, and how it goes on after it was started again."""
+"""Checks the results of one node for each kind of line, and again after another start."""
 
 from folders import differ, do
 from node_group import LOG, group_of
 
-# More bytes than a line may have.
+# A line of more bytes than allowed.
 TOO_LONG = "x" * 1_048_577
-# Lines for a registry whose log is down, and for the log, with what has to be answered.
+# Lines for a registry whose log is down, and for the log, with the expected results.
 OF_REGISTRY = [
     ("propose 1 AB 1 AA:1:1-3:AAU", "recorded 0"),
     ("propose 1 AB 1 AA:1:3-4:AAU", "refused 106"),
@@ -36,7 +36,7 @@ OF_LOG = [
     ("open 1", "not possible"),
     ("status", "fault order"),
 ]
-# The same after another start: what was recorded is there.
+# Lines after another start, with which the records are still there.
 LATER = {
     "AA": [("status AA1", "status Proposed"), ("request AA1", "repeat"), ("propose 1 AB 1 AA:1:5-5:AAU", "refused 106")],
     LOG: [("eligible AA no", "repeat"), ("eligible AA yes", "recorded 1")],
@@ -45,31 +45,33 @@ STARTS = ({"AA": OF_REGISTRY, LOG: OF_LOG}, LATER)
 
 
 def check_answers(group, node, lines, export):
-    """Starts a node, gives it the lines, has it export its records, and stops it. How many records it has."""
+    """Starts a node, gives it the lines, lets it export its records, and stops it. Returns the number of its
+    records."""
     process = group.start(node)
     group.check_sum(node)
     for line, wanted in lines:
         answer, = process.ask([line])
-        differ(answer != wanted, f"{node} answered {answer} to {line[:60]!r} in place of {wanted}")
+        differ(answer != wanted, f"{node} wrote {answer} for {line[:60]!r} instead of {wanted}")
     nowhere, answer = process.ask([f"export {export / 'nowhere' / node}.db", f"export {export / node}.db"])
-    differ(nowhere != "fault export", f"{node} answered {nowhere} to an export into no folder")
-    told = group.stop_all()[node]
-    differ(answer != f"exported {told}", f"{node} answered {answer} to an export of {told} records")
+    differ(nowhere != "fault export", f"{node} wrote {nowhere} for an export into a missing folder")
+    recorded = group.stop_all()[node]
+    differ(answer != f"exported {recorded}", f"{node} wrote {answer} for an export of {recorded} records")
     shown = do("show", group.gathered.scheme, export, node).stdout
     differ(shown != do("show", group.gathered.scheme, group.stores[node], node).stdout, f"the export of {node} has other records")
-    return told
+    return recorded
 
 
 def try_answers(room, given):
-    """Each kind of line at a registry and at the log, each of which is alone, and again after a second start."""
-    told, count = {"AA": 0, LOG: 0}, 0
+    """Tries each kind of line at a registry and at the log, each of which runs alone, and again after a second
+    start."""
+    recorded, count = {"AA": 0, LOG: 0}, 0
     with group_of(room, 2, 10, given.seed) as group:
         for number, lines in enumerate(STARTS):
             export = room / f"exports-{number}"
             export.mkdir()
             for node, of_node in lines.items():
-                before, told[node] = told[node], check_answers(group, node, of_node, export)
+                before, recorded[node] = recorded[node], check_answers(group, node, of_node, export)
                 more = sum(answer.startswith("recorded ") for _, answer in of_node)
-                differ(told[node] != before + more, f"{node} told of {told[node]} records in place of {before + more}")
+                differ(recorded[node] != before + more, f"{node} printed {recorded[node]} records instead of {before + more}")
                 count += len(of_node)
-    return f"{count} lines were answered as they have to be"
+    return f"{count} lines had the expected results"

@@ -1,4 +1,4 @@
-"""The processes of all nodes of a scheme: their addresses, keys and folders, and the relay between them."""
+"""Runs the processes of all nodes of a scheme, with their addresses, keys and folders, and the relay between them."""
 
 import contextlib
 import pathlib
@@ -16,13 +16,13 @@ from relay import Link, Relay
 
 HOST = "127.0.0.1"
 LOG = "ITL"
-# Handles that the bench would have: each process takes three of it, and idle connections one each.
+# The number of file handles that the bench asks for: each process takes three of them, and each idle connection one.
 HANDLES = 8_192
 RANGE = pathlib.Path("/proc/sys/net/ipv4/ip_local_port_range")
 
 
 def raise_handles():
-    """As many file handles as the bench wants, where the system gives them."""
+    """Raises the limit of file handles to that number, or to the most that the system allows."""
     _, most = resource.getrlimit(resource.RLIMIT_NOFILE)
     wanted = HANDLES if most == resource.RLIM_INFINITY else min(HANDLES, most)
     if resource.getrlimit(resource.RLIMIT_NOFILE)[0] < wanted:
@@ -39,7 +39,7 @@ def is_free(port):
 
 
 def free_ports(count, chance):
-    """Ports that nobody has, and that the system gives to no connection, so that a node finds its own free again."""
+    """Returns free ports that the system gives to no connection, so that a node finds its own free after a restart."""
     first, last = map(int, RANGE.read_text().split())
     ports = [*range(2_000, first), *range(last + 1, 65_536)]
     found = []
@@ -52,8 +52,8 @@ def free_ports(count, chance):
 
 
 class Group:
-    """The nodes of a scheme with a process each. Each has a folder of its own, or all have one; the links have keys or
-    none, and a relay of that mode stands on them or none."""
+    """The nodes of a scheme with a process each. They have a folder each, or all share one. The links have keys or
+    none, and a relay of that mode or none."""
 
     def __init__(self, room, registries, units, seed, shared=False, keyed=False, mode=None):
         self.room, self.chance = pathlib.Path(room), random.Random(seed)
@@ -74,7 +74,7 @@ class Group:
         return self.codes if node == LOG else [LOG]
 
     def make_relay(self, mode, seed):
-        """A relay on both directions of each link, which is started at once."""
+        """Starts and returns a relay on both directions of each link."""
         ends = [(node, peer) for node in self.nodes for peer in self.peers(node)]
         ports = free_ports(len(ends) + len(self.nodes), self.chance)
         ports = [it for it in ports if it not in self.ports.values()]
@@ -84,7 +84,7 @@ class Group:
         return relay
 
     def write_keys(self):
-        """The nodes' files of keys, one key for each link."""
+        """Writes the nodes' files of keys, with one key for each link."""
         if not self.keyed:
             return
         keys = {code: self.chance.randbytes(32).hex() for code in self.codes}
@@ -94,7 +94,7 @@ class Group:
             path.write_text("".join(f"{peer} {keys[peer if node == LOG else node]}\n" for peer in self.peers(node)))
 
     def address(self, node, peer):
-        """Where the node sends what is for that peer."""
+        """Returns the address to which the node sends its messages for that peer."""
         links = self.relay.links if self.relay else []
         host, port = next((it.listen for it in links if it.ends == (node, peer)), (HOST, self.ports[peer]))
         return f"{host}:{port}"
@@ -106,7 +106,7 @@ class Group:
         return [*words, "--keys", self.room / f"{node}.keys"] if self.keyed else words
 
     def start(self, node, before=()):
-        """Starts the node, by the words before it where there are any."""
+        """Starts the node, with the words in `before` ahead of its command."""
         self.running[node] = NodeProcess(node, [*before, *self.words(node)], self.room / f"{node}.said")
         return self.running[node]
 
@@ -117,40 +117,42 @@ class Group:
             self.check_sum(node)
 
     def check_sum(self, node):
-        """The node tells the sum of the scheme that all others tell, and that stands beside its store."""
-        told = self.running[node].wait_ready()
-        self.sums[node] = told
-        differ(len(set(self.sums.values())) > 1, f"{node} tells another sum of the scheme than a node before it")
+        """Checks that the node prints the same sum of the scheme as the others, and has it in the file beside its
+        store."""
+        found = self.running[node].wait_ready()
+        self.sums[node] = found
+        differ(len(set(self.sums.values())) > 1, f"{node} prints another sum of the scheme than a node before it")
         kept = self.stores[node] / f"{node}.scheme"
-        differ(not kept.exists() or told not in kept.read_text(), f"{kept.name} doesn't have the scheme's sum")
+        differ(not kept.exists() or found not in kept.read_text(), f"{kept.name} doesn't have the scheme's sum")
 
     def kill(self, node, by=signal.SIGKILL):
-        """Kills the node, and returns the process that it was."""
+        """Kills the node, and returns its process."""
         process = self.running.pop(node)
         process.kill(by)
         return process
 
     def check(self):
-        """Ends with a difference where a node or the relay ended, or the relay had a fault of its own."""
+        """Raises `Difference` if a node ended, or if the relay had a fault of its own."""
         for process in self.running.values():
             process.check()
         faults = self.relay.faults if self.relay else []
         differ(faults, f"the relay had a fault: {faults[:1]}")
 
     def stop_all(self):
-        """Ends all nodes in order, each by `stop` or by the end of its lines. How many records each tells of."""
+        """Stops all nodes, each by `stop` or by the end of its lines. Returns the number of records that each
+        prints."""
         for process in self.running.values():
             process.begin_stop(self.chance.choice(("stop", "")))
-        told = {node: process.end_stop() for node, process in self.running.items()}
+        counts = {node: process.end_stop() for node, process in self.running.items()}
         self.running.clear()
-        return told
+        return counts
 
     def restart_all(self):
         self.stop_all()
         self.start_all()
 
     def gather(self):
-        """Copies all stores and their logs into one folder."""
+        """Copies all stores and their logs into one folder, and returns it."""
         for node, folder in self.stores.items():
             for name in (f"{node}.db", f"{node}.db-wal"):
                 if (folder / name).exists():
@@ -158,7 +160,7 @@ class Group:
         return self.gathered
 
     def close(self):
-        """Ends what still runs, whatever came before."""
+        """Ends all processes and the relay at once."""
         for process in self.running.values():
             process.end_at_once()
         if self.relay and self.relay.thread.is_alive():
@@ -167,7 +169,7 @@ class Group:
 
 @contextlib.contextmanager
 def group_of(*given, **named):
-    """A group, of which nothing runs afterwards."""
+    """Yields a group, and ends all its processes afterwards."""
     group = Group(*given, **named)
     try:
         yield group
@@ -176,7 +178,7 @@ def group_of(*given, **named):
 
 
 def wait_for(done, seconds, what, pause=0.2):
-    """Asks again and again until that holds."""
+    """Waits until `done` returns true. After `seconds` it raises `Difference` with the text `what`."""
     end = time.monotonic() + seconds
     while not done():
         differ(time.monotonic() > end, f"{what} after {seconds:.0f} seconds")

@@ -1,4 +1,4 @@
-"""One process of `kyoto-link node`: how a bench starts it, gives it lines, reads its answers, and ends it."""
+"""Runs one process of `kyoto-link node`: starts it, gives it lines, reads its results, and ends it."""
 
 import contextlib
 import pathlib
@@ -10,9 +10,9 @@ import time
 
 from folders import Difference, differ
 
-# How many seconds a process may take until its first line, to an answer, and to its end.
+# The most seconds until a process's first line, until a result, and until its end.
 START_SECONDS, ANSWER_SECONDS, END_SECONDS = 60, 60, 60
-# How many lines may wait for their answers at once, so that all of them find room in the pipe where none has more bytes than that.
+# The most lines that wait for their results at once, and the most bytes of each with which all of them fit into the pipe.
 MOST_WAITING, LONG_LINE = 400, 160
 FIRST = re.compile(r"scheme [0-9a-f]{64}")
 ANSWER = re.compile(r"(\d+) (recorded \d+|repeat|late|refused \d+|status \w+|not possible|fault [a-z-]+|exported \d+)")
@@ -20,7 +20,7 @@ LAST = re.compile(r"records (\d+)")
 
 
 class NodeProcess:
-    """A process, the lines that it was given, and its answers, which a thread reads."""
+    """A process, the lines that it was given, and its results, which a thread reads."""
 
     def __init__(self, name, words, said):
         self.name, self.words, self.said = name, list(map(str, words)), pathlib.Path(said)
@@ -34,7 +34,7 @@ class NodeProcess:
         self.reader.start()
 
     def read(self):
-        """Reads what the process writes, to its end. Of a line that was cut off no more is kept."""
+        """Reads the output of the process to its end. A last line without a newline is left out."""
         with open(self.process.stdout.fileno(), encoding="utf-8", errors="replace", closefd=False) as output:
             for line in output:
                 if line.endswith("\n"):
@@ -46,7 +46,7 @@ class NodeProcess:
             self.changed.notify_all()
 
     def keep(self, line):
-        """Keeps a line that the process wrote: its first one, an answer, or its last one."""
+        """Keeps a line of the output: the first one, a result, or the last one."""
         answer = ANSWER.fullmatch(line)
         if self.first is None and FIRST.fullmatch(line):
             self.first = line
@@ -58,21 +58,21 @@ class NodeProcess:
             self.odd = self.odd or line
 
     def tail(self):
-        """The end of what the process said on standard error."""
+        """Returns the end of the process's standard error."""
         return self.said.read_text(errors="replace").strip()[-500:]
 
     def command(self):
         return " ".join(self.words)
 
     def check(self):
-        """Ends with a difference where the process wrote an odd line or has ended."""
+        """Raises `Difference` if the process wrote an unexpected line or has ended."""
         differ(self.odd is not None, f"{self.name} wrote {self.odd!r}")
         status = self.process.poll()
         if status is not None:
             raise Difference(f"{self.name} ended with status {status}: {self.tail()}; it was {self.command()}")
 
     def wait_until(self, done, seconds, what):
-        """Waits until that holds, and no longer than the process runs."""
+        """Waits until `done` returns true. If the process ends before, or after `seconds`, it raises `Difference`."""
         end = time.monotonic() + seconds
         with self.changed:
             while not done():
@@ -85,37 +85,37 @@ class NodeProcess:
         differ(self.odd is not None, f"{self.name} wrote {self.odd!r}")
 
     def wait_ready(self):
-        """What the process tells of its scheme."""
+        """Waits for the first line, and returns the sum of the scheme in it."""
         self.wait_until(lambda: self.first, START_SECONDS, "first line")
         return self.first.split(" ")[1]
 
     def waiting(self):
-        """How many lines have no answer yet."""
+        """Returns the number of lines that have no result yet."""
         return len(self.lines) - len(self.answers)
 
     def send(self, line):
-        """Gives the process a line, and waits for no answer but where too many are missing. The line's place among all."""
+        """Gives the process a line, and waits only if too many results are missing. Returns the number of the line."""
         if self.waiting() >= MOST_WAITING:
-            self.wait_until(lambda: self.waiting() < MOST_WAITING, ANSWER_SECONDS, "answer")
+            self.wait_until(lambda: self.waiting() < MOST_WAITING, ANSWER_SECONDS, "result")
         self.lines.append(line)
-        # A line that the pipe has no room for waits until the process reads it, and no longer than for an answer.
+        # A line for which the pipe has no room waits until the process reads it, and no longer than for a result.
         limit = threading.Timer(ANSWER_SECONDS, self.process.kill) if len(line) > LONG_LINE else None
         if limit:
             limit.start()
-        with contextlib.suppress(BrokenPipeError):  # `check` and `wait_until` say how it ended
+        with contextlib.suppress(BrokenPipeError):  # `check` and `wait_until` report how it ended
             self.process.stdin.write(f"{line}\n".encode())
         if limit:
             limit.cancel()
         return len(self.lines) - 1
 
     def ask(self, lines, seconds=ANSWER_SECONDS):
-        """The answers to these lines."""
+        """Gives the process these lines, and returns their results."""
         places = [self.send(line) for line in lines]
-        self.wait_until(lambda: not self.waiting(), seconds, "answer")
+        self.wait_until(lambda: not self.waiting(), seconds, "result")
         return [self.answers[it] for it in places]
 
     def memory(self):
-        """How many bytes of memory the process has that are resident."""
+        """Returns the bytes of resident memory of the process."""
         status = pathlib.Path(f"/proc/{self.process.pid}/status").read_text()
         return int(re.search(r"^VmRSS:\s+(\d+) kB$", status, re.MULTILINE)[1]) * 1_024
 
@@ -132,12 +132,12 @@ class NodeProcess:
         differ(self.odd is not None, f"{self.name} wrote {self.odd!r}")
 
     def kill(self, by=signal.SIGKILL):
-        """Ends the process by a signal. It must have run until then."""
+        """Ends the process by a signal. It must run until then."""
         self.process.send_signal(by)
         self.wait_end(-by, f"signal {by:d}")
 
     def begin_stop(self, word="stop"):
-        """Has the process end in order, by that line or by the end of its lines."""
+        """Stops the process by that line, or by the end of its lines if the word is empty."""
         self.check()
         if word:
             with contextlib.suppress(BrokenPipeError):
@@ -146,9 +146,9 @@ class NodeProcess:
             self.process.stdin.close()
 
     def end_stop(self):
-        """Waits for the end in order, and returns how many records the process tells of."""
-        self.wait_end(0, "it was to stop")
-        differ(self.last is None, f"{self.name} ended without telling of its records")
+        """Waits for the end of a stop, and returns the number of records that the process prints."""
+        self.wait_end(0, "it was stopped")
+        differ(self.last is None, f"{self.name} ended without printing the number of its records")
         return int(LAST.fullmatch(self.last)[1])
 
     def close(self):
@@ -157,7 +157,7 @@ class NodeProcess:
                 it.close()
 
     def end_at_once(self):
-        """Ends the process, whatever becomes of it."""
+        """Kills the process if it still runs."""
         if self.process.poll() is None:
             self.process.kill()
             self.process.wait()

@@ -1,4 +1,4 @@
-"""Transfers among processes that are killed: what is ordered, how all of it is awaited, and what the stores must have then."""
+"""Makes transfers among processes that are killed: orders them, waits for their ends, and checks the stores."""
 
 import collections
 import contextlib
@@ -17,16 +17,16 @@ from node_group import group_of, wait_for
 from relay import same_text
 from run import parties, script
 
-# After how many seconds at most some nodes are killed, soon after their orders or later, and are started again.
+# The most seconds after which some nodes are killed, soon after their orders or later, and after which they are started again.
 LONGEST_WORK, LONGEST_DOWN = (0.4, 0.4, 0.02, 0.002), 0.2
-# How often the records of all nodes are exported while they work.
+# The number of times that the records of all nodes are exported while they work.
 CUTS = 5
-# How many questions a node is asked at once.
+# The most questions that a node is asked at once.
 MOST_ASKED = 100
-# What an order may be refused by whose first answer nobody read: its units are gone, or reserved.
+# The refusals of an order that is given again, as its first result was not read: its units are gone, or reserved.
 ORDERED_BEFORE = {"refused 105", "refused 106"}
 UNDER_WAY = {"status none", "status Proposed", "status Checked", "status Accepted"}
-# How a group is made for each way that the messages take.
+# The arguments of a group for each way of the messages.
 WAYS = {
     "plain": {"shared": True},
     "direct": {"shared": True},
@@ -36,12 +36,12 @@ WAYS = {
 
 
 class Orders:
-    """The transfers of one registry, each of one unit, and what is known of each order."""
+    """The transfers of one registry, of one unit each, and the results of their orders."""
 
     def __init__(self, code, other):
         self.code, self.other = code, other
         self.pending, self.sent = collections.deque(), {}
-        # Units of orders whose answer nobody read, the places of those answered as recorded, and those known by a refusal.
+        # The units of orders without a result, the places of the recorded ones, and the units of those with an expected refusal.
         self.unsure, self.recorded, self.known = set(), {}, set()
 
     def count(self):
@@ -54,7 +54,7 @@ class Orders:
             self.sent[process.send(f"propose 1 {self.other} 1 {self.code}:1:{unit}-{unit}:AAU")] = unit
 
     def collect(self, process, ended=False):
-        """Takes the answers that came. Of a process that has ended the other orders are to be given again."""
+        """Reads the results. If the process has ended, the orders without a result wait again."""
         for place, unit in list(self.sent.items()):
             if place < len(process.answers):
                 self.take(unit, process.answers[place])
@@ -70,7 +70,7 @@ class Orders:
         if word == "recorded":
             self.recorded[unit] = int(place)
         else:
-            differ(unit not in self.unsure or answer not in ORDERED_BEFORE, f"{self.code} answered {answer} to the order of unit {unit}")
+            differ(unit not in self.unsure or answer not in ORDERED_BEFORE, f"{self.code} wrote {answer} for the order of unit {unit}")
             self.known.add(unit)
 
 
@@ -89,7 +89,7 @@ class Trial:
         self.terminated = self.restarts = 0
 
     def release(self, count):
-        """Orders that many further transfers, at the registries that run."""
+        """Orders up to `count` further transfers, at the registries that run."""
         for _ in range(min(count, len(self.released))):
             first, _, number = self.released.popleft()
             self.orders[first].pending.append(number)
@@ -100,13 +100,14 @@ class Trial:
                 orders.collect(process)
 
     def is_ordered(self):
-        """Whether each transfer is recorded at its registry, after those that wait were ordered."""
+        """Orders all transfers that wait. Returns whether each transfer is recorded at its registry."""
         self.release(len(self.released))
         self.group.check()
         return sum(it.count() for it in self.orders.values()) == self.transfers
 
     def end_some(self, most):
-        """Kills some nodes, one in most cases, and starts them again after a while. How many."""
+        """Kills some nodes, one in most cases, and starts them again after a while. Returns the number of those killed
+        by SIGKILL."""
         count = min(most, self.chance.choice((1, 1, 1, 1, 2, 3)), len(self.group.nodes))
         by = signal.SIGTERM if self.chance.random() < 0.1 else signal.SIGKILL
         chosen = self.chance.sample(self.group.nodes, count)
@@ -123,7 +124,7 @@ class Trial:
         return count if by == signal.SIGKILL else 0
 
     def kill_often(self, kills):
-        """Orders transfers bit by bit and kills nodes at random moments meanwhile, that many in all."""
+        """Orders transfers bit by bit, and meanwhile kills nodes at random moments, `kills` times in all."""
         killed, cuts, step = 0, 0, math.ceil(self.transfers / max(1, kills))
         while killed < kills:
             more = self.end_some(kills - killed)
@@ -136,13 +137,13 @@ class Trial:
                 self.check_cut()
 
     def is_at_rest(self):
-        """Whether each transfer is Completed at its initiator and its acquirer, by what these answer."""
+        """Returns whether each transfer is Completed according to its initiator and its acquirer."""
         self.group.check()
         for node, names in self.waiting.items():
             some, process = names[:MOST_ASKED], self.group.running[node]
             answers = dict(zip(some, process.ask([f"status {it}" for it in some])))
             odd = {it for it in answers.values() if it not in UNDER_WAY and it != "status Completed"}
-            differ(odd, f"{node} answered {sorted(odd)[:1]} of a transfer that nobody rejected")
+            differ(odd, f"{node} wrote {sorted(odd)[:1]} for a transfer that no node rejected")
             self.waiting[node] = [it for it in names if answers.get(it) != "status Completed"]
         return not any(self.waiting.values())
 
@@ -159,25 +160,26 @@ class Trial:
             time.sleep(0.2)
 
     def export(self):
-        """Has each node export its records, and returns the folder and how many each exported."""
+        """Exports the records of each node, and returns the folder and the number of records of each export."""
         folder, counts = self.group.room / "exports", {}
         shutil.rmtree(folder, ignore_errors=True)
         folder.mkdir()
         for node, process in self.group.running.items():
             answer, = process.ask([f"export {folder / node}.db"])
-            differ(not answer.startswith("exported "), f"{node} answered {answer} to export")
+            differ(not answer.startswith("exported "), f"{node} wrote {answer} for export")
             counts[node] = int(answer.split(" ")[1])
         return folder, counts
 
     def check_cut(self):
-        """Exports of no one moment have a table with each tonne once, as far as one run explains them."""
+        """Checks that exports of different moments have a table with each tonne once, as far as one run leads to their
+        records."""
         folder, _ = self.export()
         table = do("audit", "--cut", self.group.gathered.scheme, folder, wanted=(0, 1)).stdout
         differ(wrong := wrong_table(self.group.text, table.splitlines()), f"audit --cut of exports writes a table that has {wrong}")
 
 
 def rows_of(stores):
-    """The texts of the records of each node's store, by their places, where the nodes' folders are given."""
+    """Returns the texts of the records of each node's store by their places."""
     found = {}
     for node, folder in stores.items():
         path = folder / f"{node}.db"
@@ -187,13 +189,13 @@ def rows_of(stores):
 
 
 def received(rows):
-    """The messages that the nodes recorded, each as one text for all lines that write it."""
+    """Returns the messages that the nodes recorded, each as a text that is the same for equal messages."""
     inputs = (json.loads(body) for places in rows.values() for body in places.values())
     return [same_text(json.dumps(it["message"])) for it in inputs if it["input"] == "received"]
 
 
 def check_orders(trial, rows):
-    """Each order that was answered as recorded is in the journal at that place."""
+    """Checks that each recorded order is in the journal at the place of its result."""
     for code, orders in trial.orders.items():
         for unit, place in orders.recorded.items():
             body = json.loads(rows[code].get(place, "{}"))
@@ -202,7 +204,8 @@ def check_orders(trial, rows):
 
 
 def check_messages(relay, rows):
-    """No message was recorded that the relay made, and none that no node sent. How many the relay made."""
+    """Checks that each recorded message was sent by a node, and none was made by the relay. Returns the number of
+    messages that the relay made."""
     texts, made = received(rows), relay.forged - relay.genuine
     differ(found := [it for it in texts if it in made], f"a node recorded a message that the relay made: {found[:1]}")
     differ(found := [it for it in texts if it not in relay.genuine], f"a node recorded a message that no node sent: {found[:1]}")
@@ -212,21 +215,21 @@ def check_messages(relay, rows):
 
 
 def check_table(trial, table):
-    """Nothing is owed, each tonne is there once, and each transfer is Completed at its three nodes."""
+    """Checks that nothing is owed, each tonne is there once, and each transfer is Completed at its three nodes."""
     lines = table.splitlines()
     differ(wrong := wrong_table(trial.group.text, lines), f"the table has {wrong}")
     differ("owed 0" not in lines, "units are owed at rest")
     found = transactions(table)
-    differ(len(found) != trial.transfers, f"the table has {len(found)} transactions in place of {trial.transfers}")
+    differ(len(found) != trial.transfers, f"the table has {len(found)} transactions instead of {trial.transfers}")
     differ(odd := [it for it in found if not is_completed(it)], f"a transfer isn't Completed: {odd[:1]}")
 
 
-def check_stores(trial, told, exports, exported):
-    """The stores after the end of all nodes, as one run explains them. How many events it has, and how many messages the
-    relay made."""
+def check_stores(trial, recorded, exports, exported):
+    """Checks the stores after the end of all nodes. Returns the number of events of the run that leads to them, and the
+    number of messages that the relay made."""
     group, rows = trial.group, rows_of(trial.group.stores)
     for node, places in rows.items():
-        differ(told[node] != len(places), f"{node} told of {told[node]} records, and its store has {len(places)}")
+        differ(recorded[node] != len(places), f"{node} printed {recorded[node]} records, and its store has {len(places)}")
     check_orders(trial, rows)
     made = check_messages(group.relay, rows) if group.relay else 0
     folder = group.gather()
@@ -234,13 +237,13 @@ def check_stores(trial, told, exports, exported):
     check_table(trial, table)
     differ(do("audit", folder.scheme, exports).stdout != table, "audit of the exports writes another table")
     for node, places in rows_of(dict.fromkeys(group.nodes, exports)).items():
-        differ(len(places) != exported[node], f"{node} told of {exported[node]} exported records, and there are {len(places)}")
+        differ(len(places) != exported[node], f"{node} printed {exported[node]} exported records, and there are {len(places)}")
         differ(not places.items() <= rows[node].items(), f"{node} exported other records than its store has")
     return events, made
 
 
 def try_transfers(way, registries, room, given):
-    """Transfers on that way with kills meanwhile, and what came of them, as a text."""
+    """Tries transfers by that way with kills, and returns the result as a text."""
     units = math.ceil(given.transfers / registries)
     with group_of(room, registries, units, given.seed, **WAYS[way]) as group:
         trial, begin = Trial(group, given.transfers), time.monotonic()
@@ -251,20 +254,20 @@ def try_transfers(way, registries, room, given):
         trial.come_to_rest(given.patience)
         rest = time.monotonic() - begin
         exports, exported = trial.export()
-        told = group.stop_all()
+        recorded = group.stop_all()
         counts = group.relay.stop() if group.relay else {}
         group.check()
-        events, made = check_stores(trial, told, exports, exported)
+        events, made = check_stores(trial, recorded, exports, exported)
         unsure = sum(len(it.unsure) for it in trial.orders.values())
         text = f"all orders after {ordered:.1f} s, at rest after {rest:.1f} s, {given.kills} kills and {trial.terminated} by SIGTERM, "
-        text += f"{unsure} orders given again, {trial.restarts} restarts of all, {sum(told.values())} records, {events} events"
+        text += f"{unsure} orders given again, {trial.restarts} restarts of all, {sum(recorded.values())} records, {events} events"
         if made:
             text += f", {made} messages made by the relay, none of them recorded"
         return f"{text}; the relay: {json.dumps(counts)}" if counts else text
 
 
 def try_plain(registries, room, given):
-    """The same transfers without a kill by processes and by one `run`, and how the times compare."""
+    """Tries the same transfers without a kill, by processes and by one `run`, and returns their times as a text."""
     units = math.ceil(given.transfers / registries)
     with group_of(room, registries, units, given.seed, **WAYS["plain"]) as group:
         trial, begin = Trial(group, given.transfers), time.monotonic()

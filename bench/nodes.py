@@ -1,22 +1,29 @@
 #!/usr/bin/env python3
-"""Nodes that run in a process each: killed, over a hostile network, beside strangers, and while a peer is down.
+"""Runs nodes in a process each: killed, over a hostile network, with strangers, and while a peer is down.
+
+    nodes.py [--processes N,N] [--transfers N] [--kills N] [--strangers N] [--down SECONDS]
+             [--patience SECONDS] [--only NAME] [--room DIR] [--keep] [--seed N]
 
 `kyoto-link node` is started for the log and for 2 and 32 registries over the loopback interface. These parts are tried:
 
-answers: what a registry and the log, each alone, answer to each kind of line.
-plain: transfers without a kill, and how long they take beside one `kyoto-link run` with a script of the same transfers.
-direct: the same transfers, ordered bit by bit, while nodes are killed at random moments and started again. All share a folder.
-lossy: the same with a relay on each link that drops, delays, doubles, repeats and cuts messages; links without keys. Here and in
-the next part each node has a folder of its own.
-hostile: the same with keys, and a relay that alters messages and replies, and makes some of its own.
-strangers, strangers-with-keys: garbage, wrong messages and empty connections reach an idle node, whose memory must not grow.
-idle: transfers beside a thousand idle connections and some slow ones to each node.
-downtime: how often a registry tries to reach a log that is down, and whether its transfers go on once that is back.
+- answers: a registry and the log, each alone, must write the expected result for each kind of line.
+- plain: transfers without a kill, whose time is compared with that of one `kyoto-link run` of the same transfers.
+- direct: the same transfers, ordered bit by bit, while nodes are killed at random moments and started again. All share
+  a folder.
+- lossy: the same with a relay on each link, which drops, delays, doubles, repeats and cuts messages; links without
+  keys. Here and in the next part each node has a folder of its own.
+- hostile: the same with keys, and a relay that also alters messages and replies and makes some of its own.
+- strangers, strangers-with-keys: garbage, wrong messages and empty connections reach an idle node, which may grow by
+  less than 1 MB.
+- idle: transfers while each node has a thousand idle connections and some slow ones.
+- downtime: a registry may try only seldom to reach a log that is down; its transfers must go on once the log is back.
 
-After the parts plain to hostile each order that was answered as recorded must be in its journal, each transfer be Completed at its
-three nodes, and each tonne be in one place, by `audit` of all stores, by `rehearse` of their `events`, and by checker/. No message that
-the relay made may be among the records. Each process must end as it should. The first difference is written to standard error,
-and the exit status is 1 then.
+After plain, direct, lossy and hostile each transfer must be Completed at its three nodes, and each tonne must be in one
+place, by `audit` of all stores. After the last three of these parts the same must hold by `rehearse` of the `events` of
+the stores and by checker/, each order that was reported as recorded must be in its journal, and no message that the
+relay made may be in the records. Each process must end as it should.
+
+A line is printed for each part. At the first difference the script writes it to standard error and exits with status 1.
 """
 
 import argparse
@@ -40,7 +47,7 @@ OVER_WAYS = ("direct", "lossy", "hostile")
 
 
 def parts(given):
-    """The name of each part, how many processes it has, and what tries it in a folder."""
+    """Yields the name of each part, the number of its processes, and the function that tries it in a folder."""
     yield "answers", 1, lambda room: try_answers(room, given)
     for processes in given.processes:
         yield "plain", processes, lambda room, it=processes - 1: try_plain(it, room, given)
@@ -57,8 +64,8 @@ def numbers(text):
 
 
 def try_all(given, room):
-    """Tries the parts that are wanted, and prints a line for each."""
-    print(f"seed {given.seed}\n{'part':<20}{'processes':>9}{'seconds':>9}  what came of it", flush=True)
+    """Tries the chosen parts, and prints a line for each. Returns whether all passed."""
+    print(f"seed {given.seed}\n{'part':<20}{'processes':>9}{'seconds':>9}  result", flush=True)
     for number, (name, processes, attempt) in enumerate(parts(given)):
         if given.only and name not in given.only:
             continue
@@ -78,14 +85,14 @@ def try_all(given, room):
 
 def main():
     words = argparse.ArgumentParser(description=__doc__, formatter_class=argparse.RawDescriptionHelpFormatter)
-    words.add_argument("--processes", type=numbers, default=[3, 33], help="how many processes, the log's included, as 3,33")
-    words.add_argument("--transfers", type=int, default=1_000, help="how many transfers a part makes in all")
-    words.add_argument("--kills", type=int, default=200, help="how many nodes a part kills")
-    words.add_argument("--strangers", type=int, default=1_000_000, help="how many messages come of strangers")
-    words.add_argument("--down", type=float, default=90, help="how many seconds the log is down")
-    words.add_argument("--patience", type=float, default=600, help="how many seconds all transfers may take until they are at rest")
-    words.add_argument("--only", action="append", default=[], help="only the part of that name; may be given more than once")
-    words.add_argument("--room", default=None, help="a folder on the disk to use; a temporary one if left out")
+    words.add_argument("--processes", type=numbers, default=[3, 33], help="the numbers of processes, with the log's, as 3,33")
+    words.add_argument("--transfers", type=int, default=1_000, help="the number of transfers of a part")
+    words.add_argument("--kills", type=int, default=200, help="the number of nodes that a part kills")
+    words.add_argument("--strangers", type=int, default=1_000_000, help="the number of messages of strangers")
+    words.add_argument("--down", type=float, default=90, help="the seconds during which the log is down")
+    words.add_argument("--patience", type=float, default=600, help="the most seconds until all transfers are Completed")
+    words.add_argument("--only", action="append", default=[], help="try only the part of this name; can be given several times")
+    words.add_argument("--room", default=None, help="a folder on the disk to use; the default is a temporary one")
     words.add_argument("--keep", action="store_true", help="keep the folders")
     words.add_argument("--seed", type=int, default=random.randrange(1_000_000))
     given = words.parse_args()

@@ -1,4 +1,4 @@
-"""Stores as `docs/FORMATS.md` describes them, which benches write by SQLite's library, and the texts of their records."""
+"""Writes stores as docs/FORMATS.md describes them by SQLite's library, and makes the texts of their records."""
 
 import sqlite3
 
@@ -11,7 +11,7 @@ TABLES = (
 
 
 def record(keys):
-    """The text of a record with these keys of its input, which are JSON without braces."""
+    """Returns the text of a record with these keys of its input, which are JSON without braces."""
     return f'{{{keys},"v":{FORMAT}}}'
 
 

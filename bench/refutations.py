@@ -1,10 +1,12 @@
 #!/usr/bin/env python3
-"""Why rows of the protocol are as they are: wrong ones, each with a short list of events after which a law is broken.
+"""Shows why rows of the protocol are as they are: under each of four wrong rows, events break a law.
 
-Each wrong row is planted, alone, in a copy of the definitions, as `definitions.py` plants its changes, and the checker must then
-find that the events lead to a world of which the law, by its name and its words, is false. With the right row the same must
-fail. Printed is a line for each; the exit status is 1 where one isn't so. The libraries have to be built: `rt lib` in
-crates/protocol.
+    refutations.py
+
+Each wrong row is planted alone in a copy of the definitions, as `definitions.py` plants its changes. The checker must
+then accept a proof that the events lead to a world in which the law is false, and must refuse the proof with the right
+row. A line is printed for each wrong row. The exit status is 1 if one of these checks fails. The libraries must be
+built: `rt lib` in crates/protocol.
 """
 
 import dataclasses
@@ -30,7 +32,7 @@ from definitions import (
     put,
 )
 
-# Names that the refutations have in common.
+# The imports of all refutations.
 HEAD = """\
 use Rattle.std.proofs.Common.{◌≡◌, ℕ, true, List, [], ◌∷◌, ◌++◌, ◌⊎◌, inl, inr, refl, arith}
 use Rattle.std.specs.Prelude.{take}
@@ -45,13 +47,13 @@ use Rattle.protocol.specs.World.{step}
 use Rattle.protocol.proofs.WorkedScheme.{nz_node, nz1, unit, scheme_s, notification, first_of_may, a_day_after, clean_up, transfer, after}
 
 """
-# What each refutation proves.
+# The name of the equation that each refutation proves.
 BROKEN = "broken"
 
 
 @dataclasses.dataclass(frozen=True)
 class Refutation:
-    """A wrong row, what happens under it, and the proof that a law is false then."""
+    """A wrong row, the events under it, and the proof that a law is false after them."""
 
     change: Change
     story: str
@@ -64,11 +66,11 @@ def wrong(name, file, old, new, story, proof):
 
 REFUTATIONS = [
     wrong(
-        "a clean-up cancels what is Accepted",
+        "a clean-up cancels an Accepted transfer",
         ROWS,
         "log_row (Stands Checked) CleanUp = Move Cancelled",
         "log_row (Stands Checked) CleanUp = Move Cancelled\nlog_row (Stands Accepted) CleanUp = Move Cancelled",
-        "JP accepts and the log tells NZ, which completes; before the log hears of it, a clean-up cancels the transfer there",
+        "JP accepts, the log passes it on, and NZ completes; before Completed reaches the log, a clean-up cancels the transfer there",
         """\
 abbrev events : List WorldEvent
 events = take 13 transfer ++ clean_up a_day_after ∷ []
@@ -83,7 +85,7 @@ broken law = law nz1 nz_node Itl refl (inr (inr refl))
         HISTORY,
         "credits c s x = same_status x.new Completed &&",
         "credits c s x = same_status x.new Accepted &&",
-        "JP accepts, and has the units that NZ has as well until it hears of that",
+        "JP accepts and is credited with units that NZ still has until Accepted reaches it",
         """\
 pub broken : OnePlace scheme_s (live_of (after (take 8 transfer))) → ⊥
 unfolding step verdict
@@ -103,11 +105,11 @@ broken law = let other : ◌≡◌ {A = ℕ} 46 49 = law 5 first_of_may 46 refl 
 """,
     ),
     wrong(
-        "the log finds at will that the units have another owner",
+        "the log finds that the initiator's units have another owner",
         CHECKS,
         "is_of_another holder owner c = is_some holder && not (is_owner owner c)",
         "is_of_another holder owner c = is_some holder",
-        "NZ proposes its own units, and the log tells it Terminated for a cause that isn't eligibility",
+        "NZ proposes its own units, and the log sends it Terminated for a cause that isn't eligibility",
         """\
 neither : (◌≡◌ {A = ℕ} 204 207 ⊎ ◌≡◌ {A = ℕ} 204 208) → ⊥
 neither (inl e) = omega (arith, e)
@@ -127,7 +129,7 @@ broken law = neither (law told found 204 (0, omega arith, refl) refl (0, omega a
 
 
 def refuted(refutation, folder, words, is_wrong):
-    """The equations that fail of the refutation's proof, under its wrong row or under the right one."""
+    """Returns the equations of the refutation's proof that fail, under its wrong row or under the right one."""
     put(definitions(), folder / "specs")
     if is_wrong:
         plant(refutation.change, folder / "specs")

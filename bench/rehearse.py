@@ -1,12 +1,16 @@
 #!/usr/bin/env python3
-"""How long `kyoto-link rehearse` takes over long inputs, and how much memory.
+"""Measures the time and the memory of `kyoto-link rehearse` over long inputs.
 
-Five loads, each in three sizes: commits of no record, orders alone, whole transfers between 2 and between 32 registries, and
-whole transfers after which each message is delivered a second time. The largest inputs are nearly as long as an input may be.
-Printed are the best times in seconds with the ratio of each doubling, the greatest peak of memory as a multiple of the input's
-bytes, and, for the largest size, the time as a multiple of a peer's: of orders, that of a C++ program with ordered maps which
-writes the same (bench/orders.cpp), and of all else what Python takes to split the same input into words and count them in a
-dictionary. The exit status is 1 where a limit is passed.
+    rehearse.py [--runs N] [--load TEXT]
+
+There are five loads, each in three sizes: commits of no record, orders, whole transfers between 2 and between 32
+registries, and whole transfers after which each message is delivered a second time. The largest inputs are nearly as
+long as an input may be. A line for each size has the best time in seconds, its ratio to that of the previous size, and
+the greatest peak of memory as a multiple of the input's bytes. For the largest size, the line also has the time as a
+multiple of a peer's. The peer for orders is a C++ program with ordered maps that writes the same (bench/orders.cpp);
+for the other loads it is Python, which splits the same input into words and counts them in a dictionary.
+
+The exit status is 1 if a limit is exceeded, if an output is wrong, or if a program fails.
 """
 
 import argparse
@@ -41,7 +45,7 @@ COUNT_WORDS = "\n".join([
 
 
 def scheme(codes, units):
-    """A scheme of registries with account 1, each with that many units of its own."""
+    """Returns a scheme of registries with account 1, each with that many units of its own."""
     registries = [{
         "accounts": [1],
         "allotted": [{"account": 1, "units": [f"{code}:1:1-{units}:AAU"]}],
@@ -69,7 +73,8 @@ def orders(count):
 
 
 def transfers(codes, count):
-    """Each registry in turn gives a unit to the next one, and each message goes its way at once."""
+    """Yields the lines of transfers of a unit each, from each registry in turn to the next one. Each message is
+    delivered at once."""
     yield scheme(codes, count)
     sent = {node: 0 for node in [*codes, "ITL"]}
     posted = 0
@@ -97,9 +102,9 @@ def delivered_twice(count):
         yield f"deliver {index} {MOMENT}"
 
 
-# The load that the program in C++ reads too.
+# The load that the program in C++ also reads.
 ORDERS_ALONE = "orders"
-# The name of a load, its lines for a size, and the largest size, of which a half and a quarter are run too.
+# The name of a load, its lines for a size, and the largest size. A half and a quarter of it are the other sizes.
 LOADS = [
     ("commits of no record", commits, 1_200_000),
     (ORDERS_ALONE, orders, 360_000),
@@ -111,12 +116,12 @@ LOADS = [
 
 @functools.cache
 def program():
-    """The path of the program that the launcher runs. It is proved and built first, where that must be."""
+    """Returns the path of the program that the launcher runs. The launcher proves and builds it first if necessary."""
     return run_to_end([LAUNCHER, "path"], stdout=subprocess.PIPE, text=True).stdout.strip()
 
 
 def run(words, given, taken):
-    """The seconds that the words take, and their greatest peak of memory in bytes."""
+    """Returns the seconds of a command, and its greatest peak of memory in bytes."""
     with given.open("rb") as reader, taken.open("wb") as writer:
         start = time.perf_counter()
         process = subprocess.Popen(words, stdin=reader, stdout=writer)
@@ -128,8 +133,8 @@ def run(words, given, taken):
 
 
 def write_lines(path, lines):
-    """Writes the lines one by one, so that this process stays small: what a process peaked at before it became another program
-    counts for that one too."""
+    """Writes the lines one by one, and returns their number. Thus this process stays small: the peak of a process
+    before it executes another program counts for that program too."""
     count = 0
     with path.open("w", encoding="utf-8") as output:
         for line in lines:
@@ -139,7 +144,7 @@ def write_lines(path, lines):
 
 
 def check_output(path, name, events):
-    """Each event has its line and isn't refused, and the last line is the report's."""
+    """Exits with status 1 unless each event has its line and isn't refused, and the last line is that of the report."""
     with path.open(encoding="utf-8") as output:
         for number in range(1, events + 1):
             line = output.readline()
@@ -150,7 +155,8 @@ def check_output(path, name, events):
 
 
 def inputs_of(name, lines_of, largest, room):
-    """The three sizes of a load, each with the file of its input, which is run once for a look at its output."""
+    """Returns the three sizes of a load, each with the file of its input, after one run of each whose output is
+    checked."""
     inputs, taken = [], room / "output"
     for size in (largest // 4, largest // 2, largest):
         given = room / f"input-{size}"
@@ -166,7 +172,7 @@ def inputs_of(name, lines_of, largest, room):
 
 @functools.cache
 def orders_in_cpp(room):
-    """The path of the program in C++, once it is built."""
+    """Builds the program in C++ at the first call, and returns its path."""
     need("g++", f"builds {ORDERS.name}")
     built = room / "orders"
     run_to_end(["g++", "-O2", "-std=c++17", "-Wall", "-Wextra", "-o", built, ORDERS])
@@ -174,7 +180,7 @@ def orders_in_cpp(room):
 
 
 def peer_of(name, given, taken, runs, room):
-    """The best time of the load's peer, its name, and how many times as long `rehearse` may take."""
+    """Returns the best time of the load's peer, its name, and the limit of `rehearse` as a multiple of that time."""
     if name != ORDERS_ALONE:
         return min(run([sys.executable, "-c", COUNT_WORDS], given, taken)[0] for _ in range(runs)), "Python", MOST_TIMES_PYTHON
     run([program(), "rehearse"], given, taken)
@@ -183,13 +189,13 @@ def peer_of(name, given, taken, runs, room):
     for _ in range(runs):
         times.append(run([orders_in_cpp(room)], given, taken)[0])
         if taken.read_bytes() != written:
-            sys.exit(f"{name}: the program in C++ writes something else")
+            sys.exit(f"{name}: the program in C++ writes another output")
     return min(times), "C++", MOST_TIMES_CPP
 
 
 def measure(name, lines_of, largest, runs, room):
-    """Prints a line for each size of a load, and returns whether it keeps the limits. The sizes take turns, so that a slow moment
-    of the machine doesn't fall on one of them alone."""
+    """Prints a line for each size of a load, and returns whether it is within the limits. The sizes run in turn, so
+    that a slow moment of the machine affects all of them."""
     kept, before, taken = True, None, room / "output"
     inputs = inputs_of(name, lines_of, largest, room)
     measured = [[run([program(), "rehearse"], given, taken) for _, given in inputs] for _ in range(runs)]
@@ -214,8 +220,8 @@ def measure(name, lines_of, largest, runs, room):
 
 def main():
     parser = argparse.ArgumentParser(description=__doc__.splitlines()[0])
-    parser.add_argument("--runs", type=int, default=5, help="runs of each; the best one counts")
-    parser.add_argument("--load", help="only loads whose name has this text")
+    parser.add_argument("--runs", type=int, default=5, help="the number of runs of each input; the best time counts")
+    parser.add_argument("--load", help="run only loads with this text in their names")
     words = parser.parse_args()
     program()
     kept = True
@@ -224,7 +230,7 @@ def main():
             if words.load is None or words.load in name:
                 kept = measure(name, lines_of, largest, max(1, words.runs), pathlib.Path(folder)) and kept
     print(f"limits: ratio {MOST_RATIO}, memory {MOST_TIMES_BYTES:.0f} times the input, {MOST_TIMES_CPP:.0f} times C++ of orders, "
-          f"and else {MOST_TIMES_PYTHON:.0f} times Python")
+          f"otherwise {MOST_TIMES_PYTHON:.0f} times Python")
     sys.exit(0 if kept else 1)
 
 

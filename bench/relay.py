@@ -1,18 +1,21 @@
 #!/usr/bin/env python3
-"""A relay that stands on the links between nodes, and does to their messages what a hostile network can.
+"""Relays messages between nodes, and disturbs them as a hostile network can.
 
-For each direction of a link it listens at an address of its own and knows the address of the node behind it. A message that comes is
-passed on as it is, later or twice, or dropped before or after it was delivered, or cut in the middle. Older lines of that link are
-delivered again, and so are lines of the other direction, which come back to their author, and lines of other links. That is the mode
-`lossy`, which nodes without keys bear. In the mode `hostile` a byte of a message, of its tag or of its reply is altered, replies are
-forged or replaced by old ones for messages that go nowhere, and messages are made that no node wrote, without a tag, with a made-up one
-and with that of another message.
+    relay.py [--mode lossy|hostile] [--seed N] [--forged FILE] FROM:TO:IP:PORT:TARGET_IP:TARGET_PORT ..
 
-The relay has no key. It keeps the texts of all messages that nodes sent through it and of those that it made itself, so that a bench can
-look for them among the records. A message that it made is about a transaction that was never proposed, or says of a real one what no node
-says where nobody rejects, cancels or asks to cancel.
+For each direction of a link the relay listens at an address of its own and knows the address of the node behind it. It
+passes each message on, at once, later or twice, or drops it before or after its delivery, or cuts it in the middle. It
+delivers older lines of that link again, lines of the other direction, which come back to their author, and lines of
+other links. This is the mode `lossy`, which nodes without keys withstand. In the mode `hostile` it also alters a byte
+of a message, of its tag or of its reply; drops messages and forges their replies or replaces them by old ones; and
+makes messages that no node wrote, without a tag, with a made-up one or with that of another message.
 
-As a program it ends at the end of standard input or with SIGTERM, and writes how often it did what as JSON.
+The relay has no key. It keeps the texts of all messages that nodes sent through it and of those that it made, so that a
+bench can look for them in the records. A message that it made either is about a transaction that was never proposed, or
+is one that no node sends about a real transaction if no node rejects, cancels or asks to cancel.
+
+As a program it ends at the end of standard input or with SIGTERM, and prints as JSON the number of each action and its
+own faults. The exit status is 1 if it had a fault.
 """
 
 import argparse
@@ -27,21 +30,21 @@ import re
 import signal
 import threading
 
-# Bytes of the longest line that is passed on; seconds to wait for a line, and for a reply.
+# The bytes of the longest line that is passed on; the seconds to wait for a line, and for a reply.
 LONGEST_LINE, LINE_WAIT, REPLY_WAIT = 32_768, 15, 5
-# Seconds until the relay's own thread has begun or ended.
+# The most seconds until the relay's own thread has begun or ended.
 OWN_WAIT = 30
-# How many of the last lines and replies of each direction are kept to be delivered again.
+# The number of last lines and replies of each direction that are kept for another delivery.
 KEPT = 2_000
-# Seconds until an older line is delivered again at the latest, and of a delay at most. One delay in `GIVEN_UP_ONE_IN` is longer than
-# the sender waits.
+# The most seconds until an older line is delivered again, and of a delay. One delay in `GIVEN_UP_ONE_IN` is longer than the
+# sender waits.
 LATEST_REPLAY, LONGEST_DELAY = 3.0, 0.1
 GIVEN_UP_ONE_IN, GIVEN_UP = 40, (2.2, 3.5)
-# Transactions that no registry proposes have numbers from here on.
+# The first number of transactions that no registry proposes.
 NEVER_PROPOSED = 900_000
 TAG = re.compile(rb"[0-9a-f]{64} ")
 RECEIVED = b'{"code":0,"result":"received"}\n'
-# How often each is done, of as many messages as these are together.
+# The weight of each action.
 LOSSY = {"forward": 60, "drop_before": 4, "drop_after": 7, "delay": 6, "duplicate": 7, "replay": 7, "reflect": 3, "cross": 3, "cut": 3}
 HOSTILE = {**LOSSY, "alter_text": 5, "alter_tag": 3, "forge": 8, "forge_reply": 4, "old_reply": 3, "alter_reply": 3}
 MODES = {"lossy": LOSSY, "hostile": HOSTILE}
@@ -49,7 +52,7 @@ MODES = {"lossy": LOSSY, "hostile": HOSTILE}
 
 @dataclasses.dataclass(frozen=True)
 class Link:
-    """One direction of a link: who sends to whom, where the relay listens for it, and where the receiver listens."""
+    """One direction of a link: its sender and receiver, the address of the relay for it, and that of the receiver."""
     sender: str
     receiver: str
     listen: tuple
@@ -61,14 +64,15 @@ class Link:
 
 
 def split_tag(line):
-    """The tag of a line with its space, or nothing, and the text behind it, without the newline."""
+    """Returns the tag of a line with its space, or nothing, and the text after it, without the newline."""
     found = TAG.match(line)
     at = found.end() if found else 0
     return line[:at], line[at:].rstrip(b"\n")
 
 
 def same_text(text):
-    """One text for all lines that write the same message: compact, keys in byte order. `None` where it is no JSON object."""
+    """Returns the compact text with sorted keys, which is the same for all lines of one message, or None if the text
+    isn't a JSON object."""
     try:
         message = json.loads(text)
     except (ValueError, RecursionError):
@@ -77,14 +81,15 @@ def same_text(text):
 
 
 class Relay:
-    """The links, what was seen on them, and what was done to it. It runs in a thread of its own from `start` to `stop`."""
+    """The links, the lines and replies on them, and the relay's own faults. It runs in a thread of its own from `start`
+    to `stop`."""
 
     def __init__(self, links, mode, seed=None):
         self.links, self.actions, self.chance = list(links), MODES[mode], random.Random(seed)
         self.targets = {link.receiver: link.target for link in self.links}
         self.registries = sorted({link.sender for link in self.links} - {"ITL"})
         self.counts = collections.Counter()
-        # The texts that nodes sent, those that the relay made, and what it didn't expect of itself.
+        # The texts that nodes sent, those that the relay made, and the relay's own faults.
         self.genuine, self.forged, self.faults = set(), set(), []
         self.lines = {link.ends: collections.deque(maxlen=KEPT) for link in self.links}
         self.replies = {link.ends: collections.deque(maxlen=KEPT) for link in self.links}
@@ -93,7 +98,7 @@ class Relay:
         self.thread = threading.Thread(target=self.work, daemon=True)
         self.ready, self.over = threading.Event(), None
 
-    # What is done to a message. Each returns the line that goes back to the sender, or nothing, and then the connection is closed.
+    # The actions on a message. Each returns the line that goes back to the sender, or None to close the connection.
 
     async def forward(self, link, line):
         reply = await self.exchange(link.target, line)
@@ -168,10 +173,10 @@ class Relay:
         reply = await self.forward(link, line)
         return reply and self.altered(reply[:-1]) + b"\n"
 
-    # What these are made of.
+    # Parts of the actions.
 
     def altered(self, some):
-        """The bytes with one of them changed, into no newline."""
+        """Returns the bytes with one of them changed, but not into a newline."""
         at = self.chance.randrange(len(some))
         byte = self.chance.choice([it for it in range(32, 127) if it != some[at]])
         return some[:at] + bytes([byte]) + some[at + 1:]
@@ -180,7 +185,7 @@ class Relay:
         return self.chance.randbytes(32).hex().encode() + b" "
 
     def made_message(self, link):
-        """A message that no node writes, which the receiver would take from its peer or from another node."""
+        """Returns a message that no node writes, from the receiver's peer or from another node."""
         other = self.chance.choice(self.registries)
         sender = link.sender if self.chance.random() < 0.75 else other
         never = f"{self.chance.choice(self.registries)}{self.chance.randrange(NEVER_PROPOSED, 1_000_000)}"
@@ -200,7 +205,7 @@ class Relay:
         return {**made, "call": "AcceptNotification", "codes": codes, "status": kind, "transaction": transaction}
 
     async def attempt(self, target, line, what):
-        """Delivers a line that no node wrote. A reply that it was received is counted."""
+        """Delivers a line that no node wrote, and counts a reply that it was received."""
         reply = await self.exchange(target, line)
         self.counts[f"{what}_received"] += bool(reply) and b'"received"' in reply
         return reply
@@ -219,7 +224,7 @@ class Relay:
                 await asyncio.sleep(seconds)
 
     async def exchange(self, target, line):
-        """The line that replies to this one over a connection of its own, or `None`."""
+        """Sends a line over a connection of its own, and returns the reply, or None."""
         with contextlib.suppress(OSError, ValueError, asyncio.IncompleteReadError, asyncio.TimeoutError):
             reader, writer = await asyncio.open_connection(*target, limit=LONGEST_LINE)
             with contextlib.closing(writer):
@@ -229,10 +234,10 @@ class Relay:
         self.counts["no_reply"] += 1
         return None
 
-    # How the relay serves its links.
+    # The service of the links.
 
     def learn(self, link, line):
-        """Keeps what a node sent. A line of another form is counted."""
+        """Keeps a line that a node sent. A line of another form is counted."""
         self.lines[link.ends].append(line)
         text = same_text(split_tag(line)[1])
         if text is None:
@@ -244,7 +249,7 @@ class Relay:
                 self.transactions.append(message["transaction"])
 
     async def serve(self, link, reader, writer):
-        """Takes the lines of a connection, and does to each what falls to it."""
+        """Reads the lines of a connection, and chooses an action for each."""
         try:
             with contextlib.closing(writer), contextlib.suppress(OSError, ValueError, asyncio.IncompleteReadError, asyncio.TimeoutError):
                 while True:
@@ -259,11 +264,11 @@ class Relay:
                     await writer.drain()
         except asyncio.CancelledError:  # the relay is being stopped
             return
-        except Exception as fault:  # a fault of the relay's own, which the bench tells of
+        except Exception as fault:  # a fault of the relay's own, which the bench reports
             self.faults.append(repr(fault))
 
     def spawn(self, work):
-        """Does the work beside all else."""
+        """Starts the work as a task beside the others."""
         task = self.loop.create_task(work)
         self.later.add(task)
         task.add_done_callback(self.forget)
@@ -274,7 +279,7 @@ class Relay:
             self.faults.append(repr(task.exception()))
 
     async def run(self):
-        """Serves all links until it is over."""
+        """Serves all links until the relay is stopped."""
         self.over = asyncio.Event()
         servers = []
         try:
@@ -304,7 +309,7 @@ class Relay:
             self.faults.append("the relay didn't begin")
 
     def stop(self):
-        """Ends all connections, and returns how often it did what."""
+        """Ends all connections, and returns the number of each action."""
         with contextlib.suppress(RuntimeError):  # the loop may have ended with a fault
             self.loop.call_soon_threadsafe(self.over.set)
         self.thread.join(OWN_WAIT)
@@ -314,7 +319,7 @@ class Relay:
 
 
 def link_of(text):
-    """The link that a word of the command line names."""
+    """Returns the link that a word of the command line names."""
     sender, receiver, host, port, target_host, target_port = text.split(":")
     return Link(sender, receiver, (host, int(port)), (target_host, int(target_port)))
 
@@ -324,7 +329,7 @@ def main():
     words.add_argument("links", type=link_of, nargs="+", metavar="FROM:TO:IP:PORT:TARGET_IP:TARGET_PORT", help="a direction of a link")
     words.add_argument("--mode", choices=MODES, default="lossy")
     words.add_argument("--seed", type=int, default=None)
-    words.add_argument("--forged", type=pathlib.Path, default=None, help="a file for the messages that the relay made, one a line")
+    words.add_argument("--forged", type=pathlib.Path, default=None, help="a file for the messages that the relay made, one on each line")
     given = words.parse_args()
     relay, over = Relay(given.links, given.mode, given.seed), threading.Event()
     signal.signal(signal.SIGTERM, lambda *_: over.set())

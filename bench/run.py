@@ -1,15 +1,20 @@
 #!/usr/bin/env python3
-"""How many transfers a second `kyoto-link run` makes, beside a C program with the same exchanges, and beside PostgreSQL.
+"""Measures the transfers a second of `kyoto-link run`, and compares them with a C program and with PostgreSQL.
 
-Transfers of one unit each among 2, 8 and 31 registries, on a disk as it is and where each sync takes 0.1 and 1 milliseconds
-more (bench/slow_sync.c): one after another, each Completed at the acquiring registry before the next one is proposed, and
-together, all proposed and then awaited. The C program (bench/transfers.c) sends the same messages over as many connections
-between as many threads, and commits the same records by SQLite's library; both run in turn, and the best times count. Of
-kyoto-link's the time of a run without transfers is taken off. Transfers one after another run with a script that asks every
-20 microseconds, so that its own waiting counts little. Printed are the rates, their ratio, and the processor time of a
-transfer as a multiple of C's; how PostgreSQL does that moves one row each from a database to another one by PREPARE
-TRANSACTION in both; the system calls of a transfer; what commits take of its processor time; and the memory of a run with 32
-registries. The exit status is 1 where a limit is passed.
+    run.py [--alone N] [--together N] [--registries N ..] [--syncs MICROSECONDS ..] [--tries N] [--room DIR]
+
+Transfers of one unit each are made among 2, 8 and 31 registries, on a disk as it is and with 0.1 and 1 milliseconds
+more for each sync (bench/slow_sync.c): one after another, each Completed at the acquiring registry before the next one
+is proposed, and together, all proposed and then awaited. The C program (bench/transfers.c) sends the same messages over
+the same number of connections between the same number of threads, and commits the same records by SQLite's library.
+Both run in turn, and the best times count. The time of a run without transfers is subtracted from the times of
+kyoto-link. Transfers one after another run with a script that asks every 20 microseconds, so that its own waiting
+counts little.
+
+Printed are the rates, their ratio, and the processor time of a transfer, with those of the C program; the rate of
+PostgreSQL, if it is installed, which moves one row a time between two databases by PREPARE TRANSACTION in both; the
+system calls of a transfer; the part of its processor time that commits take; and the memory of a run with 32
+registries. The exit status is 1 if a limit is exceeded or a program fails.
 """
 
 import argparse
@@ -32,24 +37,24 @@ from rehearse import codes_of, program, scheme
 
 BENCH = pathlib.Path(__file__).resolve().parent
 TURNS = 600_000
-# Microseconds that a script sleeps between its questions where transfers go one after another.
+# The microseconds that a script sleeps between its questions if transfers go one after another.
 NAP = 20
 LEAST_ALONE = {0: 0.6, 100: 0.6, 1_000: 0.95}
 LEAST_TOGETHER = 0.7
-# From that many microseconds of a sync on, transfers one after another are faster than PostgreSQL's.
+# The microseconds of a sync from which on transfers one after another must be faster than PostgreSQL's.
 AHEAD_FROM = 100
 MOST_TIMES_TWO = 1.3
 MOST_MEGABYTES = 150
 POSTGRES = sorted(pathlib.Path("/usr/lib/postgresql").glob("*/bin"))
-# How many commits of one record show what a commit takes.
+# The number of commits of one record by which the time of a commit is measured.
 COMMITS = 4_000
 TRACED = "futex,connect,accept4,sendto,recvfrom,write,fdatasync,fsync,clock_nanosleep"
 
 
 @dataclasses.dataclass
 class Ended:
-    """What a program printed, how long it took, its processor time, that of the kernel in it, and the most memory that it had
-    in megabytes."""
+    """A program's output, its seconds, its processor time and the kernel's part of it, and its peak of memory in
+    megabytes."""
     said: str
     seconds: float
     busy: float
@@ -58,21 +63,21 @@ class Ended:
 
 
 def timed(words, env=None):
-    """A program that ends with status 0."""
-    with tempfile.TemporaryFile("w+") as said, tempfile.TemporaryFile("w+") as told:
+    """Runs a program, which must end with status 0."""
+    with tempfile.TemporaryFile("w+") as said, tempfile.TemporaryFile("w+") as errors:
         begin = time.monotonic()
-        started = subprocess.Popen([str(it) for it in words], stdout=said, stderr=told, env={**os.environ, **(env or {})})
+        started = subprocess.Popen([str(it) for it in words], stdout=said, stderr=errors, env={**os.environ, **(env or {})})
         _, status, used = os.wait4(started.pid, 0)
         seconds = time.monotonic() - begin
         started.returncode = os.waitstatus_to_exitcode(status)
         said.seek(0)
-        told.seek(0)
-        check_end(words, started.returncode, said=told.read())
+        errors.seek(0)
+        check_end(words, started.returncode, said=errors.read())
         return Ended(said.read(), seconds, used.ru_utime + used.ru_stime, used.ru_stime, used.ru_maxrss / 1024)
 
 
 def parties(registries, count):
-    """The sender and the receiver of each transfer, and the sender's number of it, from 1 on."""
+    """Returns the sender and the receiver of each transfer, and its number at the sender, from 1 on."""
     codes = codes_of(registries)
     return [(codes[it % registries], codes[(it + 1) % registries], it // registries + 1) for it in range(count)]
 
@@ -101,7 +106,7 @@ class Bench:
         return {"LD_PRELOAD": str(self.slow), "SYNC_MICROSECONDS": str(sync), "NAP_MICROSECONDS": str(nap)}
 
     def play(self, registries, count, kind, env=None, before=()):
-        """A run of that many transfers with new stores."""
+        """Runs that many transfers with new stores."""
         folder = pathlib.Path(tempfile.mkdtemp(dir=self.room))
         (folder / "stores").mkdir()
         (folder / "scheme").write_text(scheme(codes_of(registries), max(count, 1)))
@@ -120,7 +125,8 @@ class Bench:
         return ended
 
     def compare(self, registries, count, kind, sync, tries):
-        """The rate, its ratio to C's, and the processor time of a transfer in milliseconds, beside C's, with the kernel's in it."""
+        """Prints a comparison with the C program. Returns the rate, its ratio to C's, and the seconds of processor time
+        of a transfer."""
         env = self.env(sync, 0 if kind == "together" else NAP)
         idle = min((self.play(registries, 0, kind, env) for _ in range(2)), key=lambda it: it.seconds)
         ours, theirs, commits = [], [], 0
@@ -131,7 +137,7 @@ class Bench:
             micros, commits = map(int, ended.said.split())
             theirs.append((micros / 1_000_000, ended.busy, ended.kernel))
         if min(ours)[0] <= 0:
-            sys.exit("a run without transfers takes longer than one with them: let it have more transfers")
+            sys.exit("a run without transfers takes longer than one with them: use more transfers")
         seconds, busy, kernel = map(min, zip(*ours))
         other, other_busy, other_kernel = map(min, zip(*theirs))
         print(f"{registries:3} registries, syncs of {sync / 1000} ms more, {kind}: {count / seconds:.0f} a second, C {count / other:.0f}; "
@@ -141,7 +147,8 @@ class Bench:
         return count / seconds, other / seconds, busy / count
 
     def calls(self, registries, count):
-        """The system calls of a transfer, of those that go together."""
+        """Prints the system calls of a transfer of those that go together. Returns the number of its syncs, one for
+        each commit."""
         trace = self.room / "trace"
         self.play(registries, count, "together", before=["strace", "-f", "-qq", "-c", "-e", f"trace={TRACED}", "-o", trace])
         found = {}
@@ -154,7 +161,8 @@ class Bench:
         return found["fdatasync"]
 
     def commit_cost(self, program, tries):
-        """The processor time of a commit of one record in milliseconds, by a program that appends records to a store."""
+        """Returns the processor time of a commit of one record in milliseconds, by a program that appends records to a
+        store."""
         spent = []
         for _ in range(tries):
             folder = pathlib.Path(tempfile.mkdtemp(dir=self.room))
@@ -163,27 +171,27 @@ class Bench:
         return min(spent) / COMMITS * 1000
 
     def share(self, registries, commits, busy, tries):
-        """What commits take of the processor time of a transfer, in milliseconds."""
+        """Prints the part of the processor time of a transfer, which is in milliseconds, that commits take."""
         ours, theirs = (self.commit_cost(it, tries) for it in ([building.PROGRAM, "store"], [self.room / "store"]))
         print(f"{registries:3} registries: a commit of one record takes {ours:.3f} ms of processor time, in C {theirs:.3f} ms; "
               f"{commits:.1f} commits take {commits * ours / busy:.2f} of the {busy:.2f} ms of a transfer", flush=True)
 
 
 class Session:
-    """A session of psql, which makes one statement after another, and ends with status 3 at the first that fails."""
+    """A session of psql, which executes one statement after another, and ends with status 3 at the first that fails."""
 
     def __init__(self, bin, room, database):
         words = [bin / "psql", "-h", room, "-U", "postgres", "-v", "ON_ERROR_STOP=1", "-qAt", "-d", database]
         self.psql = subprocess.Popen(words, stdin=subprocess.PIPE, stdout=subprocess.PIPE, text=True)
 
     def make(self, statements):
-        # Where psql has ended, its status and no more output tells so.
+        # If psql has ended, its output ends, and its status is checked.
         with contextlib.suppress(BrokenPipeError):
             self.psql.stdin.write(f"{statements}\n\\echo made\n")
             self.psql.stdin.flush()
         if self.psql.stdout.readline() != "made\n":
             self.end()
-            sys.exit(f"psql made something else of {statements}")
+            sys.exit(f"psql has an unexpected output for {statements}")
 
     def end(self):
         with contextlib.suppress(BrokenPipeError):
@@ -192,7 +200,8 @@ class Session:
 
 
 def await_server(bin, data):
-    """Waits until the server takes connections. pg_isready ends with status 1 while it takes none yet, and 2 while there is none."""
+    """Waits until the server takes connections. pg_isready ends with status 1 while the server takes none, and with 2
+    while there is no server."""
     words = [bin / "pg_isready", "-q", "-h", data]
     for _ in range(100):
         status = subprocess.run(words, check=False).returncode
@@ -205,7 +214,7 @@ def await_server(bin, data):
 
 @contextlib.contextmanager
 def postgres(room, env):
-    """The folder of a server of our own, which is stopped in the end."""
+    """Starts a server, yields its folder, and stops it."""
     bin = POSTGRES[-1]
     data = pathlib.Path(tempfile.mkdtemp(dir=room))
     own = ["setpriv", "--reuid=postgres", "--regid=postgres", "--clear-groups"] if shutil.which("setpriv") else []
@@ -219,14 +228,15 @@ def postgres(room, env):
         await_server(bin, data)
         yield data
     finally:
-        # With this signal it stops without waiting for sessions, which are still there where a statement failed.
+        # With this signal the server stops without waiting for sessions, which still exist if a statement failed.
         server.send_signal(signal.SIGINT)
         status = server.wait()
     check_end(words, status)
 
 
 def postgres_rate(room, count, env):
-    """Transfers a second of rows between two databases of a server of our own, each prepared in both and then committed."""
+    """Returns the transfers a second of rows between two databases of a server, each prepared in both and then
+    committed."""
     bin = POSTGRES[-1]
     with postgres(room, env) as data:
         first = Session(bin, data, "postgres")
@@ -249,8 +259,8 @@ def postgres_rate(room, count, env):
 
 
 def compare_all(bench, given):
-    """Whether a limit is passed by a rate or by the processor time of many registries; and the processor time in milliseconds of
-    a transfer together at the fewest registries with the first of the syncs."""
+    """Returns whether a rate, or the processor time at many registries, exceeds its limit, and the processor time in
+    milliseconds of a transfer together at the fewest registries with the first of the syncs."""
     passed, first = False, None
     for sync in given.syncs:
         busy = {}
@@ -261,7 +271,7 @@ def compare_all(bench, given):
             passed |= share < LEAST_TOGETHER
             if POSTGRES and registries == 2:
                 other = postgres_rate(bench.room, given.alone, bench.env(sync))
-                print(f"PostgreSQL, one after another: {other:.0f} a second; kyoto-link makes {rate / other:.2f} of that", flush=True)
+                print(f"PostgreSQL, one after another: {other:.0f} a second; kyoto-link has {rate / other:.2f} of that rate", flush=True)
                 passed |= sync >= AHEAD_FROM and rate < other
         least, most = min(busy), max(busy)
         first = first or busy[least] * 1000
@@ -273,12 +283,12 @@ def compare_all(bench, given):
 
 def main():
     words = argparse.ArgumentParser(description=__doc__, formatter_class=argparse.RawDescriptionHelpFormatter)
-    words.add_argument("--alone", type=int, default=300, help="how many transfers go one after another")
-    words.add_argument("--together", type=int, default=2_000, help="how many go together")
-    words.add_argument("--registries", type=int, nargs="+", default=[2, 8, 31], help="among how many registries")
-    words.add_argument("--syncs", type=int, nargs="+", default=[0, 100, 1_000], help="how many microseconds longer a sync takes")
-    words.add_argument("--tries", type=int, default=3, help="the best times count")
-    words.add_argument("--room", default=None, help="a folder on the disk to try; a temporary one if left out")
+    words.add_argument("--alone", type=int, default=300, help="the number of transfers one after another")
+    words.add_argument("--together", type=int, default=2_000, help="the number of transfers together")
+    words.add_argument("--registries", type=int, nargs="+", default=[2, 8, 31], help="the numbers of registries")
+    words.add_argument("--syncs", type=int, nargs="+", default=[0, 100, 1_000], help="the microseconds by which a sync takes longer")
+    words.add_argument("--tries", type=int, default=3, help="the number of runs of each; the best times count")
+    words.add_argument("--room", default=None, help="a folder on the disk to try; the default is a temporary one")
     given = words.parse_args()
     need("gcc", "builds the C program")
     need("strace", "counts system calls")

@@ -1,9 +1,11 @@
 #!/usr/bin/env python3
-"""How long reading a scheme takes, beside reading its text as JSON alone.
+"""Measures how long reading a scheme takes, and compares it with reading its text as JSON.
 
-The schemes have 2,500 blocks over 8 registries, 5,000 over 16 and 10,000 over 32, each registry with
-1,000 accounts. Printed are the best times in milliseconds, the scheme's as a multiple of the JSON's, and
-the ratio of each doubling of the scheme's time. The exit status is 1 where a ratio is over its limit.
+    scheme.py [--rounds N] [--runs N]
+
+The schemes have 2,500 blocks over 8 registries, 5,000 over 16 and 10,000 over 32, each registry with 1,000 accounts. A
+line for each scheme has the best times in milliseconds, the scheme's as a multiple of the JSON's, and the ratio to the
+previous scheme's time. The exit status is 1 if a ratio exceeds its limit, or if the program fails.
 """
 
 import argparse
@@ -17,7 +19,7 @@ import sys
 from building import PROGRAM, prove_and_build
 from endings import run_to_end
 
-# Blocks, and the registries that they are spread over.
+# The number of blocks, and the number of registries that have them.
 SIZES = ((2_500, 8), (5_000, 16), (10_000, 32))
 ACCOUNTS = 1_000
 UNITS_OF_A_BLOCK = 1_000
@@ -28,7 +30,7 @@ MOST_DOUBLING = 2.3
 
 
 def allotments(accounts, blocks):
-    """The blocks in groups of 1 to 20, each for some account."""
+    """Yields the blocks in groups of 1 to 20, each for some account."""
     rest = iter(blocks)
     while units := list(itertools.islice(rest, random.randint(1, MOST_BLOCKS_OF_AN_ALLOTMENT))):
         yield {"account": random.choice(accounts), "units": units}
@@ -40,7 +42,7 @@ def block(place):
 
 
 def scheme_text(blocks, registries):
-    """The same text each time. Neither the registries nor the blocks stand in order."""
+    """Returns a text that is the same each time. Neither its registries nor its blocks are in order."""
     random.seed(blocks)
     pairs = itertools.product(string.ascii_uppercase, repeat=2)
     codes = ["".join(pair) for pair in itertools.islice(pairs, registries)]
@@ -57,19 +59,19 @@ def scheme_text(blocks, registries):
 
 
 def best_times(text, rounds):
-    """The best times in milliseconds, of the text as JSON and as a scheme."""
+    """Returns the best times in milliseconds, of the text as JSON and as a scheme."""
     words = [PROGRAM, "scheme", str(rounds)]
     ended = run_to_end(words, input=text, stdout=subprocess.PIPE, text=True)
     lines = [[int(word) for word in line.split(" ")] for line in ended.stdout.splitlines()]
     if len(lines) != rounds or any(len(line) != 2 for line in lines):
-        sys.exit(f"{PROGRAM.name} printed something other than two times for each of {rounds:,} rounds")
+        sys.exit(f"{PROGRAM.name} did not print two times for each of {rounds:,} rounds")
     return [min(times) / 1_000 for times in zip(*lines)]
 
 
 def main():
     parser = argparse.ArgumentParser(description=__doc__.splitlines()[0])
-    parser.add_argument("--rounds", type=int, default=21, help="rounds of a run, 9 to 1,000")
-    parser.add_argument("--runs", type=int, default=20, help="runs of each; the best times count")
+    parser.add_argument("--rounds", type=int, default=21, help="the number of rounds of a run, 9 to 1,000")
+    parser.add_argument("--runs", type=int, default=20, help="the number of runs of each; the best times count")
     given = parser.parse_args()
     rounds = min(max(LEAST_ROUNDS, given.rounds), MOST_ROUNDS)
     prove_and_build()
@@ -93,7 +95,7 @@ def main():
             line += f"  doubling {doubling:.2f} (limit {MOST_DOUBLING})"
         print(line)
         before = as_scheme
-    print("within the limits" if kept else "over a limit")
+    print("within the limits" if kept else "a limit is exceeded")
     return 0 if kept else 1
 
 

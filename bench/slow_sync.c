@@ -1,7 +1,7 @@
 /* A library for LD_PRELOAD that makes a disk slow, and naps short.
 
-   Each fsync and fdatasync takes SYNC_MICROSECONDS longer. A sleep of just one millisecond, as a script of kyoto-link
-   makes between its questions, takes NAP_MICROSECONDS in place of that. What isn't set changes nothing. */
+   Each fsync and fdatasync takes SYNC_MICROSECONDS longer. A sleep of exactly one millisecond, as a script of kyoto-link
+   makes between its questions, takes NAP_MICROSECONDS instead. A variable that isn't set changes nothing. */
 
 #define _GNU_SOURCE
 

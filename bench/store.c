@@ -1,9 +1,8 @@
 /* The statements of a store, made by SQLite's C library.
 
    store PATH RECORDS SIZE LOADS makes a store at PATH, appends RECORDS records to it, each SIZE of them in one
-   transaction, and prints the time; then it loads them all LOADS times, lets them go each time, and prints the time
-   of each. A line is one time in microseconds. The exit status is 1 where a call fails, and 2 where the words are
-   wrong. */
+   transaction, and prints the time. Then it loads them all LOADS times, frees them each time, and prints the time of
+   each. A line is one time in microseconds. The exit status is 1 if a call fails, and 2 if the words are wrong. */
 
 #define _POSIX_C_SOURCE 200809L
 
@@ -16,7 +15,7 @@
 static const char RECORD[] =
     "{\"account\":1,\"input\":\"propose\",\"to_account\":7,\"to_registry\":\"JP\",\"units\":[\"NZ:1:1-100:AAU\"],\"v\":2}";
 
-/* The text of a row, copied. */
+/* A copy of the text of a row. */
 struct body {
     char *bytes;
     size_t length;
@@ -56,7 +55,7 @@ static long long microseconds(void)
     return (long long)now.tv_sec * 1000000 + now.tv_nsec / 1000;
 }
 
-/* Sets what the pragma sets, and stops where it answers anything else than what is wanted. */
+/* Runs the pragma, and stops unless its result is the expected one. */
 static void check(sqlite3 *db, const char *pragma, const char *wanted)
 {
     sqlite3_stmt *statement = prepared(db, pragma);
@@ -70,7 +69,7 @@ static sqlite3 *made(const char *path)
     sqlite3 *db;
     if (sqlite3_open(path, &db) != SQLITE_OK)
         stop(db, path);
-    /* The store keeps its files locked as well. */
+    /* The store of kyoto-link also keeps its files locked. */
     check(db, "PRAGMA locking_mode = EXCLUSIVE", "exclusive");
     check(db, "PRAGMA journal_mode = WAL", "wal");
     run(db, "PRAGMA synchronous = FULL");
@@ -115,7 +114,7 @@ static struct body copied(sqlite3_stmt *query)
     return body;
 }
 
-/* Loads the rows into a list that grows, and lets them go. */
+/* Loads the rows into a list that grows, and frees them. */
 static void load(sqlite3 *db, long records)
 {
     sqlite3_stmt *query = prepared(db, "SELECT place, body FROM entries ORDER BY place");
@@ -141,13 +140,13 @@ static void load(sqlite3 *db, long records)
     free(bodies);
 }
 
-/* The number that a word writes, from the least one to the most. */
+/* Returns the number that a word writes, from the least to the most. */
 static long number(const char *word, long least, long most)
 {
     char *end;
     long value = strtol(word, &end, 10);
     if (end == word || *end != '\0' || value < least || value > most) {
-        fprintf(stderr, "store: %s is no number from %ld to %ld\n", word, least, most);
+        fprintf(stderr, "store: %s is not a number from %ld to %ld\n", word, least, most);
         exit(2);
     }
     return value;
@@ -156,7 +155,7 @@ static long number(const char *word, long least, long most)
 int main(int count, char **words)
 {
     if (count != 5) {
-        fprintf(stderr, "store: four words are wanted: PATH RECORDS SIZE LOADS\n");
+        fprintf(stderr, "store: four words are expected: PATH RECORDS SIZE LOADS\n");
         return 2;
     }
     long records = number(words[2], 0, 1000000);

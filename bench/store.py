@@ -1,9 +1,12 @@
 #!/usr/bin/env python3
-"""How long a store in a file takes to append records and to load them, beside SQLite's C library.
+"""Measures how long a store in a file takes to append and to load records, and compares it with SQLite's library.
 
-The stores have 64,000 records, appended one by one or in batches of 64, and 16,000, 32,000 and 64,000 to load.
-Printed are the best times, the store's as a multiple of C's, a batch as a part of as many single appends, and the
-ratio of each doubling of loading. The exit status is 1 where a ratio is over its limit.
+    store.py [--records N] [--append-runs N] [--load-runs N] [--loads N] [--folder DIR]
+
+The stores have 64,000 records, appended one by one or in batches of 64, and 16,000, 32,000 and 64,000 to load. The C
+program of bench/store.c makes the same statements by SQLite's C library. Printed are the best times, the store's as
+multiples of C's, the time of a batch as a part of 64 single appends, and the ratio of each doubling of loading. The
+exit status is 1 if the batch or a doubling exceeds its limit, or if a program fails.
 """
 
 import argparse
@@ -35,13 +38,13 @@ def build_c(program):
 
 
 def check_store(path, records):
-    """The store has the records, and is whole."""
+    """Exits with status 1 unless the store has the records and is whole."""
     store = sqlite3.connect(path)
     wanted = (records, 0, records - 1, records)
     query = "SELECT count(*), min(place), max(place), sum(body = ?1) FROM entries"
     found = store.execute(query, (RECORD,)).fetchone()
     if found != wanted:
-        sys.exit(f"{path.name}: records, first and last place, and right bodies are {found}, and not {wanted}")
+        sys.exit(f"{path.name}: records, first and last place, and right bodies are {found} instead of {wanted}")
     if store.execute("SELECT id, format, node FROM about").fetchall() != [(1, FORMAT, "NZ")]:
         sys.exit(f"{path.name} is not a store of NZ")
     if store.execute("PRAGMA integrity_check").fetchall() != [("ok",)]:
@@ -50,9 +53,8 @@ def check_store(path, records):
 
 
 def times(program, room, records, size, loads):
-    """The time of appending and the best one of loading (none without loads), both in milliseconds.
-
-    They count only once the store that was written has been looked at."""
+    """Returns the time of appending and the best one of loading, or None without loads, both in milliseconds, after a
+    check of the store that was written."""
     with tempfile.TemporaryDirectory(dir=room) as folder:
         path = pathlib.Path(folder) / "store"
         words = [*program, path, str(records), str(size), str(loads)]
@@ -65,7 +67,7 @@ def times(program, room, records, size, loads):
 
 
 def append_times(programs, room, given):
-    """The best times of appending, by the size of a batch: of each a list, our time and C's."""
+    """Returns the best times of appending by the size of a batch, the store's and C's."""
     best = {size: [float("inf")] * len(programs) for size in (1, BATCH)}
     for _ in range(given.append_runs):
         for size, times_of_size in best.items():
@@ -76,7 +78,7 @@ def append_times(programs, room, given):
 
 
 def load_times(programs, room, given):
-    """The best times of loading, by the number of records: of each a list, our time and C's."""
+    """Returns the best times of loading by the number of records, the store's and C's."""
     counts = (given.records // 4, given.records // 2, given.records)
     best = {count: [float("inf")] * len(programs) for count in counts}
     for _ in range(given.load_runs):
@@ -92,7 +94,7 @@ def beside(what, ours, of_c):
 
 
 def report_appends(best, records):
-    """Prints the times of appending, and tells whether they are within the limit."""
+    """Prints the times of appending, and returns whether they are within the limit."""
     single, batched = best[1], best[BATCH]
     print(beside(f"append {records:,} one by one", *single))
     print(beside(f"append {records:,} in batches of {BATCH}", *batched))
@@ -102,7 +104,7 @@ def report_appends(best, records):
 
 
 def report_loads(best):
-    """Prints the times of loading, and tells whether they are within the limit."""
+    """Prints the times of loading, and returns whether they are within the limit."""
     kept = True
     before = None
     for count, (ours, of_c) in best.items():
@@ -118,11 +120,11 @@ def report_loads(best):
 
 def parse_words():
     parser = argparse.ArgumentParser(description=__doc__.splitlines()[0])
-    parser.add_argument("--records", type=int, default=RECORDS, help="records of the largest store, at least 256")
-    parser.add_argument("--append-runs", type=int, default=3, help="runs of appending; the best times count")
-    parser.add_argument("--load-runs", type=int, default=20, help="runs of loading; the best times count")
-    parser.add_argument("--loads", type=int, default=5, help="loads of a run, at most 1,000")
-    parser.add_argument("--folder", default=TOP.parent, help="where the temporary folder of the stores is made")
+    parser.add_argument("--records", type=int, default=RECORDS, help="the number of records of the largest store, at least 256")
+    parser.add_argument("--append-runs", type=int, default=3, help="the number of runs of appending; the best times count")
+    parser.add_argument("--load-runs", type=int, default=20, help="the number of runs of loading; the best times count")
+    parser.add_argument("--loads", type=int, default=5, help="the number of loads of a run, at most 1,000")
+    parser.add_argument("--folder", default=TOP.parent, help="the folder in which the temporary folder of the stores is made")
     given = parser.parse_args()
     given.records = min(max(4 * BATCH, given.records), MOST_RECORDS)
     given.append_runs = max(1, given.append_runs)
@@ -142,7 +144,7 @@ def main():
         appends_kept = report_appends(append_times(programs, room, given), given.records)
         loads_kept = report_loads(load_times(programs, room, given))
     kept = appends_kept and loads_kept
-    print("within the limits" if kept else "over a limit")
+    print("within the limits" if kept else "a limit is exceeded")
     return 0 if kept else 1
 
 

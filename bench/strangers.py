@@ -1,4 +1,4 @@
-"""What strangers, idle and slow connections, and a peer that is down do to a node that runs in a process of its own."""
+"""Tries a node in a process of its own with strangers, with idle and slow connections, and with a peer that is down."""
 
 import contextlib
 import json
@@ -15,24 +15,24 @@ from folders import differ
 from hard_run import send_slowly, sit_idle
 from node_group import HOST, LOG, group_of, wait_for
 
-# By how much a node's memory may grow, after a warm-up of that part of the messages.
+# The limit of the growth of a node's memory, after a warm-up of that part of the messages.
 MOST_GROWTH, WARM_UP = 1 << 20, 0.1
-# How many strangers come at once, and how many lines they send over one connection.
+# The number of strangers at once, and the most lines that they send over one connection.
 STRANGERS, MOST_LINES = 4, 200
-# Of links with keys, which take a line a connection, a part of the messages is enough.
+# With keys there is one line on each connection, and the number of messages is divided by this.
 PART_WITH_KEYS = 10
-# The least messages a second that strangers are given time for.
+# The messages a second by which the time of strangers is limited.
 SLOWEST = 200
 IDLE, SLOW, IDLE_SECONDS = 1_000, 100, 120
-# Transfers that wait for a peer that is down, and how long a sender pauses at most.
+# The transfers that wait for a peer that is down, and the longest pause of a sender and a day in seconds.
 WAITING, LONGEST_PAUSE, DAY = 20, 60, 86_400
 CONNECT = re.compile(r"^\d+ +(\d+\.\d+) connect\(\d+, \{sa_family=AF_INET, sin_port=htons\((\d+)\)", re.MULTILINE)
 
 
 def strange_lines(node, keyed):
-    """Messages that a registry refuses, whoever sends them: for another node, from one that may not send to it, about a
-    transaction that it doesn't know, and from a node that isn't there; where there are keys, also one that it would record
-    if it had its tag."""
+    """Yields messages that a registry refuses from every sender: for another node, from a node that may not send to it,
+    about a transaction that it doesn't know, and from a node that doesn't exist. With keys it also yields one that the
+    registry would record with its tag."""
     proposal = {"account": 1, "call": "AcceptProposal", "status": "Checked", "to_account": 1, "to_registry": node, "transaction": "AB1",
                 "units": ["AB:1:1-1:AAU"]}
     completed = {"call": "AcceptNotification", "codes": [], "status": "Completed", "transaction": "AB900000"}
@@ -46,7 +46,7 @@ def strange_lines(node, keyed):
 
 
 class Strangers:
-    """Threads that send a node what it has no use for, until that many messages were sent."""
+    """Threads that send a node useless lines until a number of messages is sent."""
 
     def __init__(self, port, node, keyed, seed):
         self.port, self.keyed, self.lines = port, keyed, list(strange_lines(node, keyed))
@@ -54,7 +54,7 @@ class Strangers:
         self.wrong, self.connections = None, 0
 
     def line(self, chance):
-        """A line of any kind: garbage, or a message, where there are keys with a tag that no key makes."""
+        """Returns a line of any kind: garbage, or a message, which with keys may have a tag that no key makes."""
         kind = chance.random()
         if kind < 0.3:
             return bytes(it for it in chance.randbytes(chance.randrange(200)) if it != 10)
@@ -64,7 +64,8 @@ class Strangers:
         return chance.randbytes(32).hex().encode() + b" " + text if self.keyed and kind < 0.8 else text
 
     def replies_to(self, lines):
-        """How many of these lines have replies over one connection. None of them may be that a message was received."""
+        """Sends these lines over one connection, and returns the number of replies. None of them may be that a message
+        was received."""
         taken = b""
         with contextlib.suppress(OSError), socket.create_connection((HOST, self.port), timeout=5) as it:
             it.sendall(b"".join(line + b"\n" for line in lines))
@@ -78,12 +79,12 @@ class Strangers:
         return taken.count(b"\n")
 
     def leave(self, piece):
-        """Sends a piece without an end, and goes away."""
+        """Sends a piece without an end, and closes the connection."""
         with contextlib.suppress(OSError), socket.create_connection((HOST, self.port), timeout=5) as it:
             it.sendall(piece)
 
     def come_once(self, chance):
-        """One connection, and how many messages came by it."""
+        """Makes one connection, and returns the number of its messages."""
         kind = chance.random()
         if kind < 0.1:
             self.leave(b"")
@@ -106,7 +107,7 @@ class Strangers:
                 self.connections += 1
 
     def send(self, goal):
-        """Sends until there are that many in all."""
+        """Sends messages until `goal` are sent in all."""
         self.goal, end = goal, time.monotonic() + 60 + goal / SLOWEST
         threads = [threading.Thread(target=self.work, args=(it, end), daemon=True) for it in range(STRANGERS)]
         for it in threads:
@@ -118,7 +119,8 @@ class Strangers:
 
 
 def try_strangers(keyed, room, given):
-    """Messages of strangers to one idle registry, and by how much its memory grew."""
+    """Sends messages of strangers to one idle registry, whose memory may grow by less than 1 MB. Returns a text of the
+    result."""
     count = max(100, given.strangers // (PART_WITH_KEYS if keyed else 1))
     with group_of(room, 2, 10, given.seed, keyed=keyed) as group:
         node = group.codes[0]
@@ -130,12 +132,12 @@ def try_strangers(keyed, room, given):
         strangers.send(warm + count)
         spent = time.monotonic() - begin
         answer, = process.ask([f"status {node}1"])
-        differ(answer != "status none", f"{node} answered {answer} after the strangers")
+        differ(answer != "status none", f"{node} wrote {answer} after the strangers")
         grown = process.memory() - before
         differ(grown >= MOST_GROWTH, f"{node} has {grown} bytes more after {strangers.sent - warm} messages of strangers")
-        differ(group.stop_all() != {node: 0}, f"{node} recorded something that strangers sent")
+        differ(group.stop_all() != {node: 0}, f"{node} recorded a message of strangers")
         return (f"{strangers.sent - warm} messages over {strangers.connections} connections, {(strangers.sent - warm) / spent:.0f} a second; "
-                f"{before / 1024:.0f} kB after {warm} of them, {grown / 1024:+.0f} kB in the end")
+                f"{before / 1024:.0f} kB after {warm} of them, {grown / 1024:+.0f} kB at the end")
 
 
 def order_transfers(group, count):
@@ -143,24 +145,25 @@ def order_transfers(group, count):
     first, other = group.codes[:2]
     lines = [f"propose 1 {other} 1 {first}:1:{number}-{number}:AAU" for number in range(1, count + 1)]
     answers = group.running[first].ask(lines)
-    differ(odd := [it for it in answers if not it.startswith("recorded ")], f"{first} answered {odd[:1]} to an order")
+    differ(odd := [it for it in answers if not it.startswith("recorded ")], f"{first} wrote {odd[:1]} for an order")
     return [f"status {first}{number}" for number in range(1, count + 1)]
 
 
 def are_completed(group, questions):
-    """Whether these are Completed at both ends."""
+    """Returns whether these transfers are Completed at both ends."""
     group.check()
     return all(set(group.running[it].ask(questions)) == {"status Completed"} for it in group.codes[:2])
 
 
 def connected_to(port):
-    """How many connections to that port are there."""
+    """Returns the number of connections to a port."""
     lines = (it.split() for it in pathlib.Path("/proc/net/tcp").read_text().splitlines()[1:])
     return sum(it[1].endswith(f":{port:04X}") and it[3] == "01" for it in lines)
 
 
 def try_idle(room, given):
-    """Transfers beside idle connections, and slow ones that send a byte now and then, to each node."""
+    """Makes transfers while each node has idle connections, and slow ones that send a byte now and then. Returns a text
+    of the result."""
     with group_of(room, 2, WAITING, given.seed) as group:
         group.start_all()
         over, ports = threading.Event(), list(group.ports.values())
@@ -186,12 +189,13 @@ def try_idle(room, given):
 
 
 def attempts(trace, port):
-    """The moments of the connects to that port, as strace wrote them."""
+    """Returns the moments of the connects to a port in the output of strace."""
     return [float(moment) for moment, found in CONNECT.findall(trace.read_text()) if int(found) == port]
 
 
 def check_attempts(moments, seconds):
-    """The connects grow fewer: each pause is longer than the one before, up to a minute. How many a day would have."""
+    """Checks that each pause between connects is at least as long as the one before, up to a minute. Returns the number
+    of connects in a day."""
     differ(not moments, "the sender didn't try to connect")
     gaps = [later - earlier for earlier, later in zip(moments, moments[1:])]
     # Pauses of 1, 2, 4 .. seconds, and two connects more for orders and the clock.
@@ -204,8 +208,9 @@ def check_attempts(moments, seconds):
 
 
 def try_downtime(room, given):
-    """A log that is down while a registry has transfers for it. `strace` tells of the registry's connects."""
-    need("strace", "tells of connects")
+    """Starts the log only after a while, during which a registry has transfers for it. `strace` writes the registry's
+    connects. Returns a text of the result."""
+    need("strace", "writes the connects")
     with group_of(room, 2, WAITING, given.seed) as group:
         first, other = group.codes[:2]
         trace = pathlib.Path(room) / "trace"

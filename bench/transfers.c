@@ -1,15 +1,15 @@
-/* The exchanges of transfers between registries, in C and over SQLite's C library.
+/* The exchanges of transfers between registries, in C and by SQLite's C library.
 
-   transfers FOLDER REGISTRIES COUNT one|together makes COUNT transfers among that many registries and the log. The
-   nodes are threads of this process, as those of kyoto-link run are: of each node one commits, four serve connections,
-   and one sends to each peer. Each message is a JSON line over a connection of its own, is recorded in the receiver's
-   store and committed before it is acknowledged, and each acknowledgement is recorded, which nobody waits for. A node
-   commits at most 64 records in one transaction. What a node checks of a message is left out: it only finds out which
-   one it is. Transfers go from each registry in turn to the next one: one after another, each completed before the next
-   one is proposed, or together, all proposed and then awaited.
+   transfers FOLDER REGISTRIES COUNT one|together makes COUNT transfers among REGISTRIES registries and the log. The
+   nodes are threads of this process, like those of kyoto-link run: for each node one thread commits, four serve
+   connections, and one sends to each peer. Each message is a JSON line over a connection of its own, and is recorded in
+   the receiver's store and committed before it is acknowledged. Each acknowledgement is recorded, without waiting for
+   its commit. A node commits at most 64 records in one transaction. The checks of a node are left out: it only
+   determines which message of a transfer it received. Transfers go from each registry in turn to the next one: one after
+   another, each completed before the next one is proposed, or together, all proposed and then awaited.
 
-   It prints the microseconds of all transfers and the number of commits. The exit status is 1 where a call fails, and 2
-   where the words are wrong. */
+   The program prints the microseconds of all transfers and the number of commits. The exit status is 1 if a call fails,
+   and 2 if the words are wrong. */
 
 #define _GNU_SOURCE
 
@@ -37,11 +37,11 @@ static const char RECEIVED[] = "{\"code\":0,\"result\":\"received\"}\n";
 struct message {
     enum step step;
     long transfer;
-    /* How many records the node has with the one that sends it. */
+    /* The number of the node's records up to the one that sends the message. */
     long records;
 };
 
-/* A peer, the messages to it, and what wakes the thread that sends them. */
+/* A peer, the messages to it, and the condition that wakes the thread that sends them. */
 struct peer {
     struct node *from, *to;
     struct message *messages;
@@ -59,7 +59,7 @@ struct node {
     int peer_count, listener;
     struct sockaddr_in address;
     sqlite3 *db;
-    /* Which transfers are completed here. */
+    /* Whether each transfer is completed at this node. */
     bool *done;
 };
 
@@ -107,7 +107,7 @@ static struct node *receiver_of(long transfer)
 
 /* ---- records */
 
-/* The node has one record more. With the lock. */
+/* Adds a record to the node, which is locked. */
 static void take(struct node *node, const char *body)
 {
     node->bodies[node->taken] = strdup(body);
@@ -116,7 +116,7 @@ static void take(struct node *node, const char *body)
     node->taken++;
 }
 
-/* Waits until all records of the node are committed. With the lock. */
+/* Waits until all records of the node, which is locked, are committed. */
 static void await_commit(struct node *node)
 {
     long records = node->taken;
@@ -127,7 +127,7 @@ static void await_commit(struct node *node)
         pthread_cond_wait(&node->committed, &node->lock);
 }
 
-/* The message to that node goes out once all records are committed. With the lock. */
+/* Adds a message, which is sent after all present records are committed. The node is locked. */
 static void add(struct node *node, struct node *to, enum step step, long transfer)
 {
     struct peer *peer = node->peers;
@@ -136,7 +136,7 @@ static void add(struct node *node, struct node *to, enum step step, long transfe
     peer->messages[peer->count++] = (struct message){step, transfer, node->taken};
 }
 
-/* What the node does on a message, once it is recorded. With the lock. */
+/* Carries out the effects of a message that is recorded. The node is locked. */
 static void go_on(struct node *node, enum step step, long transfer)
 {
     switch (step) {
@@ -181,7 +181,7 @@ static void step_once(struct node *node, sqlite3_stmt *statement)
         stop_store(node);
 }
 
-/* Commits the records from one place to another. */
+/* Commits the records from the place `first` up to `end`. */
 static void store(struct node *node, sqlite3_stmt *const statements[3], long first, long end)
 {
     step_once(node, statements[0]);
@@ -237,7 +237,7 @@ static int text_of(char *line, const struct node *from, const struct node *to, e
     return length;
 }
 
-/* Which message a line is that came to the node. */
+/* Returns the message of a transfer that a line is, which the node received. */
 static enum step step_of(const struct node *node, const char *line)
 {
     bool is_log = node == &nodes[0];
@@ -268,7 +268,7 @@ static void write_all(int connection, const char *text, size_t length)
         stop("send");
 }
 
-/* Reads a line, and ends it in place of its newline. False where the other end has ended. */
+/* Reads a line, and replaces its newline by an end. Returns false if the connection has ended. */
 static bool read_line(int connection, char *line)
 {
     size_t length = 0;
@@ -322,7 +322,7 @@ static void *serve_all(void *given)
     return NULL;
 }
 
-/* One exchange over a connection of its own. */
+/* Sends a message over a connection of its own, and reads its reply. */
 static void deliver(const struct peer *peer, const struct message *message)
 {
     char line[LONGEST];
@@ -397,7 +397,7 @@ static void add_peer(struct node *node, struct node *to)
     pthread_cond_init(&peer->due, NULL);
 }
 
-/* The log has the first place, and then come the registries. */
+/* Opens the log, which has the place 0, or a registry. */
 static void open_node(int at, const char *folder)
 {
     struct node *node = &nodes[at];
@@ -463,13 +463,13 @@ static void transfer_all(bool together)
         await_end(transfer);
 }
 
-/* The number that a word writes, from the least one to the most. */
+/* Returns the number that a word writes, from the least to the most. */
 static long number(const char *word, long least, long most)
 {
     char *end;
     long value = strtol(word, &end, 10);
     if (end == word || *end != '\0' || value < least || value > most) {
-        fprintf(stderr, "transfers: %s is no number from %ld to %ld\n", word, least, most);
+        fprintf(stderr, "transfers: %s is not a number from %ld to %ld\n", word, least, most);
         exit(2);
     }
     return value;
@@ -478,7 +478,7 @@ static long number(const char *word, long least, long most)
 int main(int words, char **word)
 {
     if (words != 5 || (strcmp(word[4], "one") != 0 && strcmp(word[4], "together") != 0)) {
-        fprintf(stderr, "transfers: four words are wanted: FOLDER REGISTRIES COUNT one|together\n");
+        fprintf(stderr, "transfers: four words are expected: FOLDER REGISTRIES COUNT one|together\n");
         return 2;
     }
     registries = (int)number(word[2], 2, MOST_REGISTRIES);

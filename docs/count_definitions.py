@@ -1,16 +1,18 @@
 #!/usr/bin/env python3
-"""Counts the definitions of `protocol` and what a reader must believe for the headline.
+"""Counts the definitions of `protocol` and those that a reader must believe for the headline.
 
-Prints, of the repository that this file stands in or of the folder that is given: the lines of definitions in
-crates/protocol/specs (no blank lines, comments and `use` lines), and, of all definitions in crates/*/specs that the
-headline's words cite, directly or through others, how many there are and how many lines they have; the names of limits
-and codes, which stand for a number alone, are counted apart. Types that the code declares are not counted. Then, over all
-crates, how many definitions there are, how many of them the contracts of public functions reach, and each whose comment is
-wrong: one that is reached and says that no public contract cites it, or one that isn't and doesn't say so. Where there is
-such a one the exit status is 1.
+    count_definitions.py [--files] [FOLDER]
 
-With --files it prints instead the tables of docs/DEFINITIONS.md: the files of definitions of each crate, in the order in
-which each needs only those before it, with the comment that each begins with.
+FOLDER is a checkout of the repository, by default the one of this file. The script prints the number of lines of
+definitions in crates/protocol/specs, without blank lines, comments and `use` lines; the numbers of definitions and of
+lines that the headline's words cite, directly or through others, in crates/*/specs; and, apart from these, the number
+of cited names of limits and codes, which stand for a number alone. Types that the code declares are not counted. Then
+it prints the number of definitions of all crates and of those that the contracts of public functions reach, and a line
+for each definition whose comment is wrong: one that is reached although its comment denies it, or one that isn't
+reached and has no comment that says it. The exit status is 1 if there is such a definition.
+
+With --files the script prints the tables of docs/log/definitions.md instead: the files of definitions of each crate,
+each after the files that it needs, with the comment at its begin.
 """
 import glob
 import os
@@ -26,7 +28,7 @@ START = re.compile(r"^(?:abbrev |unfoldable )?(?:pub )(?:abbrev |unfoldable |dat
 
 
 def parts(path):
-    """The imports of a specs file, and its definitions: name to lines of text."""
+    """Returns the imports of a specs file, and the lines of each of its definitions."""
     uses, found, name = {}, {}, None
     for line in open(path, encoding="utf-8"):
         text = line.rstrip("\n")
@@ -55,7 +57,7 @@ def parts(path):
 
 
 def heading(path):
-    """The comment that a file of definitions begins with, as one line."""
+    """Returns the comment at the begin of a file of definitions, as one line."""
     lines = []
     with open(path, encoding="utf-8") as file:
         for line in file:
@@ -69,15 +71,16 @@ def print_files(top):
     with open(os.path.join(top, "crates.txt"), encoding="utf-8") as file:
         crates = [line.split(":")[0].split()[0] for line in file if ":" in line and not line.startswith("#")]
     for crate in crates:
-        names = os.path.join(top, "crates", crate, "specs", "Lib.antt")
-        if not os.path.exists(names):
+        path = os.path.join(top, "crates", crate, "specs", "Lib.antt")
+        if not os.path.exists(path):
             continue
-        print("### %s\n\n| File | What it defines |\n|---|---|" % crate)
-        for line in open(names, encoding="utf-8"):
-            if line.startswith("pub mod "):
-                name = line.split()[2]
+        with open(path, encoding="utf-8") as file:
+            names = [line.split()[2] for line in file if line.startswith("pub mod ")]
+        if names:
+            print("### %s\n\n| File | Contents |\n|---|---|" % crate)
+            for name in names:
                 print("| `%s` | %s |" % (name, heading(os.path.join(top, "crates", crate, "specs", name + ".antt"))))
-        print()
+            print()
 
 
 def main():
@@ -117,7 +120,7 @@ def main():
     print("definitions that the headline's words cite: %d, of %d lines" % (len(seen - names), count))
     print("names of limits and codes among them: %d" % len(names))
     repository = Repository(top)
-    print("definitions of all crates: %d, of which public contracts reach %d" % (repository.count(), len(repository.reached())))
+    print("definitions of all crates: %d; public contracts reach %d of them" % (repository.count(), len(repository.reached())))
     misplaced = list(repository.misplaced())
     print("\n".join(misplaced), end="\n" if misplaced else "")
     sys.exit(1 if misplaced else 0)

@@ -3,12 +3,16 @@
 
     name_tactics.py --check "WORDS" --kept DIR CRATE FUNCTION..
 
-Without an answer such a goal takes four to six seconds, and with it a third of one. WORDS are those of a check of the crate with
-one job over DIR (`--jobs 1 --incremental DIR`), to which this adds `--start`, `--only` and `--allow-holes`; the crates below have to
-be built, and DIR may hold what an earlier check kept, as a copy (never as links: a check writes into it). FUNCTION is a name as a
-check prints it. First the root's `#![tactic(auto)]` is `none` for a moment, so that all goals are offered; then each is tried with
-`search rules` in a module of its own below the answers, whose file's time tells its seconds; then those that it leaves, or takes
-long over, with each call of TACTICS. The crate is changed by the answers alone.
+Without an answer such a goal takes four to six seconds, and with it a third of a second. WORDS are the command of a
+check of the crate with one job and the folder DIR (`--jobs 1 --incremental DIR`), to which the script adds `--start`,
+`--only` and `--allow-holes`. The crates that CRATE uses must be built, and DIR may have the files of an earlier check,
+as copies (never as links, since a check writes into it). FUNCTION is a name as a check prints it.
+
+First `#![tactic(auto)]` at the root of the crate is replaced by `none` for a moment, and thus all goals are offered.
+Then each goal is tried with `search rules` in a module of its own below the answers; the time of the module's file
+gives its seconds. Goals that `search` leaves, or needs long for, are tried with each call of TACTICS. At the end only
+the answers of the crate are changed. The script prints the numbers of functions, goals and answers. The exit status is
+0, and 2 if the words are wrong.
 """
 
 import argparse
@@ -22,7 +26,7 @@ import time
 
 SETS = ("common_steps", "elements")
 TACTICS = ("grind (arith, common_steps)", "grind (arith, elements)", "grind arith")
-# How many seconds `search` may take before another call is tried, and how much faster that has to be.
+# The seconds of `search` after which another call is tried, and the seconds by which that must be faster.
 LONG, GAIN = 0.7, 0.3
 GOAL = re.compile(r"^pub (\S+) : goal\.(\S+)\n(\S+) ([^=\n]*)= \?$", re.M)
 TRIED = re.compile(r"\bTried(\d{5})\b")
@@ -36,7 +40,8 @@ class Goal:
 
 @dataclasses.dataclass
 class Function:
-    """The folder of a function's answers, what they are now, the imports that are offered for it, and its goals without an answer."""
+    """The folder of a function's answers, the present answers, the imports that are offered for it, and its goals
+    without an answer."""
     folder: pathlib.Path
     answers: str | None
     imports: list
@@ -57,7 +62,7 @@ class Crate:
         return done.stdout + done.stderr
 
     def restore(self):
-        """Puts the proof files back as they were."""
+        """Restores the proof files."""
         for it in self.proofs.rglob("*.antt"):
             if it not in self.texts:
                 it.unlink()
@@ -69,7 +74,7 @@ class Crate:
                 it.rmdir()
 
     def offered(self, functions):
-        """The functions that have goals without an answer."""
+        """Returns the functions that have goals without an answer."""
         text = self.root.read_text()
         found = []
         try:
@@ -90,7 +95,8 @@ class Crate:
         return found
 
     def tried(self, functions, named, tries):
-        """The seconds of each try, and None where it fails. A try is a function, a goal of it, and a tactic."""
+        """Returns the seconds of each try, or None if it fails, and the seconds of all files. A try is a function, one
+        of its goals, and a tactic."""
         begin = time.time()
         try:
             for function in functions:
@@ -128,7 +134,7 @@ class Crate:
 
 
 def with_imports(text, tactics):
-    """The text with imports of what the tactics name."""
+    """Returns the text with imports of the names in the tactics."""
     lines = text.split("\n")
     for source, names in ("Rattle.std.proofs.Common", ("arith", "rules")), ("Rattle.std.proofs.lemmas.Grind", SETS):
         wanted = [it for it in names if re.search(rf"\b{it}\b", tactics) and not re.search(rf"^use .*\b{it}\b", text, re.M)]
@@ -151,7 +157,7 @@ def write_answers(function):
 
 
 def name_of(crate, function, names):
-    """The function's name, where its folder is that of one, or of a closure in one."""
+    """Returns the name of the function to which a folder of answers belongs, or of the function around its closure."""
     parts = list(function.folder.relative_to(crate.proofs).parts)
     if "fn" in parts:
         at = parts.index("fn")

@@ -1,8 +1,9 @@
-"""Which definitions the contracts of public functions reach, over all crates.
+"""Finds the definitions that the contracts of public functions reach, over all crates.
 
-A contract of a public function is its `requires`, `ensures` and `ghost` clauses; those of an exported trait, and the ghost terms of
-an exported type and of its impls, are read with them. The invariant of a type is none: whoever calls the type's functions need not
-know it. A definition is reached where a contract cites it, or a definition that is reached.
+A contract of a public function is its `requires`, `ensures` and `ghost` clauses. The clauses of an exported trait, and
+the ghost terms of an exported type and of its impls, are read with them. The invariant of a type is not a contract,
+since a caller of the type's functions need not know it. A definition is reached if a contract cites it, or a definition
+that is reached.
 """
 import glob
 import os
@@ -17,7 +18,7 @@ GHOST = re.compile(r"(?:pub )?ghost (?!use|invariant)[\w-]+(?: =|:) \{|\}\s*by \
 
 
 def lines_of(path):
-    """The lines of a file of definitions, those of modules with parameters as if they stood outside these."""
+    """Yields the lines of a file of definitions, those of modules with parameters as if they stood outside these."""
     depth = 0
     with open(path, encoding="utf-8") as file:
         for line in file.read().split("\n"):
@@ -31,7 +32,8 @@ def lines_of(path):
 
 
 class Definitions:
-    """A file of definitions: what it uses, and each definition's text, constructors, and whether it says that no contract cites it."""
+    """The imports of a file of definitions, the text and the constructors of each definition, and the definitions of
+    which a comment says that no public contract cites them."""
 
     def __init__(self, path):
         self.uses, self.found, self.constructors, self.private = {}, {}, {}, set()
@@ -63,7 +65,8 @@ class Definitions:
 
 
 def imported(text, word):
-    """The names that `use` lines bring: each with its module and, but for a module itself, its name there."""
+    """Returns the names that `use` lines import, each with its module and its name there, which is None for a module
+    itself."""
     uses = {}
     for module, items in re.findall(word + r" ([\w.+-]+)\.\{([^}]*)\}", text):
         for item in items.split(","):
@@ -75,7 +78,7 @@ def imported(text, word):
 
 
 def block_at(text, at):
-    """What stands between the brace at that place and the one that closes it, and the place after it."""
+    """Returns the text between the brace at a place and its closing brace, and the place after that."""
     depth = 0
     for i in range(at, len(text)):
         depth += {"{": 1, "}": -1}.get(text[i], 0)
@@ -85,7 +88,7 @@ def block_at(text, at):
 
 
 class Crate:
-    """What a crate exports: of a program, its main; of a library, what its root file names."""
+    """The exported names of a crate: the main function of a program, or the names in the root file of a library."""
 
     def __init__(self, top, name):
         self.texts = {path: re.sub(r"//.*", "", open(path, encoding="utf-8").read()) for path in glob.glob(f"{top}/crates/{name}/src/**/*.rt", recursive=True)}
@@ -101,7 +104,7 @@ class Crate:
         return self.is_program or bool(words) and (words[0] in self.exported or words[0] not in self.declared)
 
     def clauses(self):
-        """Each text of a public contract, with the names that its file brings."""
+        """Yields each text of a public contract, with the names that its file imports."""
         for text in self.texts.values():
             uses = imported(text, "ghost use")
             blocks = [(it.start(), block_at(text, text.find("{", it.end()))[1], it.group(1), it.group(2)) for it in BLOCK.finditer(text) if text.find("{", it.end()) > 0]
@@ -142,7 +145,7 @@ class Repository:
         self.top = top
 
     def cited(self, text, uses, key=None):
-        """The definitions that a text names."""
+        """Yields the definitions that a text names."""
         for token in set(TOKEN.findall(text)):
             for name in {token, token.split(".")[0]}:
                 if key is not None:
@@ -174,12 +177,13 @@ class Repository:
         return sum(len(file.found) for file in self.files.values())
 
     def misplaced(self):
-        """A line for each definition that no public contract reaches and that doesn't say so, and for each that says so and is reached."""
+        """Yields a line for each definition that no public contract reaches and whose comment doesn't say it, and for
+        each that is reached although its comment denies it."""
         seen = self.reached()
         for (crate, module), file in self.files.items():
             for name in file.found:
                 is_reached = ((crate, module), name) in seen
                 if is_reached and name in file.private:
-                    yield f"{crate}/{module}: a public contract reaches {name}, and its file says that none cites it"
+                    yield f"{crate}/{module}: a public contract reaches {name}, and its comment says that none cites it"
                 elif not is_reached and name not in file.private:
-                    yield f"{crate}/{module}: no public contract reaches {name}, and nothing says so"
+                    yield f"{crate}/{module}: no public contract reaches {name}, and no comment says it"

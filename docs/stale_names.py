@@ -1,8 +1,12 @@
 #!/usr/bin/env python3
-"""Prints each name in backticks of a document that no source has: a function, a clause, a lemma, a file, a crate or a program.
+"""Prints each name in backticks of a document that no source has: a function, a clause, a lemma, a file, a crate or a
+program.
 
-A name is a word with `_`, `::`, `/` or a capital within or after it, or one that stands alone in its backticks. Of the tables of
-PLANTED.md the middle column is left out, which has bugs. The exit status is 1 where there is such a name.
+    stale_names.py
+
+The documents are README.md, docs/*.md, bench/*.md and the README of the examples' data, without their fenced blocks. A
+name is a word that stands alone in its backticks, and may have `_`, `-`, `.`, `::` and `/` in it; words in capitals
+stand for a name. A line is printed for each stale name, and the exit status is 1 if there is one.
 """
 
 import pathlib
@@ -19,13 +23,13 @@ NAME = re.compile(r"[A-Za-z_][\w.-]*(?:(?:::|/)[\w.*-]+)*/?")
 
 
 def words_of(text):
-    """The words of a text but those in capitals, which stand for a name."""
+    """Returns the words of a text, except those in capitals, which stand for a name."""
     return {word for word in re.findall(r"[A-Za-z_][\w-]*", text) if not word.isupper()}
 
 
 def known_words():
     files = [path for pattern in SOURCES for path in TOP.glob(pattern) if path.is_file()]
-    # A store among the data of an example is no text.
+    # A store in the data of an example is not a text.
     texts = [path.read_text(encoding="utf-8", errors="replace") for path in [*files, *map(TOP.joinpath, OTHERS)]]
     known = {word for text in texts for word in words_of(text)}
     places = [path for path in TOP.rglob("*") if "out" not in path.parts and ".git" not in path.parts]
@@ -38,9 +42,7 @@ def main():
         fenced = False
         for number, line in enumerate(path.read_text(encoding="utf-8").splitlines(), 1):
             fenced ^= line.startswith("```")
-            cells = line.split("|")
-            text = "".join(cells[:2] + cells[3:]) if path.name == "PLANTED.md" and len(cells) > 4 else line
-            for name in [] if fenced else re.findall(r"`([^`]+)`", text):
+            for name in [] if fenced else re.findall(r"`([^`]+)`", line):
                 if NAME.fullmatch(name) and not words_of(name) <= known:
                     stale.append(f"{path.relative_to(TOP)}:{number}: {name}")
     print("\n".join(stale), end="\n" if stale else "")

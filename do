@@ -1,0 +1,83 @@
+#!/usr/bin/env bash
+# What a developer does daily. Without words it lists the commands.
+set -euo pipefail
+
+cd -- "$(dirname -- "$(readlink -f -- "${BASH_SOURCE[0]}")")"
+
+usage() {
+    cat <<'END'
+usage: ./do COMMAND
+
+  check CRATE     proves a crate; what is below it is proved first, where it changed
+  edits [CRATE]   tries the edits that the prover must refuse, of one crate or of all
+  plant CRATE     lists wrong bodies that the crate's contracts let through
+  test CRATE      runs the tests of a crate of tests
+  examples        compares the program's output for each of the examples with its files
+  bench NAME ..   runs bench/NAME.py with these words; without words it lists the benches
+  docs            looks for stale names, wrong comments of definitions, other texts of `explain`, old lists, the version
+  pages           runs the commands of README and OPERATING as written, and compares their outputs
+  lists           writes the generated lists of docs/log anew
+  times           runs the gate, and writes the processor seconds of each crate into docs/log/times.md
+  format          formats all sources
+  gate            runs the gate of a merge, .ci/run
+  release         makes the release anew, after a gate
+END
+}
+
+fail() {
+    printf 'do: %s\n' "$1" >&2
+    exit 2
+}
+
+# In the folder of the crate with that name.
+in_crate() {
+    [[ -n ${1-} && -d crates/$1 ]] || fail "no crate ${1:-was named}"
+    cd -- "crates/$1"
+}
+
+command=${1-}
+shift || true
+case $command in
+'' | help | --help | -h) usage ;;
+check | plant | test)
+    (in_crate "${1-}" && exec rt "$command")
+    ;;
+edits) rt must-fail "$@" ;;
+examples) (in_crate test_examples && exec rt run) ;;
+bench)
+    if [[ -z ${1-} ]]; then
+        grep -lx 'if __name__ == "__main__":' bench/*.py | sed 's|bench/||; s|\.py$||'
+        exit
+    fi
+    [[ -f bench/$1.py ]] || fail "no bench $1"
+    name=$1
+    shift
+    exec python3 "bench/$name.py" "$@"
+    ;;
+docs)
+    status=0
+    for script in stale_names count_definitions explained; do
+        python3 "docs/$script.py" || status=1
+    done
+    python3 docs/make_lists.py --check || status=1
+    # The version stands in the code; the documents and the release have it too.
+    version=$(sed -n 's/^const VERSION: &str = "\(.*\)";$/\1/p' crates/operator/src/command_line.rt)
+    for file in CHANGELOG.md release/MANIFEST crates/test_examples/data/command_line/version/output; do
+        if ! grep -qF " $version" "$file"; then
+            printf '%s has no version %s\n' "$file" "$version"
+            status=1
+        fi
+    done
+    exit "$status"
+    ;;
+pages) exec python3 docs/tried.py "$@" ;;
+lists) exec python3 docs/make_lists.py ;;
+times) exec python3 bench/gate.py "$@" ;;
+format) for crate in crates/*/; do (cd -- "$crate" && rt fmt); done ;;
+gate) exec .ci/run ;;
+release) exec release/make ;;
+*)
+    usage >&2
+    fail "no command $command"
+    ;;
+esac

@@ -3,8 +3,8 @@
 
     no_memory.py [--tests TEXT] [--seconds N]
 
-Each test of `test_values`, `test_stores` and `test_runs` runs alone, once for each of its allocations, of which that
-one is refused (`no_memory.c`, loaded before the C library). The test must pass, as it repeats a call that found no
+Each test of `test_values`, `test_stores`, `test_runs` and `test_nodes` runs alone, once for each of its allocations, of
+which that one is refused (`no_memory.c`, loaded before the C library). The test must pass, as it repeats a call that found no
 memory, after it has checked the state; or it stops while it reads its own texts. If the runs of a test would take
 longer than `--seconds` together, allocations are skipped at equal distances. The tests of EXEMPT are left out.
 
@@ -41,7 +41,7 @@ from rehearse import program
 TOP = pathlib.Path(__file__).resolve().parent.parent
 SOURCE = TOP / "bench" / "no_memory.c"
 OUT_OF_MEMORY = (5, b"", b"kyoto-link: out of memory\n")
-TESTS = ("test_values", "test_stores", "test_runs")
+TESTS = ("test_values", "test_stores", "test_runs", "test_nodes")
 # The message of a test that found no memory for its own texts, and the status of a test that fails.
 READING = b"the test's own texts"
 FAILED = -signal.SIGABRT

@@ -85,7 +85,9 @@ def main():
             gate.look()
             time.sleep(1)
     used = resource.getrusage(resource.RUSAGE_CHILDREN)
-    lines.append(f"status {run.returncode}, {(time.time() - begin) / 60:.0f} minutes, {used.ru_utime + used.ru_stime:.0f} processor seconds in all")
+    measured = len({crate for crate, _ in gate.seconds})
+    lines.append(f"last run: status {run.returncode}, {(time.time() - begin) / 60:.0f} minutes, "
+                 f"{used.ru_utime + used.ru_stime:.0f} processor seconds in all, {measured} crates measured")
     TIMES.write_text("".join(text(gate.seconds, lines)), encoding="utf-8")
     print(f"{lines[-1]}; the output of rt is in {log}")
     sys.exit(run.returncode)

@@ -8,7 +8,7 @@ usage() {
     cat <<'END'
 usage: ./do COMMAND
 
-  check CRATE     proves a crate; what is below it is proved first, where it changed
+  check CRATE     proves a crate, after those below it that need it
   edits [CRATE]   tries the edits that the prover must refuse, of one crate or of all
   plant CRATE     lists wrong bodies that the crate's contracts let through
   test CRATE      runs the tests of a crate of tests

@@ -4,9 +4,9 @@
     gate.py [WORDS ..]    runs `rt ci` with these words
 
 The seconds are those of the prover. Its processes are sampled once a second, so a check of less than two seconds may be
-missing. A crate that `rt` did not check again keeps its row and its date. The sum in the head of the page is measured by
-the system, and includes the time of `rt` and of the compiler. The output of `rt` goes to gate.log in the folder for
-temporary files. The exit status is that of `rt`.
+missing. A crate that `rt` did not check again keeps its row and its date, and a run that checked none leaves the page.
+The sum in the head of the page is measured by the system, and includes the time of `rt` and of the compiler. The output
+of `rt` goes to gate.log in the folder for temporary files. The exit status is that of `rt`.
 """
 import collections
 import datetime
@@ -14,6 +14,7 @@ import os
 import pathlib
 import re
 import resource
+import signal
 import subprocess
 import sys
 import tempfile
@@ -81,14 +82,22 @@ def main():
     with log.open("w", encoding="utf-8") as out:
         run = subprocess.Popen(["rt", "ci", *sys.argv[1:]], cwd=TOP, stdout=out, stderr=subprocess.STDOUT, start_new_session=True)
         gate = Gate(run.pid)
-        while run.poll() is None:
-            gate.look()
-            time.sleep(1)
+        try:
+            while run.poll() is None:
+                gate.look()
+                time.sleep(1)
+        finally:
+            # After Ctrl-C the gate would go on, as it has a session of its own.
+            if run.poll() is None:
+                os.killpg(run.pid, signal.SIGTERM)
+                run.wait()
     used = resource.getrusage(resource.RUSAGE_CHILDREN)
     measured = len({crate for crate, _ in gate.seconds})
     lines.append(f"last run: status {run.returncode}, {(time.time() - begin) / 60:.0f} minutes, "
                  f"{used.ru_utime + used.ru_stime:.0f} processor seconds in all, {measured} crates measured")
-    TIMES.write_text("".join(text(gate.seconds, lines)), encoding="utf-8")
+    # A run that checked nothing, as after wrong words or with every crate kept, has nothing to say about times.
+    if gate.seconds:
+        TIMES.write_text("".join(text(gate.seconds, lines)), encoding="utf-8")
     print(f"{lines[-1]}; the output of rt is in {log}")
     sys.exit(run.returncode)
 

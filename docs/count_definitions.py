@@ -12,7 +12,7 @@ for each definition whose comment is wrong: one that is reached although its com
 reached and has no comment that says it. The exit status is 1 if there is such a definition.
 
 With --files the script prints the tables of docs/log/definitions.md instead: the files of definitions of each crate,
-each after the files that it needs, with the comment at its begin.
+each after the files that it needs, with the comment at its beginning.
 """
 import glob
 import os
@@ -57,7 +57,7 @@ def parts(path):
 
 
 def heading(path):
-    """Returns the comment at the begin of a file of definitions, as one line."""
+    """Returns the comment at the beginning of an .antt file, as one line."""
     lines = []
     with open(path, encoding="utf-8") as file:
         for line in file:
@@ -67,27 +67,32 @@ def heading(path):
     return " ".join(lines)
 
 
-def print_files(top):
+def crates_of(top):
+    """Returns the crates in the order of crates.txt, in which each comes after those that it uses."""
     with open(os.path.join(top, "crates.txt"), encoding="utf-8") as file:
-        crates = [line.split(":")[0].split()[0] for line in file if ":" in line and not line.startswith("#")]
-    for crate in crates:
+        return [line.split(":")[0].split()[0] for line in file if ":" in line and not line.startswith("#")]
+
+
+def tables(top):
+    """Yields the tables of the files of definitions, one for each crate that has such files."""
+    for crate in crates_of(top):
         path = os.path.join(top, "crates", crate, "specs", "Lib.antt")
         if not os.path.exists(path):
             continue
         with open(path, encoding="utf-8") as file:
             names = [line.split()[2] for line in file if line.startswith("pub mod ")]
         if names:
-            print("### %s\n\n| File | Contents |\n|---|---|" % crate)
+            yield "### %s\n\n| File | Contents |\n|---|---|\n" % crate
             for name in names:
-                print("| `%s` | %s |" % (name, heading(os.path.join(top, "crates", crate, "specs", name + ".antt"))))
-            print()
+                yield "| `%s` | %s |\n" % (name, heading(os.path.join(top, "crates", crate, "specs", name + ".antt")))
+            yield "\n"
 
 
 def main():
     words = [word for word in sys.argv[1:] if word != "--files"]
     top = words[0] if words else os.path.join(os.path.dirname(os.path.abspath(__file__)), "..")
     if "--files" in sys.argv:
-        return print_files(top)
+        return print("".join(tables(top)), end="")
     files = {}
     for path in sorted(glob.glob(os.path.join(top, "crates/*/specs/*.antt"))):
         crate = path.split(os.sep)[-3]

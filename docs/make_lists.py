@@ -9,8 +9,9 @@ each edit of must-fail, a bug that the prover must refuse.
 import datetime
 import pathlib
 import re
-import subprocess
 import sys
+
+from count_definitions import crates_of, heading, tables
 
 TOP = pathlib.Path(__file__).resolve().parent.parent
 LOG = TOP / "docs/log"
@@ -19,12 +20,6 @@ FUNCTION = re.compile(r"^( *)pub (?:const )?fn (\w+)")
 METHOD = re.compile(r"^( *)fn (\w+)")
 CLAUSE = re.compile(r"^ +(requires|ensures)(?: (\w+))? \{")
 BLOCK = re.compile(r"^(?:pub )?(impl|trait)\b(.*)")
-
-
-def crates():
-    """The crates in the order of crates.txt, in which each stands after those that it uses."""
-    lines = (TOP / "crates.txt").read_text(encoding="utf-8").splitlines()
-    return [line.split(":")[0].split()[0] for line in lines if line.strip() and not line.startswith("#")]
 
 
 def holder(line):
@@ -66,16 +61,6 @@ def contracts_of(path):
     return found
 
 
-def first_lines(path):
-    """The comment that a file begins with, as one line."""
-    lines = []
-    for line in path.read_text(encoding="utf-8").splitlines():
-        if not line.startswith("-- "):
-            break
-        lines.append(line[3:].strip())
-    return " ".join(lines)
-
-
 def exported(path):
     """The names that a file of lemmas exports."""
     text = path.read_text(encoding="utf-8")
@@ -89,7 +74,7 @@ def title(name, about):
 
 def contracts():
     yield title("Contracts", "Each public function that has a clause, with the names of its clauses.")
-    for crate in crates():
+    for crate in crates_of(TOP):
         rows = []
         for path in sorted((TOP / "crates" / crate / "src").rglob("*.rt")):
             rows += [(path.stem, name, clauses) for name, clauses in contracts_of(path) if clauses]
@@ -100,13 +85,13 @@ def contracts():
 
 def lemmas():
     yield title("Lemmas", "Each file of lemmas, with its first comment and the names that it exports.")
-    for crate in crates():
+    for crate in crates_of(TOP):
         folder, rows = TOP / "crates" / crate / "proofs", []
         for path in sorted(folder.rglob("*.antt")):
             if path.name in ("Lib.antt", "Answers.antt", "Invariants.antt", "Proof.antt"):
                 continue
             names = ", ".join(f"`{it}`" for it in exported(path))
-            rows.append(f"| `{path.relative_to(folder).with_suffix('')}` | {first_lines(path)} | {names} |\n")
+            rows.append(f"| `{path.relative_to(folder).with_suffix('')}` | {heading(path)} | {names} |\n")
         if rows:
             yield f"\n## {crate}\n\n| File | About | Names |\n|---|---|---|\n"
             yield from rows
@@ -114,7 +99,7 @@ def lemmas():
 
 def definitions():
     yield title("Files of definitions", "In an order in which each needs only those before it.\n")
-    yield subprocess.run([sys.executable, TOP / "docs/count_definitions.py", "--files"], capture_output=True, text=True, check=True).stdout
+    yield from tables(TOP)
 
 
 def code(text):
@@ -124,7 +109,7 @@ def code(text):
 
 def edits():
     yield title("Edits that the prover must refuse", "Each puts a bug into the code of its crate, and `rt must-fail` fails if a proof still passes.")
-    for crate in crates():
+    for crate in crates_of(TOP):
         rows = []
         for path in sorted((TOP / "crates" / crate / "must-fail").glob("*.edit")):
             file = ""

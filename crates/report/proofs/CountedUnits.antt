@@ -7,7 +7,8 @@ use Rattle.scheme.specs.declared.registries.Scheme.{Scheme}
 use Rattle.protocol.specs.Table.{due}
 use Rattle.protocol.specs.World.{opening, run}
 use Rattle.protocol.specs.declared.event.WorldEvent.{WorldEvent}
-use Rattle.report.specs.NumberOfUnits.{allotted_units, due_units, held_units}
+use Rattle.safety.specs.NumberOfUnits.{allotted_units}
+use Rattle.report.specs.NumberOfUnits.{due_units, held_units}
 use Rattle.world.specs.RegistryLines.{AreLines}
 use Rattle.world.specs.Stocks.{AreStocks}
 use Rattle.world.specs.declared.views.Stock.{Stock}

@@ -1,6 +1,3 @@
-pub mod SumsOfLists
-pub mod UnitsOneByOne
-pub mod AllottedBlocks
 pub mod LinesOfHoldings
 pub mod DueTransfers
 pub mod TonnesAddUp

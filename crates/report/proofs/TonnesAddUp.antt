@@ -19,14 +19,15 @@ use Rattle.protocol.specs.History.{holds}
 use Rattle.protocol.specs.Table.{ProposedTransfer, due}
 use Rattle.protocol.specs.World.{World, opening, run}
 use Rattle.protocol.specs.declared.event.WorldEvent.{WorldEvent}
+use Rattle.safety.proofs.ListLemmas.SumsOfLists.{sum_flat, sum_map, sum_same}
+use Rattle.safety.proofs.ListLemmas.UnitsOneByOne.{same_units, units_once}
+use Rattle.safety.proofs.OwnersOfUnits.AllottedBlocks.{allotted_once}
 use Rattle.safety.proofs.OwnersOfUnits.UnitsInOnePlace.{causal_one_place}
 use Rattle.safety.proofs.WorldLemmas.ReachedWorlds.{reached, reached_live, reached_scheme}
-use Rattle.report.proofs.AllottedBlocks.{allotted_once}
 use Rattle.report.proofs.DueTransfers.{due_apart}
 use Rattle.report.proofs.LinesOfHoldings.{lines_hold}
-use Rattle.report.proofs.SumsOfLists.{sum_flat, sum_map, sum_same}
-use Rattle.report.proofs.UnitsOneByOne.{same_units, units_once}
-use Rattle.report.specs.NumberOfUnits.{allotted_units, due_units, held_units, units_of}
+use Rattle.safety.specs.NumberOfUnits.{allotted_units, units_of}
+use Rattle.report.specs.NumberOfUnits.{due_units, held_units}
 use Rattle.world.specs.RegistryLines.{AreLines, registry_at}
 
 -- ---- the blocks of lines and of transfers

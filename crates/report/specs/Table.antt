@@ -8,7 +8,7 @@ use Rattle.protocol.specs.History.{stands, transitions_of}
 use Rattle.protocol.specs.Table.{ProposedTransfer, due, transactions}
 use Rattle.protocol.specs.World.{World, opening, run}
 use Rattle.protocol.specs.declared.event.WorldEvent.{WorldEvent}
-use Rattle.report.specs.NumberOfUnits.{allotted_units}
+use Rattle.safety.specs.NumberOfUnits.{allotted_units}
 use Rattle.report.specs.declared.form.Form.{Form}
 use Rattle.world.specs.Stocks.{AreStocks}
 use Rattle.world.specs.declared.views.Stock.{Stock}

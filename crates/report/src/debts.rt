@@ -2,7 +2,7 @@
 ghost use Rattle.std.specs.Prelude.{◌≡◌, ◌+◌, ◌++◌, OnOk, map, string_bytes, sum_by};
 ghost use Rattle.std.specs.List.{flat_map};
 ghost use Rattle.status.specs.Content.{raws};
-ghost use Rattle.report.specs.NumberOfUnits.{units_of};
+ghost use Rattle.safety.specs.NumberOfUnits.{units_of};
 ghost use Rattle.world.specs.Transfers.{transfer_of};
 ghost use Rattle.report.specs.ReportLines.{due_line, due_lines, end_line, owed_line, owed_lines, owed_shown, shown};
 

@@ -6,7 +6,8 @@ ghost use Rattle.protocol.specs.Table.{due};
 ghost use Rattle.protocol.specs.World.{opening, run};
 ghost use Rattle.protocol.specs.declared.event.WorldEvent.{WorldEvent};
 ghost use Rattle.scheme.specs.declared.registries.Scheme.{Scheme};
-ghost use Rattle.report.specs.NumberOfUnits.{allotted_units, due_units, held_units};
+ghost use Rattle.report.specs.NumberOfUnits.{due_units, held_units};
+ghost use Rattle.safety.specs.NumberOfUnits.{allotted_units};
 ghost use Rattle.world.specs.RegistryLines.{AreLines};
 
 /// For every list of events, the number of units that the registries hold, regardless of the lines that write their

@@ -13,7 +13,7 @@ use Rattle.protocol.specs.World.{opening, run, step}
 use Rattle.safety.proofs.AgreementOfNodes.CausalHistories.{Causal, causal_agrees}
 use Rattle.safety.proofs.DeliveryLemmas.TerminatedTransfers.{terminates_live, terminates_committed}
 use Rattle.safety.proofs.DeliveryLemmas.WelcomeDeliveries.{delivers_welcome}
-use Rattle.safety.proofs.OwnersOfUnits.HoldersInLog.{holder_owns}
+use Rattle.safety.proofs.OwnersOfUnits.AccountedUnits.{holder_owns}
 use Rattle.safety.proofs.OwnersOfUnits.OwnersAfterEvents.{event_moves}
 use Rattle.safety.proofs.OwnersOfUnits.UnitsInOnePlace.{causal_one_place, spent_once}
 use Rattle.safety.proofs.WayToRest.TransportToRest as rest

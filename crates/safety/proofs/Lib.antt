@@ -7,7 +7,12 @@ pub mod CleanUps
 pub mod AgreementOfNodes
 pub mod WorldLemmas
 pub mod OwnersOfUnits
+pub mod AmongStrangers
+pub mod NextSchemes
 pub mod DeliveryLemmas
+pub mod OneTransfer
 pub mod WayToRest
+pub mod SixRounds
 pub mod JournalWeaves
 pub mod Headline
+pub mod WorkedLaws

@@ -1,7 +1,6 @@
 -- From every world with room, events of transport lead to one at rest.
 pub mod WakingNodes
 pub mod SendingMessages
-pub mod SentByTransitions
 pub mod TakenMessages
 pub mod TransferStages
 pub mod ClosingTransfers

@@ -23,7 +23,7 @@ use Rattle.scheme.specs.declared.registries.Scheme.{Scheme}
 use Rattle.protocol.specs.AtLog.{is_no_registry}
 use Rattle.protocol.specs.Claims.{at_registry}
 use Rattle.protocol.specs.History.{Transition, Entry, transitions_of, newest, stands, sends, is_status, carries, gives, credits}
-use Rattle.safety.proofs.AgreementOfNodes.CausalHistories.{Causal, heard_sent, log_said}
+use Rattle.safety.proofs.AgreementOfNodes.CausalHistories.{Causal, CausalAmong, heard_sent, offered_sent, log_said}
 use Rattle.units.proofs.Lists.NoRepeats.{NoRepeat}
 use Rattle.protocol.proofs.CountsInLists.{picked, In_picked}
 use Rattle.safety.proofs.OneRegistry.TransactionEnds.{each_move, ends_last, ends_once, offered, completed_sent, known, proposer, proposer_of}
@@ -94,40 +94,27 @@ pub record AgreedTransfer (scheme : Scheme) (f : Node → List Entry) (c : Code)
   pub content_there : initiator.content ≡ Some content
   pub member_there : is_no_registry scheme (Registry t.code) ≡ false
 
-module _ (scheme : Scheme) (f : Node → List Entry) (causal : Causal scheme f) where
-  -- a proposal that was received from a node was sent by it
-  pub offered_sent : (n from : Node) (t : TransactionId) (st : ProposalStatus) (k : Content) (o : Offered (f n) from t st k) → In (message.proposal o.proposal) (sends (f from))
-  offered_sent n from t st k o = subst (λ m. In (message.proposal o.proposal) (sends (f m))) o.sender (causal.sent n (message.proposal o.proposal) o.got)
-
-  -- what was offered, the one who offered it has with that content
-  pub log_has : (c : Code) (t : TransactionId) (k : Content) → Offered (f (Registry c)) Itl t proposal.Checked k → (y : Transition) × (newest (transitions_of (f Itl)) t ≡ Some y) × (y.content ≡ Some k)
-  log_has c t k got =
-      let o = log_offered scheme (f Itl) (causal.made Itl) got.proposal (offered_sent (Registry c) Itl t proposal.Checked k got) in
-      (o.0, subst (λ z. newest (transitions_of (f Itl)) z ≡ Some o.0) got.about o.1, o.2 ∙ ap Some got.content)
-
-  pub initiator_has : (t : TransactionId) (k : Content) → Offered (f Itl) (Registry t.code) t proposal.Proposed k → (y : Transition) × (newest (at_registry f t.code) t ≡ Some y) × (y.content ≡ Some k)
-  initiator_has t k got =
-      let o = offered scheme t.code (f (Registry t.code)) (causal.made (Registry t.code)) got.proposal (offered_sent Itl (Registry t.code) t proposal.Proposed k got) in
+module _ {trusted : Node → Bool} (scheme : Scheme) (f : Node → List Entry) (causal : CausalAmong trusted scheme f) where
+  -- what was offered by a trusted initiator, it has with that content
+  pub initiator_has : (t : TransactionId) (k : Content) → trusted (Registry t.code) ≡ true → Offered (f Itl) (Registry t.code) t proposal.Proposed k
+      → (y : Transition) × (newest (at_registry f t.code) t ≡ Some y) × (y.content ≡ Some k)
+  initiator_has t k trust got =
+      let o = offered scheme t.code (f (Registry t.code)) (causal.made (Registry t.code)) got.proposal (offered_sent scheme f causal Itl (Registry t.code) t proposal.Proposed k trust got) in
       (o.0, subst (λ z. newest (at_registry f t.code) z ≡ Some o.0) got.about o.1, o.2 ∙ ap Some got.content)
 
-  pub transfer : (c : Code) (t : TransactionId) (x : Transition) → newest (at_registry f c) t ≡ Some x → same_code t.code c ≡ false → x.new ≡ Completed → AgreedTransfer scheme f c t x
-  transfer c t x last foreign done =
-      elim (known scheme c (f (Registry c)) (causal.made (Registry c)) t x last foreign) [
-        | inl e ↦ let y : Completed ≡ Cancelled = sym done ∙ e.0 in absurd (cc (y))
-        | inr k ↦
-            let o = log_has c t k.content k.got in
-            let p = proposer_of scheme (f Itl) (causal.made Itl) t o.0 k.content o.1 o.2 in
-            let content : p.content ≡ k.content = one_some p.content k.content (sym p.is ∙ o.2) in
-            let i = initiator_has t p.content p.got in
-            record { content = k.content; is = k.is; here = k.here; initiator = i.0; newest_there = i.1; content_there = i.2 ∙ ap Some content; member_there = p.initiator_known }
-      ]
+module _ {trusted : Node → Bool} (scheme : Scheme) (f : Node → List Entry) (causal : CausalAmong trusted scheme f) (log : trusted Itl ≡ true) where
+  -- what was offered by the log, it has with that content
+  pub log_has : (c : Code) (t : TransactionId) (k : Content) → Offered (f (Registry c)) Itl t proposal.Checked k → (y : Transition) × (newest (transitions_of (f Itl)) t ≡ Some y) × (y.content ≡ Some k)
+  log_has c t k got =
+      let o = log_offered scheme (f Itl) (causal.made Itl) got.proposal (offered_sent scheme f causal (Registry c) Itl t proposal.Checked k log got) in
+      (o.0, subst (λ z. newest (transitions_of (f Itl)) z ≡ Some o.0) got.about o.1, o.2 ∙ ap Some got.content)
 
   -- the log completed what an acquirer completed
   pub log_completed : (c : Code) (x : Transition) → In x (at_registry f c) → x.new ≡ Completed → same_code x.id.code c ≡ false → (y : Transition) × (newest (transitions_of (f Itl)) x.id ≡ Some y) × (y.new ≡ Completed)
   log_completed c x i done foreign =
       let last = ends_last scheme c (f (Registry c)) (causal.made (Registry c)) x i done in
       let heard = subst (Cause c (f (Registry c)) x.id) done (told scheme c (f (Registry c)) (causal.made (Registry c)) x.id x last foreign) in
-      let l = log_said scheme f causal (Registry c) x.id Completed heard in (
+      let l = log_said scheme f causal log (Registry c) x.id Completed heard in (
         l.0,
         l.1,
         elim l.2 [
@@ -136,12 +123,25 @@ module _ (scheme : Scheme) (f : Node → List Entry) (causal : Causal scheme f) 
         ],
       )
 
-  -- and so did its initiator
+module _ (scheme : Scheme) (f : Node → List Entry) (causal : Causal scheme f) where
+  pub transfer : (c : Code) (t : TransactionId) (x : Transition) → newest (at_registry f c) t ≡ Some x → same_code t.code c ≡ false → x.new ≡ Completed → AgreedTransfer scheme f c t x
+  transfer c t x last foreign done =
+      elim (known scheme c (f (Registry c)) (causal.made (Registry c)) t x last foreign) [
+        | inl e ↦ let y : Completed ≡ Cancelled = sym done ∙ e.0 in absurd (cc (y))
+        | inr k ↦
+            let o = log_has scheme f causal refl c t k.content k.got in
+            let p = proposer_of scheme (f Itl) (causal.made Itl) t o.0 k.content o.1 o.2 in
+            let content : p.content ≡ k.content = one_some p.content k.content (sym p.is ∙ o.2) in
+            let i = initiator_has scheme f causal t p.content refl p.got in
+            record { content = k.content; is = k.is; here = k.here; initiator = i.0; newest_there = i.1; content_there = i.2 ∙ ap Some content; member_there = p.initiator_known }
+      ]
+
+  -- what an acquirer completed, its initiator completed
   pub initiator_completed : (c : Code) (x : Transition) → In x (at_registry f c) → x.new ≡ Completed → same_code x.id.code c ≡ false
       → (q : Transition) × In q (at_registry f x.id.code) × (q.id ≡ x.id) × (q.new ≡ Completed)
   initiator_completed c x i done foreign =
       let d = x.id.code in
-      let l = log_completed c x i done foreign in
+      let l = log_completed scheme f causal refl c x i done foreign in
       let heard = (proposer scheme (f Itl) (causal.made Itl) x.id l.0 l.1 (λ e. let y : Completed ≡ Cancelled = sym l.2 ∙ e in cc (y))).ended l.2 in
-      let q = completed_sent scheme d (f (Registry d)) (causal.made (Registry d)) heard.notification (heard_sent scheme f causal Itl (Registry d) x.id Completed heard) heard.told in
+      let q = completed_sent scheme d (f (Registry d)) (causal.made (Registry d)) heard.notification (heard_sent scheme f causal Itl (Registry d) x.id Completed refl heard) heard.told in
       (q.0, q.1, q.2 ∙ heard.about, q.3)

@@ -1,8 +1,8 @@
--- What the initiator of a transfer recorded, given that the log knows the transfer. The log heard a proposal of
+-- What a trusted initiator of a transfer recorded, given that the log knows the transfer. The log heard a proposal of
 -- the transfer, the proposal was sent, and who sends a proposal has recorded it with the same content for good. So
 -- the initiator has a newest transition of the transfer, and its content is the one at the log.
 use Rattle.protocol.specs.Claims.{at_registry}
-use Rattle.std.proofs.Common.{◌≡◌, List, [], ◌∷◌, true, false, Some, inl, inr, refl, sym, ap, subst, ◌∙◌}
+use Rattle.std.proofs.Common.{◌≡◌, List, [], ◌∷◌, Bool, true, false, Some, inl, inr, refl, sym, ap, subst, ◌∙◌}
 use Rattle.units.proofs.Same.{same_code-refl}
 use Rattle.units.specs.Code.{same_code}
 use Rattle.units.specs.declared.code.Node.{Node}
@@ -13,7 +13,7 @@ use Rattle.status.specs.declared.status.Status.TheVariants.{Completed}
 use Rattle.protocol.proofs.MessageForms as message
 use Rattle.scheme.specs.declared.registries.Scheme.{Scheme}
 use Rattle.protocol.specs.History.{Transition, Entry, transitions_of, newest, sends}
-use Rattle.safety.proofs.AgreementOfNodes.CausalHistories.{Causal, heard_sent}
+use Rattle.safety.proofs.AgreementOfNodes.CausalHistories.{CausalAmong, heard_sent}
 use Rattle.safety.proofs.AgreementOfNodes.CompletionsAgree.{initiator_has}
 use Rattle.safety.proofs.OneRegistry.TransactionEnds.{ends_last, own_contents, completed_sent, proposer, proposer_or_none, proposer_unless, Forestalled}
 use Rattle.safety.proofs.OneRegistry.RegistrySendings.{asked_known}
@@ -64,29 +64,29 @@ pub record Initiated (f : Node → List Entry) (t : TransactionId) : Type 0 wher
   pub content : Content
   pub known : last.content ≡ Some content
 
-module _ (scheme : Scheme) (f : Node → List Entry) (causal : Causal scheme f) where
+module _ {trusted : Node → Bool} (scheme : Scheme) (f : Node → List Entry) (causal : CausalAmong trusted scheme f) where
   -- what the log has a record of, its initiator proposed
-  pub initiated : (t : TransactionId) (x : Transition) → newest (transitions_of (f Itl)) t ≡ Some x → Initiated f t
-  initiated t x h =
+  pub initiated : (t : TransactionId) (x : Transition) → trusted (Registry t.code) ≡ true → newest (transitions_of (f Itl)) t ≡ Some x → Initiated f t
+  initiated t x trust h =
       elim (proposer_or_none scheme (f Itl) (causal.made Itl) t x h) [
         | inl b ↦
             let d = t.code in
             let es = f (Registry d) in
-            let sent = subst (λ m. In (message.request b.request) (sends (f m))) b.sender (causal.sent Itl (message.request b.request) b.got) in
+            let sent = subst (λ m. In (message.request b.request) (sends (f m))) b.sender (causal.sent Itl (message.request b.request) b.got (subst (λ z. trusted z ≡ true) (sym b.sender) trust)) in
             let o = asked_known scheme d es (causal.made (Registry d)) b.request sent in
             let last : newest (transitions_of es) t ≡ Some o.0 = subst (λ z. newest (transitions_of es) z ≡ Some o.0) b.about o.1 in
             let id = newest_id (transitions_of es) t o.0 last in
             let mine = own_contents scheme d es (causal.made (Registry d)) o.0 id.0 (subst (λ (z : TransactionId). same_code z.code d ≡ true) (sym id.1) (same_code-refl d)) in
             record { last = o.0; is = last; content = mine.content; known = mine.is }
-        | inr p ↦ let o = initiator_has scheme f causal t p.content p.got in record { last = o.0; is = o.1; content = p.content; known = o.2 }
+        | inr p ↦ let o = initiator_has scheme f causal t p.content trust p.got in record { last = o.0; is = o.1; content = p.content; known = o.2 }
       ]
 
-  pub begun : (t : TransactionId) (x : Transition) → newest (transitions_of (f Itl)) t ≡ Some x → (Forestalled (f Itl) t x → ⊥) → Begun f t x
-  begun t x h other =
+  pub begun : (t : TransactionId) (x : Transition) → trusted (Registry t.code) ≡ true → newest (transitions_of (f Itl)) t ≡ Some x → (Forestalled (f Itl) t x → ⊥) → Begun f t x
+  begun t x trust h other =
       let d = t.code in
       let es = f (Registry d) in
       let p = proposer_unless scheme (f Itl) (causal.made Itl) t x h other in
-      let o = initiator_has scheme f causal t p.content p.got in
+      let o = initiator_has scheme f causal t p.content trust p.got in
       let id = newest_id (transitions_of es) t o.0 o.1 in
       let own : same_code o.0.id.code d ≡ true = subst (λ (z : TransactionId). same_code z.code d ≡ true) (sym id.1) (same_code-refl d) in
       let mine = own_contents scheme d es (causal.made (Registry d)) o.0 id.0 own in
@@ -101,7 +101,7 @@ module _ (scheme : Scheme) (f : Node → List Entry) (causal : Causal scheme f) 
         acquirer_other = subst (λ (z : Content). same_code z.acquirer d ≡ false) same mine.acquirer_other;
         ended = λ done.
             let g = p.ended done in
-            let q = completed_sent scheme d es (causal.made (Registry d)) g.notification (heard_sent scheme f causal Itl (Registry d) t Completed g) g.told in
+            let q = completed_sent scheme d es (causal.made (Registry d)) g.notification (heard_sent scheme f causal Itl (Registry d) t Completed trust g) g.told in
             let last : newest (transitions_of es) t ≡ Some q.0 = subst (λ z. newest (transitions_of es) z ≡ Some q.0) (q.2 ∙ g.about) (ends_last scheme d es (causal.made (Registry d)) q.0 q.1 q.3) in
             ap (λ (z : Transition). z.new) (one_some o.0 q.0 (sym o.1 ∙ last)) ∙ q.3;
       }

@@ -1,7 +1,7 @@
 -- The log finds nothing in a proposal that was sent, but that a registry is not eligible. As long as the log does not
 -- know the proposal, its initiator has had no answer, and so the transfer still waits there and its units are held.
 -- Each of the other six findings is then refuted: the acquirer is a registry of the scheme, the units are allotted,
--- they are the initiator's in the log's book (`HoldersInLog`), each is there once and of its kind (`KindsOfOffers`),
+-- they are the initiator's in the log's book (`AccountedUnits`), each is there once and of its kind (`KindsOfOffers`),
 -- and none is under way. A unit that is under way by another transfer would have a second owner, or wait twice at one
 -- registry.
 use Rattle.units.specs.Unit.{have_unit}
@@ -32,7 +32,7 @@ use Rattle.protocol.specs.Owner.{At, Owns}
 use Rattle.protocol.specs.Pieces.{Piece, pieces}
 use Rattle.protocol.specs.Registries.{allotted, has_member}
 use Rattle.safety.proofs.AgreementOfNodes.InitiatorRecords.{Begun, begun, log_one_content}
-use Rattle.safety.proofs.OwnersOfUnits.HoldersInLog.{holder_is_owner}
+use Rattle.safety.proofs.OwnersOfUnits.AccountedUnits.{holder_is_owner}
 use Rattle.safety.proofs.AgreementOfNodes.CausalHistories.{Causal, log_said}
 use Rattle.safety.proofs.AgreementOfNodes.CompletionsAgree.{stood, log_completed}
 use Rattle.units.proofs.Lists.SomePass.{list_any_not}
@@ -124,7 +124,7 @@ module _ (scheme : Scheme) (f : Node → List Entry) (causal : Causal scheme f) 
       let l = local_history scheme c s (f (Registry c)) (causal.made (Registry c)) in
       let k = l.kept t w in
       let h = l.high in (
-        registry_known scheme f causal unplaced c t w.last w.is,
+        registry_known scheme f unplaced c t w.last w.is,
         eq-eqb (at_start scheme c s + count_by (credits c s) (at_registry f c)) (count_by (gives c s) (at_registry f c) + 1) (omega arith),
       )
 
@@ -137,7 +137,7 @@ module _ (scheme : Scheme) (f : Node → List Entry) (causal : Causal scheme f) 
         is = o.1;
         new = elim (told_own scheme c (f (Registry c)) (causal.made (Registry c)) p.id o.0 o.1 o.3) [
           | inl e ↦ e
-          | inr g ↦ let l = log_said scheme f causal (Registry c) p.id (word_to o.0.new) g in let e = sym none ∙ l.1 in absurd (cc (e))
+          | inr g ↦ let l = log_said scheme f causal refl (Registry c) p.id (word_to o.0.new) g in let e = sym none ∙ l.1 in absurd (cc (e))
         ];
         own = o.3;
         has = subst (λ z. has_serial z s ≡ true) (sym o.2) has;
@@ -153,7 +153,7 @@ module _ (scheme : Scheme) (f : Node → List Entry) (causal : Causal scheme f) 
             let id = newest_id (at_registry f a) u q.0 q.1 in
             let foreign : same_code q.0.id.code a ≡ false =
             subst (λ (z : TransactionId). same_code z.code a ≡ false) (sym id.1) (other_code u.code a (λ e. codes_differ a u.code b.acquirer_other (sym e))) in
-            let k = log_completed scheme f causal a q.0 id.0 q.2 foreign in
+            let k = log_completed scheme f causal refl a q.0 id.0 q.2 foreign in
             let same : k.0 ≡ x = one_some k.0 x (sym (subst (λ z. newest (transitions_of (f Itl)) z ≡ Some k.0) id.1 k.1) ∙ last) in
             absurd (subst IsBusy (ap (λ (z : Transition). z.new) (sym same) ∙ k.2) under)
         | inr n ↦ n
@@ -163,7 +163,7 @@ module _ (scheme : Scheme) (f : Node → List Entry) (causal : Causal scheme f) 
   not_busy : (c : Code) (t : TransactionId) (s : Serial) → newest (transitions_of (f Itl)) t ≡ None → Waits c s (at_registry f c) t
       → (u : TransactionId) (x : Transition) → newest (transitions_of (f Itl)) u ≡ Some x → IsBusy x.new → has_serial x.content s ≡ true → ⊥
   not_busy c t s none w u x last under has =
-      let b = begun scheme f causal u x last (λ z. subst IsBusy z.new under) in
+      let b = begun scheme f causal u x refl last (λ z. subst IsBusy z.new under) in
       let d = u.code in
       let es = f (Registry d) in
       let has_there : carries b.last s ≡ true = subst (λ z. has_serial z s ≡ true) (b.known ∙ sym b.there) has in
@@ -175,7 +175,7 @@ module _ (scheme : Scheme) (f : Node → List Entry) (causal : Causal scheme f) 
             let e = sym none ∙ ap (newest (transitions_of (f Itl))) one ∙ last in
             cc (e)
         | inr g ↦
-            let l = log_said scheme f causal (Registry d) u (word_to b.last.new) g in
+            let l = log_said scheme f causal refl (Registry d) u (word_to b.last.new) g in
             let same : l.0 ≡ x = one_some l.0 x (sym l.1 ∙ last) in
             let said = subst (λ (z : Transition). (z.new ≡ word_to b.last.new) ⊎ ((word_to b.last.new ≡ Accepted) × (z.new ≡ Completed))) same l.2 in
             let done = busy_completed b.last.new x.new (own_statuses scheme d es (causal.made (Registry d)) b.last (newest_id (transitions_of es) u b.last b.is).0 b.own) under said in
@@ -215,7 +215,7 @@ module _ (scheme : Scheme) (f : Node → List Entry) (causal : Causal scheme f) 
       let in_scheme = list_any_not (λ (q : Piece). is_none (allotted scheme q.unit)) (pieces k.units) (λ q j e.
       (causal_one_owner scheme f causal).none q.unit (At c) (none_some (allotted scheme q.unit) e) (owns q j)) in
       let owned = list_any_not (λ (q : Piece). is_of_another (allotted scheme q.unit) (known.owner q.unit) p.id.code) (pieces k.units) (λ q j e.
-      let book = holder_is_owner scheme f causal q.unit c (owns q j).1 in
+      let book = holder_is_owner scheme f causal refl c refl q.unit (owns q j).1 in
       let mine : is_owner (known.owner q.unit) p.id.code ≡ true = subst (λ w. is_owner w p.id.code ≡ true) (sym book) (subst (λ z. same_code c z ≡ true) (sym code) (same_code-refl c)) in
       clash (is_of_another (allotted scheme q.unit) (known.owner q.unit) p.id.code) e (of_initiator (allotted scheme q.unit) (known.owner q.unit) p.id.code mine)) in
       let free = list_any_not (λ (q : Piece). known.is_busy q.unit) (pieces k.units) (λ q j e. clash (known.is_busy q.unit) e (free_at_log c p.id q.unit none (waits q j))) in

@@ -26,8 +26,8 @@ use Rattle.protocol.specs.History.{Transition, Entry, Position, transitions_of, 
 use Rattle.protocol.specs.Pieces.{Piece, pieces, pieces_of, repeats}
 use Rattle.protocol.specs.Registries.{allotted}
 use Rattle.protocol.proofs.CanonicalBlocks.{canonical_no_repeats, canonical_from}
-use Rattle.safety.proofs.AgreementOfNodes.CausalHistories.{Causal}
-use Rattle.safety.proofs.AgreementOfNodes.CompletionsAgree.{credited, offered_sent}
+use Rattle.safety.proofs.AgreementOfNodes.CausalHistories.{Causal, offered_sent}
+use Rattle.safety.proofs.AgreementOfNodes.CompletionsAgree.{credited}
 use Rattle.units.proofs.Lists.SomePass.{list_any_none}
 use Rattle.safety.proofs.OneRegistry.TransactionEnds.{ends_last, known, concluded_offers}
 use Rattle.safety.proofs.OneLog.LogSendings.{is_of_other_kind, passed_on}
@@ -147,6 +147,6 @@ pub sound_offer : (scheme : Scheme) (f : Node → List Entry) → Causal scheme 
 sound_offer scheme f causal c p h =
     offers_sound scheme c (f (Registry c)) (causal.made (Registry c))
     (λ t k got q i.
-    let facts = passed_on scheme (f Itl) (causal.made Itl) got.proposal (offered_sent scheme f causal (Registry c) Itl t proposal.Checked k got) in
+    let facts = passed_on scheme (f Itl) (causal.made Itl) got.proposal (offered_sent scheme f causal (Registry c) Itl t proposal.Checked k refl got) in
     list_any_none (is_of_other_kind scheme) (pieces got.proposal.content.units) q facts.kinds (subst (λ (z : Content). In q (pieces z.units)) (sym got.content) i))
     p h

@@ -47,7 +47,7 @@ use Rattle.safety.proofs.MovesAndHistories.TableMoves.{LogMove, checks, passes, 
 use Rattle.safety.proofs.WorldLemmas.NodesWithStation.{AllPlaced, step_placed, opening_placed, live_unplaced, take_node, commit_node, crash_node, restart_node}
 use Rattle.units.proofs.Lists.Positions.{In_contains}
 use Rattle.safety.proofs.WorldLemmas.ReachedWorlds.{reached}
-use Rattle.safety.proofs.WorldLemmas.SoundWorlds.{Sound, step_sound, opening_sound, order_fair, no_journal, live_causal, live_sends}
+use Rattle.safety.proofs.WorldLemmas.SoundWorlds.{Sound, step_sound, opening_sound, order_is_no_message, no_journal, live_causal, live_sends}
 use Rattle.safety.proofs.WorldLemmas.StationsAfterPut.{found_at_node, at_put, at_elsewhere}
 use Rattle.safety.proofs.MovesAndHistories.TableRows.{log_from}
 
@@ -209,10 +209,10 @@ module _ (w : World) (sound : Sound w) (placed : AllPlaced w) (old : AllFair (li
   deliver_fair moment None there = old
   deliver_fair moment (Some p) there =
       take_fair p.message.to (Received p.message moment)
-      (λ m at e. subst (λ z. In z (sends (committed_of w z.from))) (one_message p.message m moment at e) (sound.posted p (there p refl)))
+      (λ m at e. subst (λ z. In z (sends (committed_of w z.from))) (one_message p.message m moment at e) (sound.posted p (there p refl) refl))
 
   ordered_fair : (n : Node) (i : Input) (b : Bool) → is_order w n i ≡ b → AllFair (live_of (cond b (at_node w (station w n) (take_input w.scheme i)) (stays w NotPossible)).world Itl)
-  ordered_fair n i true order = take_fair n i (order_fair w n i order)
+  ordered_fair n i true order = take_fair n i (λ m at e. absurd (order_is_no_message w n i order m at e))
   ordered_fair n i false order = old
 
   step_fair : (e : WorldEvent) → AllFair (live_of (step w e).world Itl)

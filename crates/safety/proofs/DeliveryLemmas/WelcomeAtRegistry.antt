@@ -2,8 +2,8 @@
 -- the initiator or the acquirer of a content that it knows, and the causes about addresses are refuted by
 -- `LogSendings`. For the table, the notifications of the log about one transfer are compared: an addressee at an end
 -- was notified of it before, and the log does not send two different ends. A completed unit is not held by the
--- acquirer, since it has one owner: the transfer that owes it.
-use Rattle.std.proofs.Common.{◌≡◌, ℕ, List, [], true, false, not, Option, Some, None, ◌⊎◌, inl, inr, refl, sym, ap, subst, ◌∙◌}
+-- acquirer, since it is coming (`AccountedUnits`).
+use Rattle.std.proofs.Common.{◌≡◌, ℕ, List, [], Bool, true, false, not, Option, Some, None, ◌⊎◌, inl, inr, refl, sym, ap, subst, ◌∙◌}
 use Rattle.std.specs.Prelude.{◌&&◌, option_map}
 use Rattle.std.proofs.lemmas.Bool.{and_from, and_left, and_right, or_from, not_from_true, cases_Bool}
 use Rattle.units.proofs.Same.{same_code-refl}
@@ -36,23 +36,23 @@ use Rattle.protocol.specs.Deciding.{Verdict, content_in, by_row, known as known_
 use Rattle.protocol.specs.Effects.{acquirer_sends}
 use Rattle.protocol.specs.Checks.{acquirer_findings}
 use Rattle.std.specs.Option.{option_map_or}
-use Rattle.protocol.specs.Claims.{at_registry, is_received}
+use Rattle.protocol.specs.Claims.{at_registry}
 use Rattle.protocol.specs.Deciding.{recorded_if_room}
-use Rattle.protocol.specs.History.{Transition, Entry, transitions_of, newest, is_status, is_known, stands_at, sends, holds, has_serial}
-use Rattle.protocol.specs.Owner.{Owing}
+use Rattle.protocol.specs.History.{Transition, Entry, transitions_of, newest, is_status, is_known, stands_at, sends, holds, has_serial, carries}
 use Rattle.protocol.specs.Pieces.{Piece, pieces, repeats}
 use Rattle.protocol.specs.Registries.{has_member}
+use Rattle.safety.specs.Trust.{brings, brings_to}
 use Rattle.safety.proofs.AgreementOfNodes.InitiatorRecords.{begun, initiated}
-use Rattle.safety.proofs.AgreementOfNodes.CausalHistories.{Causal, heard_sent, log_said, past_transition}
-use Rattle.safety.proofs.AgreementOfNodes.CompletionsAgree.{log_has}
+use Rattle.safety.proofs.AgreementOfNodes.CausalHistories.{CausalAmong, heard_sent, log_said, past_transition}
+use Rattle.safety.proofs.AgreementOfNodes.CompletionsAgree.{done_status, log_has}
 use Rattle.units.proofs.Lists.SomePass.{list_any_not}
 use Rattle.safety.proofs.OneRegistry.TransactionEnds.{known}
 use Rattle.safety.proofs.OneLog.LogSendings.{no_request, passed_on, goes, ToKnown, never_proposed}
 use Rattle.safety.proofs.MovesAndHistories.NewestTransitions.{newest_id}
 use Rattle.units.proofs.Lists.Membership.{In}
-use Rattle.units.proofs.Lists.OneValue.{one_some}
+use Rattle.units.proofs.Lists.OneValue.{one_some, clash}
 use Rattle.safety.proofs.ListLemmas.TestsOfSameness.{codes_differ, other_code}
-use Rattle.safety.proofs.OwnersOfUnits.UnitsWithOneOwner.{held_or_owed}
+use Rattle.safety.proofs.OwnersOfUnits.AccountedUnits.{coming_not_held}
 use Rattle.safety.proofs.OneRegistry.InitiatorStatuses.{IsOwnStatus, own_statuses}
 use Rattle.safety.proofs.MovesAndHistories.TableRows.{known_status, acquirer_offer_row, unless_same}
 use Rattle.safety.proofs.MovesAndHistories.RefusalCauses.{welcome_row, Welcome, welcome_refuse, welcome_true, welcome_false, right_node, known_by_newest, no_other}
@@ -124,16 +124,16 @@ taken_known : (o : Option Transition) → IsTaken o → (x : Transition) × (o �
 taken_known None h = absurd h
 taken_known (Some x) h = (x, refl)
 
-module _ (scheme : Scheme) (f : Node → List Entry) (causal : Causal scheme f) (unplaced : Unplaced scheme f) where
-  -- a registry with a history is one of the scheme's
-  pub registry_known : (c : Code) (t : TransactionId) (x : Transition) → newest (at_registry f c) t ≡ Some x → has_member scheme c ≡ true
-  registry_known c t x h =
-      elim (cases_Bool (has_member scheme c)) [
-        | inl y ↦ y
-        | inr n ↦ let e = subst (λ (es : List Entry). newest (transitions_of es) t ≡ Some x) (unplaced (Registry c) n) h in absurd (cc (e))
-      ]
+-- a registry with a history is one of the scheme's
+pub registry_known : (scheme : Scheme) (f : Node → List Entry) → Unplaced scheme f → (c : Code) (t : TransactionId) (x : Transition) → newest (at_registry f c) t ≡ Some x → has_member scheme c ≡ true
+registry_known scheme f unplaced c t x h =
+    elim (cases_Bool (has_member scheme c)) [
+      | inl y ↦ y
+      | inr n ↦ let e = subst (λ (es : List Entry). newest (transitions_of es) t ≡ Some x) (unplaced (Registry c) n) h in absurd (cc (e))
+    ]
 
-  module _ (c : Code) where
+module _ {trusted : Node → Bool} (scheme : Scheme) (f : Node → List Entry) (causal : CausalAmong trusted scheme f) (log : trusted Itl ≡ true) where
+  module _ (c : Code) (trust : trusted (Registry c) ≡ true) where
     abbrev here : List Entry
     here = f (Registry c)
 
@@ -156,7 +156,7 @@ module _ (scheme : Scheme) (f : Node → List Entry) (causal : Causal scheme f) 
                 no_other (newest (transitions_of here) p.id) p.content (λ x e. elim (known scheme c here (causal.made (Registry c)) p.id x e foreign) [
                   | inl z ↦ inl z.1
                   | inr z ↦
-                      let l = log_has scheme f causal c p.id z.content z.got in
+                      let l = log_has scheme f causal log c p.id z.content z.got in
                       let same : l.0 ≡ o.0 = one_some l.0 o.0 (sym l.1 ∙ o.1) in
                       inr (z.is ∙ sym l.2 ∙ ap (λ (w : Transition). w.content) same ∙ o.2)
                 ]),
@@ -186,7 +186,7 @@ module _ (scheme : Scheme) (f : Node → List Entry) (causal : Causal scheme f) 
         let s = notified_status n.notified in
         let past = log_sent scheme (f Itl) (causal.made Itl) n h in
         let l = past_transition s (newest (transitions_of (f Itl)) n.id) past.0 in
-        let b = initiated scheme f causal n.id l.0 l.1 in
+        let b = initiated scheme f causal n.id l.0 (subst (λ z. trusted (Registry z) ≡ true) (sym code) trust) l.1 in
         let x = b.last in
         let last : newest (transitions_of here) n.id ≡ Some x = subst (λ z. newest (at_registry f z) n.id ≡ Some x) code b.is in
         let own : same_code n.id.code c ≡ true = subst (λ z. same_code n.id.code z ≡ true) code (same_code-refl n.id.code) in
@@ -195,7 +195,7 @@ module _ (scheme : Scheme) (f : Node → List Entry) (causal : Causal scheme f) 
         let word : (x.new ≡ Proposed) ⊎ (word_to x.new ≡ s) = elim (told_own scheme c here (causal.made (Registry c)) n.id x last own) [
           | inl e ↦ inl e
           | inr g ↦
-              let k = log_said scheme f causal (Registry c) n.id (word_to x.new) g in
+              let k = log_said scheme f causal log (Registry c) n.id (word_to x.new) g in
               let same : k.0 ≡ l.0 = one_some k.0 l.0 (sym k.1 ∙ l.1) in
               let said = subst (λ (z : Transition). (z.new ≡ word_to x.new) ⊎ ((word_to x.new ≡ Accepted) × (z.new ≡ Completed))) same k.2 in
               inr (one_word x.new s l.0.new not_completed said l.2)
@@ -225,24 +225,7 @@ module _ (scheme : Scheme) (f : Node → List Entry) (causal : Causal scheme f) 
         (sym (ap (unless_held (holds_some scheme c (transitions_of here) (content_in o))) is ∙ unless_same (holds_some scheme c (transitions_of here) (content_in o)) row free))
         (welcome_row scheme here _ row h)
 
-    -- a transfer that the log completed and the acquirer did not owes its units
-    owing : (t : TransactionId) (x l : Transition) (k : Content) (s : Serial) → newest (transitions_of here) t ≡ Some x → x.new ≡ Accepted → newest (transitions_of (f Itl)) t ≡ Some l → l.new ≡ Completed → l.content ≡ Some k
-        → k.acquirer ≡ c → has_serial (Some k) s ≡ true → Owing f s t
-    owing t x l k s last accepted log_last done content mine has =
-        let b = begun scheme f causal t l log_last (λ z. let y : Completed ≡ Cancelled = sym done ∙ z.new in cc (y)) in
-        let there : b.last.content ≡ Some k = b.there ∙ sym b.known ∙ content in
-        record {
-          last = b.last;
-          is = b.is;
-          new = b.ended done;
-          has = subst (λ z. has_serial z s ≡ true) (sym there) has;
-          waits =
-              subst (λ z. is_received f t z ≡ false) (sym there)
-              (subst (λ z. stands_at (at_registry f z) t Completed ≡ false) (sym mine)
-              (subst (λ (o : Option Transition). is_status (option_map (λ (y : Transition). y.new) o) Completed ≡ false) (sym last) (subst (λ z. same_status z Completed ≡ false) (sym accepted) refl)));
-        }
-
-    -- its acquirer holds none of them
+    -- a transfer that the log completed and its acquirer did not brings units that the acquirer does not hold
     not_held : (t : TransactionId) (x l : Transition) → newest (transitions_of here) t ≡ Some x → x.new ≡ Accepted → same_code t.code c ≡ false → newest (transitions_of (f Itl)) t ≡ Some l → l.new ≡ Completed
         → holds_some scheme c (transitions_of here) x.content ≡ false
     not_held t x l last accepted foreign log_last done =
@@ -251,10 +234,18 @@ module _ (scheme : Scheme) (f : Node → List Entry) (causal : Causal scheme f) 
           | inr z ↦
               subst (λ k. holds_some scheme c (transitions_of here) k ≡ false) (sym z.is)
               (list_any_not (λ (p : Piece). holds scheme c (transitions_of here) p.unit) (pieces z.content.units) (λ p i held.
-              let o = log_has scheme f causal c t z.content z.got in
+              let o = log_has scheme f causal log c t z.content z.got in
               let content : l.content ≡ Some z.content = ap (λ (v : Transition). v.content) (one_some l o.0 (sym log_last ∙ o.1)) ∙ o.2 in
-              let owe = owing t x l z.content p.unit last accepted log_last done content z.here (covered z.content.units p i) in
-              held_or_owed scheme f causal p.unit c t (registry_known c t x last, held) owe))
+              let id = newest_id (transitions_of (f Itl)) t l log_last in
+              let at : brings_to l.content c ≡ true = subst (λ k. brings_to k c ≡ true) (sym content) (subst (λ d. same_code d c ≡ true) (sym z.here) (same_code-refl c)) in
+              let has : carries l p.unit ≡ true = subst (λ k. has_serial k p.unit ≡ true) (sym content) (covered z.content.units p i) in
+              let brought : brings c p.unit l ≡ true =
+              and_from (same_status l.new Completed) (brings_to l.content c && carries l p.unit) (done_status l done) (and_from (brings_to l.content c) (carries l p.unit) at has) in
+              let waits : stands_at (transitions_of here) l.id Completed ≡ false =
+              subst (λ (u : TransactionId). stands_at (transitions_of here) u Completed ≡ false) (sym id.1)
+              (subst (λ (o : Option Transition). is_status (option_map (λ (y : Transition). y.new) o) Completed ≡ false) (sym last) (subst (λ s. same_status s Completed ≡ false) (sym accepted) refl)) in
+              clash (holds scheme c (transitions_of here) p.unit) held
+              (coming_not_held scheme f causal log c trust p.unit l id.0 (and_from (brings c p.unit l) (not (stands_at (transitions_of here) l.id Completed)) brought (ap not waits)))))
         ]
 
     -- an acquirer that was not notified of a cancellation has the content
@@ -279,7 +270,7 @@ module _ (scheme : Scheme) (f : Node → List Entry) (causal : Causal scheme f) 
         (table_of x Completed (taken_content t x last foreign (λ d. let y : Completed ≡ Cancelled = sym e ∙ d in cc (y))) ∙ ap (λ z. acquirer_row (Stands z) (Notified Completed)) e) (λ h. cc (h)) (λ h. absurd (cc (h)))
     told_completed t l x moment foreign log_last done last (inr (inr e)) =
         let p = subst (Cause c here t) e (told scheme c here (causal.made (Registry c)) t x last foreign) in
-        let k = log_said scheme f causal (Registry c) t Cancelled p in
+        let k = log_said scheme f causal log (Registry c) t Cancelled p in
         let same : k.0 ≡ l = one_some k.0 l (sym k.1 ∙ log_last) in
         absurd (elim k.2 [
           | inl d ↦ let y : Cancelled ≡ Completed = sym d ∙ ap (λ (z : Transition). z.new) same ∙ done in cc (y)
@@ -303,7 +294,7 @@ module _ (scheme : Scheme) (f : Node → List Entry) (causal : Causal scheme f) 
         go Cancelled row h = welcome_finish t (Some x) moment Cancelled Repeat row (λ e. cc (e)) (λ e. absurd (cc (e)))
         go Rejected row h = welcome_finish t (Some x) moment Cancelled Late row (λ e. cc (e)) (λ e. absurd (cc (e)))
         go Completed row h =
-            let k = log_said scheme f causal (Registry c) t Completed h in
+            let k = log_said scheme f causal log (Registry c) t Completed h in
             let same : k.0 ≡ l = one_some k.0 l (sym k.1 ∙ log_last) in
             let ended : k.0.new ≡ Completed = elim k.2 [
               | inl d ↦ d
@@ -325,10 +316,11 @@ module _ (scheme : Scheme) (f : Node → List Entry) (causal : Causal scheme f) 
         let past = past_transition s (newest (transitions_of (f Itl)) t) (log_sent scheme (f Itl) (causal.made Itl) n h).0 in
         let same : past.0 ≡ l = one_some past.0 l (sym past.1 ∙ g.is) in
         let stood = subst (λ (z : Transition). (z.new ≡ s) ⊎ ((s ≡ Accepted) × (z.new ≡ Completed))) same past.2 in
-        let b = begun scheme f causal t l g.is (λ z. let y = sym g.goes.known ∙ z.content in cc (y)) in
-        let content : b.content ≡ k = one_some b.content k (sym b.known ∙ g.goes.known) in
         let foreign : same_code t.code c ≡ false =
-        other_code t.code c (λ e. codes_differ b.content.acquirer t.code b.acquirer_other (ap (λ (z : Content). z.acquirer) content ∙ mine ∙ sym e)) in
+        other_code t.code c (λ e.
+        let b = begun scheme f causal t l (subst (λ z. trusted (Registry z) ≡ true) (sym e) trust) g.is (λ z. let y = sym g.goes.known ∙ z.content in cc (y)) in
+        let content : b.content ≡ k = one_some b.content k (sym b.known ∙ g.goes.known) in
+        codes_differ b.content.acquirer t.code b.acquirer_other (ap (λ (z : Content). z.acquirer) content ∙ mine ∙ sym e)) in
         elim g.goes.said [
           | inl e ↦
               let done : l.new ≡ Completed = elim stood [
@@ -337,7 +329,7 @@ module _ (scheme : Scheme) (f : Node → List Entry) (causal : Causal scheme f) 
               ] in
               let a = log_backed scheme (f Itl) (causal.made Itl) t l g.is (subst IsAgreed (sym done) tt) in
               let who : a.content.acquirer ≡ c = ap (λ (z : Content). z.acquirer) (one_some a.content k (sym a.known ∙ g.goes.known)) ∙ mine in
-              let accepted = subst (λ z. In (message.notification a.heard.notification) (sends (f (Registry z)))) who (heard_sent scheme f causal Itl (Registry a.content.acquirer) t Accepted a.heard) in
+              let accepted = subst (λ z. In (message.notification a.heard.notification) (sends (f (Registry z)))) who (heard_sent scheme f causal Itl (Registry a.content.acquirer) t Accepted (subst (λ z. trusted (Registry z) ≡ true) (sym who) trust) a.heard) in
               let taken = subst (λ z. IsTaken (newest (transitions_of here) z)) a.heard.about (accepted_sent scheme c here (causal.made (Registry c)) a.heard.notification accepted a.heard.told).1 in
               let x = taken_known (newest (transitions_of here) t) taken in
               notified_welcome n moment h to (and_left (not (is_known (transitions_of here) t)) _ (known_by_newest (transitions_of here) t x.0 x.1))

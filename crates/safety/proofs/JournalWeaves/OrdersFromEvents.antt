@@ -170,7 +170,7 @@ module _ (w : World) (sound : Sound w) (o : Ordered w) (n : Node) (s : Station) 
     sent_each = λ m moment i.
         sound.caused n m
         (subst (λ z. Got (history w.scheme n (whole z)) m) (sym is)
-        (got_in w.scheme n [] (journal s) m moment (In_right (Received m moment) s.committed s.tail (In_take count s.tail (Received m moment) i))));
+        (got_in w.scheme n [] (journal s) m moment (In_right (Received m moment) s.committed s.tail (In_take count s.tail (Received m moment) i)))) refl;
     committed = refl;
     waits = keep;
   }

@@ -31,6 +31,7 @@ use Rattle.protocol.specs.History.{Transition, Entry, transitions_of, newest, st
 use Rattle.protocol.specs.Pieces.{Piece, pieces}
 use Rattle.protocol.specs.Registries.{allotted}
 use Rattle.protocol.specs.Verdict.{verdict, transitions_made as made_of, extend, history_from, history}
+use Rattle.safety.specs.Trust.{brings, brings_to}
 use Rattle.safety.proofs.MovesAndHistories.TransitionForms.{checked, checked_status, told_to, moved}
 use Rattle.units.proofs.Lists.NoRepeats.{NoRepeat}
 use Rattle.units.proofs.Lists.SomePass.{list_any_none, list_any_in}
@@ -58,14 +59,6 @@ pub record Busy (s : Serial) (xs : List Transition) (t : TransactionId) : Type 0
   pub is : newest xs t ≡ Some last
   pub new : IsBusy last.new
   pub has : carries last s ≡ true
-
--- a transition that brings the unit to a registry in the book
-abbrev pub brings_to : Option Content → Code → Bool
-brings_to None c = false
-brings_to (Some k) c = same_code k.acquirer c
-
-abbrev pub brings : Code → Serial → Transition → Bool
-brings c s x = same_status x.new Completed && (brings_to x.content c && carries x s)
 
 -- the book has a unit under way with its initiator, it is under way once, and the book's owner is who it was brought
 -- to and not moved away from

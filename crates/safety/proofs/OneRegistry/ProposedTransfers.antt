@@ -28,7 +28,7 @@ use Rattle.safety.proofs.MovesAndHistories.TableMoves.{RegistryMove, proposes, a
 use Rattle.safety.proofs.MovesAndHistories.TransitionForms.{concluded_messages}
 use Rattle.safety.proofs.OneRegistry.TransactionEnds.{offered, own_about}
 use Rattle.safety.proofs.OneRegistry.UnitsCountedOnce.{made_single}
-use Rattle.safety.proofs.WayToRest.SentByTransitions.{transition_sends}
+use Rattle.safety.proofs.OneTransfer.SentByTransitions.{transition_sends}
 
 -- ---- the transfers that messages propose
 

@@ -95,11 +95,11 @@ module _ (scheme : Scheme) (f g : Node → List Entry) (cf : Causal scheme f) (c
       let out = given c s x h in
       let own = code_of_same x.id.code c out.1 in
       let last = ends_last scheme c (g (Registry c)) (cg.made (Registry c)) x (new_in c x at i) out.0 in
-      let agrees = completed_agrees scheme g cg (Registry c) x.id (stands_so (at_registry g c) x.id x Completed last out.0) in
+      let agrees = completed_agrees scheme g cg refl (Registry c) x.id (stands_so (at_registry g c) x.id x Completed last out.0) in
       let log : g Itl ≡ f Itl = elsewhere Itl (subst (λ z. same_node z Itl ≡ false) (sym at) refl) in
       let p = proposer scheme (g Itl) (cg.made Itl) x.id agrees.0 agrees.1 (λ e. subst IsAgreed e agrees.2) in
-      let before = initiator_has scheme f cf x.id p.content (subst (λ (es : List Entry). Offered es (Registry x.id.code) x.id proposal.Proposed p.content) log p.got) in
-      let after = initiator_has scheme g cg x.id p.content p.got in
+      let before = initiator_has scheme f cf x.id p.content refl (subst (λ (es : List Entry). Offered es (Registry x.id.code) x.id proposal.Proposed p.content) log p.got) in
+      let after = initiator_has scheme g cg x.id p.content refl p.got in
       let was : newest (at_registry f c) x.id ≡ Some before.0 = subst (λ z. newest (at_registry f z) x.id ≡ Some before.0) own before.1 in
       let is : newest (at_registry g c) x.id ≡ Some after.0 = subst (λ z. newest (at_registry g z) x.id ≡ Some after.0) own after.1 in
       let same : after.0 ≡ x = one_some after.0 x (sym is ∙ last) in
@@ -113,7 +113,7 @@ module _ (scheme : Scheme) (f g : Node → List Entry) (cf : Causal scheme f) (c
         is = was;
         new =
             still_proposed before.0.new (own_statuses scheme c (f (Registry c)) (cf.made (Registry c)) before.0 id.0 mine)
-            (λ e. ended scheme f cf (Registry c) x.id agreed (elim e [
+            (λ e. ended scheme f cf refl (Registry c) x.id refl agreed (elim e [
               | inl r ↦ inl (so Rejected was r)
               | inr r ↦
                   elim r [

@@ -53,7 +53,7 @@ module _ (scheme : Scheme) (f : Node → List Entry) (causal : Causal scheme f) 
 
   initiator_is_member : (t : TransactionId) → StandsAt f (Registry t.code) t Completed → has_member scheme t.code ≡ true
   initiator_is_member t h =
-      let a = completed_agrees scheme f causal (Registry t.code) t h in
+      let a = completed_agrees scheme f causal refl (Registry t.code) t h in
       not-false (has_member scheme t.code) (proposer scheme (f Itl) (causal.made Itl) t a.0 a.1 (λ e. subst IsAgreed e a.2)).initiator_known
 
   counted : (s : Serial) (t : TransactionId) (o : Owing f s t) → Counted s t o.last

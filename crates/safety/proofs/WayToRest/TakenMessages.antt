@@ -1,40 +1,30 @@
--- In a quiet world with room, a message that moves a transfer is recorded with the transition of its table. A message
--- that was sent is refused for lack of room alone (`WelcomeMessages`), and there is room. The verdict is therefore the
--- row of the table, and the lemmas state for each kind of message and node which transition that row makes.
-use Rattle.status.specs.declared.rows.Row.{Row}
-use Rattle.safety.proofs.MovesAndHistories.NewestTransitions.{newest_id}
-use Rattle.safety.proofs.MovesAndHistories.TableRows.{known_status, unless_same}
-use Rattle.safety.proofs.MovesAndHistories.TableMoves.{concluded_transition, passed_transition, finished_transition}
-use Rattle.std.proofs.Common.{◌≡◌, ℕ, ◌+◌, ◌≤◌, List, [], ◌∷◌, true, false, Some, None, inl, inr, refl, sym, ap, subst, ◌∙◌, arith, length, Bool}
-use Rattle.std.specs.Prelude.{◌==◌, nat_le}
-use Rattle.std.proofs.lemmas.Bool.{cond-true, cond-false, cases_Bool, lt-leb, eqb-false}
+-- In a quiet world with room, a message that moves a transfer is recorded with the transition of its table: the row of
+-- `MessageRows`, and there is room.
+use Rattle.std.proofs.Common.{◌≡◌, ℕ, ◌+◌, ◌≤◌, List, [], ◌∷◌, true, false, Some, None, sym, subst, ◌∙◌, arith, length}
+use Rattle.std.specs.Prelude.{nat_le}
+use Rattle.std.proofs.lemmas.Bool.{cond-false, lt-leb}
 use Rattle.units.specs.Code.{same_code}
-use Rattle.units.specs.RefusalCodes.{no_row, journal_full}
+use Rattle.units.specs.RefusalCodes.{journal_full}
 use Rattle.units.specs.declared.code.Code.{Code}
-use Rattle.units.specs.declared.code.Node.{Node}
 use Rattle.units.specs.declared.code.Node.TheVariants.{Itl, Registry}
 use Rattle.status.specs.Content.{Content}
 use Rattle.status.specs.Rows.{initiator_row, log_row, acquirer_row}
 use Rattle.status.specs.declared.id.TransactionId.{TransactionId}
 use Rattle.status.specs.declared.moment.Moment.{Moment}
 use Rattle.status.specs.declared.rows.RecordedStatus.TheVariants.{Stands}
-use Rattle.status.specs.declared.rows.Row.TheVariants.{Move, Refused}
+use Rattle.status.specs.declared.rows.Row.TheVariants.{Move}
 use Rattle.status.specs.declared.rows.RowInput.TheVariants.{Notified}
 use Rattle.status.specs.declared.status.Status.{Status}
-use Rattle.wire.specs.NotifiedStatuses.{notified_status, notified_codes}
+use Rattle.wire.specs.NotifiedStatuses.{notified_status}
 use Rattle.wire.specs.declared.input.Input.TheVariants.{Received}
-use Rattle.wire.specs.declared.message.Message.{Message}
-use Rattle.wire.specs.declared.message.ProposalStatus.TheVariants as proposal
 use Rattle.wire.specs.declared.notified.NotifiedStatus.{NotifiedStatus}
 use Rattle.scheme.specs.declared.registries.Scheme.{Scheme}
-use Rattle.protocol.specs.AtLog as log
-use Rattle.protocol.specs.AtLog.{ledger, log_refusals, log_answer}
-use Rattle.protocol.specs.AtRegistry.{holding, arrival, in_role, unless_held, holds_some, registry_refusals, registry_answer}
-use Rattle.protocol.specs.Checks.{Causes, acquirer_findings, log_findings}
+use Rattle.protocol.specs.AtLog.{ledger}
+use Rattle.protocol.specs.AtRegistry.{holding}
+use Rattle.protocol.specs.Checks.{acquirer_findings, log_findings}
 use Rattle.protocol.specs.Claims.{committed_of}
-use Rattle.protocol.specs.Deciding as decide
-use Rattle.protocol.specs.Deciding.{Verdict, IsRecorded, IsRefused, recorded_if_room, refuse, known, by_row}
-use Rattle.protocol.specs.Effects.{notifies, proposes, initiator_sends, log_sends, acquirer_sends}
+use Rattle.protocol.specs.Deciding.{IsRecorded, IsRefused, recorded_if_room}
+use Rattle.protocol.specs.Effects.{notifies, proposes}
 use Rattle.protocol.specs.History.{Entry, Transition, newest, sends, transitions_of}
 use Rattle.protocol.specs.Registries.{is_node}
 use Rattle.protocol.specs.Verdict.{verdict}
@@ -42,55 +32,19 @@ use Rattle.protocol.specs.World.{World}
 use Rattle.safety.proofs.MovesAndHistories.TransitionForms.{arrived, concluded_messages, checked, told_to, moved}
 use Rattle.safety.proofs.AgreementOfNodes.CausalHistories.{Causal}
 use Rattle.units.proofs.Lists.Membership.{In}
-use Rattle.safety.proofs.WorldLemmas.NodesWithStation.{committed_unplaced}
-use Rattle.safety.proofs.MovesAndHistories.RefusalCauses.{Welcome}
+use Rattle.safety.proofs.WorldLemmas.NodesWithStation.{committed_unplaced, Unplaced}
 use Rattle.safety.proofs.WayToRest.SendingMessages.{Calm}
 use Rattle.safety.proofs.WorldLemmas.SoundWorlds.{committed_causal}
-use Rattle.safety.proofs.DeliveryLemmas.WelcomeMessages.{welcome}
-use Rattle.safety.proofs.WorldLemmas.NodesWithStation.{Unplaced}
-
-abbrev NoneFull : Causes → Type 0
-NoneFull [] = Unit {0}
-NoneFull (c ∷ cs) = ((c.1 == journal_full) ≡ false) × NoneFull cs
-
--- a message that is welcome, and not refused for lack of room, isn't refused
-unrefused : (cs : Causes) (v : Verdict) → Welcome (refuse cs v) → NoneFull cs → refuse cs v ≡ v
-unrefused [] v w n = refl
-unrefused (c ∷ cs) v w n =
-    elim (cases_Bool c.0) [
-      | inl y ↦ absurd (eqb-false c.1 journal_full n.0 (w c.1 (cond-true c.0 (IsRefused c.1) (refuse cs v) y)))
-      | inr o ↦ let e = cond-false c.0 (IsRefused c.1) (refuse cs v) o in e ∙ unrefused cs v (subst Welcome e w) n.1
-    ]
+use Rattle.safety.proofs.OneTransfer.MessageRows.{Last}
+use Rattle.wire.specs.declared.message.ProposalStatus.TheVariants as proposal
+use Rattle.safety.proofs.OneTransfer.MessageRows as rows
 
 enters_here : (scheme : Scheme) (es : List Entry) (xs : List Transition) → length es + 1 ≤ scheme.records → recorded_if_room scheme es xs ≡ IsRecorded xs
 enters_here scheme es xs room = cond-false (nat_le scheme.records (length es)) (IsRefused journal_full) (IsRecorded xs) (lt-leb scheme.records (length es) (omega arith))
 
--- a proposal of a transaction that is not known
-checked_here : (scheme : Scheme) (es : List Entry) (t : TransactionId) (k : Content) (moment : ℕ) (found : List ℕ) → length es + 1 ≤ scheme.records
-    → log.checked scheme es t None k moment found ≡ IsRecorded (checked t k moment found ∷ [])
-checked_here scheme es t k moment [] room = enters_here scheme es _ room
-checked_here scheme es t k moment (c ∷ cs) room = enters_here scheme es _ room
-
-arrived_here : (scheme : Scheme) (c : Code) (es : List Entry) (t : TransactionId) (k : Content) (moment : ℕ) (found : List ℕ) → length es + 1 ≤ scheme.records
-    → arrival scheme c es t None k moment found ≡ IsRecorded (arrived c t k moment found ∷ [])
-arrived_here scheme c es t k moment [] room = enters_here scheme es _ room
-arrived_here scheme c es t k moment (n ∷ ns) room = enters_here scheme es _ room
-
--- what is welcome finds no unit held
-free_row : (scheme : Scheme) (es : List Entry) (to : Status → Transition) (held : Bool) (row : Row) → (row ≡ Refused → ⊥) → Welcome (by_row scheme es to (unless_held held row)) → unless_held held row ≡ row
-free_row scheme es to false row there w = refl
-free_row scheme es to true row there w = unless_same true row (λ e. absurd (
-    let v : Welcome (IsRefused no_row) = subst (λ r. Welcome (by_row scheme es to (unless_held true r))) e w in
-    let z = v no_row refl in
-    eqb-false no_row journal_full refl z))
-
 -- room at the log, and at each registry
 abbrev pub Room : Scheme → World → ℕ → ℕ → Type 0
 Room scheme w i j = (length (committed_of w Itl) + i ≤ scheme.records) × ((c : Code) → length (committed_of w (Registry c)) + j ≤ scheme.records)
-
--- the newest transition of the transfer at the node
-abbrev pub Last : World → Node → TransactionId → Transition → Type 0
-Last w n t x = newest (transitions_of (committed_of w n)) t ≡ Some x
 
 module _ (scheme : Scheme) (w : World) (calm : Calm scheme w) where
   pub causal : Causal scheme (committed_of w)
@@ -100,86 +54,39 @@ module _ (scheme : Scheme) (w : World) (calm : Calm scheme w) where
   unplaced n h = committed_unplaced w calm.quiet.placed n (subst (λ (z : Scheme). is_node z n ≡ false) (sym calm.same) h)
 
 module _ (scheme : Scheme) (moment : Moment) (w : World) (calm : Calm scheme w) where
-  heard : (m : Message) → In m (sends (committed_of w m.from)) → Welcome (verdict scheme m.to (committed_of w m.to) (Received m moment))
-  heard m h = welcome scheme (committed_of w) (causal scheme w calm) (unplaced scheme w calm) m.from m.to m moment refl refl h
-
-  -- ---- at the log
-
   pub log_takes_offer : (c : Code) (t : TransactionId) (k : Content) → In (proposes (Registry c) Itl t proposal.Proposed k) (sends (committed_of w (Registry c)))
       → newest (transitions_of (committed_of w Itl)) t ≡ None → length (committed_of w Itl) + 1 ≤ scheme.records
       → verdict scheme Itl (committed_of w Itl) (Received (proposes (Registry c) Itl t proposal.Proposed k) moment)
       ≡ IsRecorded (checked t k moment.seconds (log_findings scheme (ledger scheme (committed_of w Itl)) t.code k) ∷ [])
-  unfolding verdict
   log_takes_offer c t k h none room =
-      let m : Message = proposes (Registry c) Itl t proposal.Proposed k in
-      unrefused (log_refusals scheme (committed_of w Itl) m) (log_answer scheme (committed_of w Itl) moment.seconds m.id m.body) (heard m h) (refl, (refl, (refl, (refl, (refl, tt)))))
-      ∙ ap (λ o. log.checked scheme (committed_of w Itl) t o k moment.seconds (log_findings scheme (ledger scheme (committed_of w Itl)) t.code k)) none
-      ∙ checked_here scheme (committed_of w Itl) t k moment.seconds (log_findings scheme (ledger scheme (committed_of w Itl)) t.code k) room
+      rows.log_takes_offer scheme (committed_of w) (causal scheme w calm) (unplaced scheme w calm) moment c t k h none
+      ∙ enters_here scheme (committed_of w Itl) (checked t k moment.seconds (log_findings scheme (ledger scheme (committed_of w Itl)) t.code k) ∷ []) room
 
-  pub log_takes_notified : (c : Code) (t : TransactionId) (said : NotifiedStatus) (l : Transition) (k : Content) (new : Status) → l.content ≡ Some k → In (notifies (Registry c) Itl t said) (sends (committed_of w (Registry c))) → Last w Itl t l
-      → log_row (Stands l.new) (Notified (notified_status said)) ≡ Move new → length (committed_of w Itl) + 1 ≤ scheme.records
+  pub log_takes_notified : (c : Code) (t : TransactionId) (said : NotifiedStatus) (l : Transition) (k : Content) (new : Status) → l.content ≡ Some k → In (notifies (Registry c) Itl t said) (sends (committed_of w (Registry c)))
+      → Last (committed_of w) Itl t l → log_row (Stands l.new) (Notified (notified_status said)) ≡ Move new → length (committed_of w Itl) + 1 ≤ scheme.records
       → verdict scheme Itl (committed_of w Itl) (Received (notifies (Registry c) Itl t said) moment) ≡ IsRecorded (moved l new moment.seconds (notifies Itl (told_to l.id k new) l.id said ∷ []) ∷ [])
-  unfolding verdict
   log_takes_notified c t said l k new content h is move room =
-      let m : Message = notifies (Registry c) Itl t said in
-      unrefused (log_refusals scheme (committed_of w Itl) m) (log_answer scheme (committed_of w Itl) moment.seconds m.id m.body) (heard m h) (refl, (refl, (refl, (refl, tt))))
-      ∙ ap (λ o. log.told scheme (committed_of w Itl) t o (notified_codes said) moment.seconds (Notified (notified_status said))) is
-      ∙ ap (by_row scheme (committed_of w Itl) (decide.moved t l.content moment.seconds (log_sends t l.content (notified_codes said) (Notified (notified_status said)))))
-      (ap (λ z. log_row z (Notified (notified_status said))) (known_status l k content) ∙ move)
-      ∙ ap (λ x. recorded_if_room scheme (committed_of w Itl) (x ∷ []))
-      (passed_transition t l k said new moment.seconds (newest_id (transitions_of (committed_of w Itl)) t l is).1 content move)
+      rows.log_takes_notified scheme (committed_of w) (causal scheme w calm) (unplaced scheme w calm) moment c t said l k new content h is move
       ∙ enters_here scheme (committed_of w Itl) (moved l new moment.seconds (notifies Itl (told_to l.id k new) l.id said ∷ []) ∷ []) room
-
-  -- ---- at a registry
 
   pub acquirer_takes_offer : (c : Code) (t : TransactionId) (k : Content) → In (proposes Itl (Registry c) t proposal.Checked k) (sends (committed_of w Itl))
       → newest (transitions_of (committed_of w (Registry c))) t ≡ None → length (committed_of w (Registry c)) + 1 ≤ scheme.records
       → verdict scheme (Registry c) (committed_of w (Registry c)) (Received (proposes Itl (Registry c) t proposal.Checked k) moment)
       ≡ IsRecorded (arrived c t k moment.seconds (acquirer_findings scheme c (holding scheme c (committed_of w (Registry c))) k) ∷ [])
-  unfolding verdict
   acquirer_takes_offer c t k h none room =
-      let m : Message = proposes Itl (Registry c) t proposal.Checked k in
-      unrefused (registry_refusals c (committed_of w (Registry c)) m) (registry_answer scheme c (committed_of w (Registry c)) moment.seconds m.id m.body) (heard m h) (refl, (refl, (refl, (refl, (refl, tt)))))
-      ∙ ap (λ o. arrival scheme c (committed_of w (Registry c)) t o k moment.seconds (acquirer_findings scheme c (holding scheme c (committed_of w (Registry c))) k)) none
-      ∙ arrived_here scheme c (committed_of w (Registry c)) t k moment.seconds (acquirer_findings scheme c (holding scheme c (committed_of w (Registry c))) k) room
-
-  notified_open : (c : Code) (t : TransactionId) (said : NotifiedStatus) (x : Transition) → In (notifies Itl (Registry c) t said) (sends (committed_of w Itl)) → Last w (Registry c) t x
-      → (verdict scheme (Registry c) (committed_of w (Registry c)) (Received (notifies Itl (Registry c) t said) moment)
-      ≡ in_role scheme c (committed_of w (Registry c)) t (Some x) moment.seconds (Notified (notified_status said)))
-      × Welcome (in_role scheme c (committed_of w (Registry c)) t (Some x) moment.seconds (Notified (notified_status said)))
-  unfolding verdict
-  notified_open c t said x h is =
-      let m : Message = notifies Itl (Registry c) t said in
-      let e =
-      unrefused (registry_refusals c (committed_of w (Registry c)) m) (registry_answer scheme c (committed_of w (Registry c)) moment.seconds m.id m.body) (heard m h) (refl, (refl, (refl, tt)))
-      ∙ ap (λ o. in_role scheme c (committed_of w (Registry c)) t o moment.seconds (Notified (notified_status said))) is in
-      (e, subst Welcome e (heard m h))
+      rows.acquirer_takes_offer scheme (committed_of w) (causal scheme w calm) (unplaced scheme w calm) moment c t k h none
+      ∙ enters_here scheme (committed_of w (Registry c)) (arrived c t k moment.seconds (acquirer_findings scheme c (holding scheme c (committed_of w (Registry c))) k) ∷ []) room
 
   pub initiator_takes : (c : Code) (t : TransactionId) (said : NotifiedStatus) (x : Transition) (k : Content) (new : Status) → x.content ≡ Some k → In (notifies Itl (Registry c) t said) (sends (committed_of w Itl))
-      → Last w (Registry c) t x → same_code t.code c ≡ true → initiator_row (Stands x.new) (Notified (notified_status said)) ≡ Move new → length (committed_of w (Registry c)) + 1 ≤ scheme.records
+      → Last (committed_of w) (Registry c) t x → same_code t.code c ≡ true → initiator_row (Stands x.new) (Notified (notified_status said)) ≡ Move new → length (committed_of w (Registry c)) + 1 ≤ scheme.records
       → verdict scheme (Registry c) (committed_of w (Registry c)) (Received (notifies Itl (Registry c) t said) moment) ≡ IsRecorded (moved x new moment.seconds (concluded_messages c x.id new) ∷ [])
   initiator_takes c t said x k new content h is own move room =
-      let es = committed_of w (Registry c) in
-      let told = notified_status said in
-      (notified_open c t said x h is).0
-      ∙ cond-true (same_code t.code c) _ _ own
-      ∙ ap (by_row scheme es (decide.moved t x.content moment.seconds (initiator_sends c t x.content (Notified told)))) (ap (λ z. initiator_row z (Notified told)) (known_status x k content) ∙ move)
-      ∙ ap (λ y. recorded_if_room scheme es (y ∷ [])) (concluded_transition c t x told new moment.seconds (newest_id (transitions_of es) t x is).1 move)
-      ∙ enters_here scheme es (moved x new moment.seconds (concluded_messages c x.id new) ∷ []) room
+      rows.initiator_takes scheme (committed_of w) (causal scheme w calm) (unplaced scheme w calm) moment c t said x k new content h is own move
+      ∙ enters_here scheme (committed_of w (Registry c)) (moved x new moment.seconds (concluded_messages c x.id new) ∷ []) room
 
   pub acquirer_takes : (c : Code) (t : TransactionId) (said : NotifiedStatus) (x : Transition) (k : Content) (new : Status) → x.content ≡ Some k → In (notifies Itl (Registry c) t said) (sends (committed_of w Itl))
-      → Last w (Registry c) t x → same_code t.code c ≡ false → acquirer_row (Stands x.new) (Notified (notified_status said)) ≡ Move new → length (committed_of w (Registry c)) + 1 ≤ scheme.records
+      → Last (committed_of w) (Registry c) t x → same_code t.code c ≡ false → acquirer_row (Stands x.new) (Notified (notified_status said)) ≡ Move new → length (committed_of w (Registry c)) + 1 ≤ scheme.records
       → verdict scheme (Registry c) (committed_of w (Registry c)) (Received (notifies Itl (Registry c) t said) moment) ≡ IsRecorded (moved x new moment.seconds [] ∷ [])
   acquirer_takes c t said x k new content h is foreign move room =
-      let es = committed_of w (Registry c) in
-      let told = notified_status said in
-      let held = holds_some scheme c (transitions_of es) x.content in
-      let to = decide.moved t x.content moment.seconds (acquirer_sends c t [] (Notified told)) in
-      let o = notified_open c t said x h is in
-      let e =
-      cond-false (same_code t.code c) _ (by_row scheme es to (unless_held held (acquirer_row (known (Some x)) (Notified told)))) foreign
-      ∙ ap (λ row. by_row scheme es to (unless_held held row)) (ap (λ z. acquirer_row z (Notified told)) (known_status x k content) ∙ move) in
-      o.0 ∙ e
-      ∙ ap (by_row scheme es to) (free_row scheme es to held (Move new) (λ h. cc (h)) (subst Welcome e o.1))
-      ∙ ap (λ y. recorded_if_room scheme es (y ∷ [])) (finished_transition t x new moment.seconds (newest_id (transitions_of es) t x is).1)
-      ∙ enters_here scheme es (moved x new moment.seconds [] ∷ []) room
+      rows.acquirer_takes scheme (committed_of w) (causal scheme w calm) (unplaced scheme w calm) moment c t said x k new content h is foreign move
+      ∙ enters_here scheme (committed_of w (Registry c)) (moved x new moment.seconds [] ∷ []) room

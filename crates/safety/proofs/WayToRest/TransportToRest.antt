@@ -3,11 +3,7 @@
 -- three records at a node and with no change to the others. At the end no transfer is open, so no unit is reserved
 -- or owed, and the owner of each unit is a registry that can spend it.
 use Rattle.units.proofs.Lists.Positions.{In_contains}
-use Rattle.safety.proofs.OneRegistry.RegistryHearings.{IsTaken, accepted_sent}
-use Rattle.safety.proofs.OneLog.LogHearings.{log_backed}
-use Rattle.safety.proofs.OneRegistry.TransactionEnds.{proposer_of}
-use Rattle.safety.proofs.AgreementOfNodes.CausalHistories.{Causal, LogAgrees, completed_agrees, ended, heard_sent}
-use Rattle.std.proofs.Common.{◌≡◌, ◌+◌, ◌*◌, ◌≤◌, List, [], ◌∷◌, true, false, Option, Some, None, inl, inr, refl, sym, ap, subst, ◌∙◌, arith, length, lit≤}
+use Rattle.std.proofs.Common.{◌≡◌, ◌+◌, ◌*◌, ◌≤◌, List, [], ◌∷◌, true, false, Some, inl, inr, refl, sym, ap, subst, ◌∙◌, arith, length, lit≤}
 use Rattle.std.specs.Prelude.{◌&&◌, not, option_map}
 use Rattle.std.proofs.lemmas.Bool.{cases_Bool, and_parts, and_from}
 use Rattle.units.specs.Code.{same_code}
@@ -19,22 +15,21 @@ use Rattle.status.proofs.Ids.{id_of_same, same_id-refl}
 use Rattle.status.specs.Id.{same_id}
 use Rattle.status.specs.declared.id.TransactionId.{TransactionId}
 use Rattle.status.specs.declared.moment.Moment.{Moment}
-use Rattle.status.specs.declared.status.Status.{Status}
-use Rattle.status.specs.declared.status.Status.TheVariants.{Proposed, Completed, Accepted}
+use Rattle.status.specs.declared.status.Status.TheVariants.{Proposed}
 use Rattle.wire.specs.declared.input.Input.{Input}
 use Rattle.scheme.specs.declared.registries.Scheme.{Scheme}
-use Rattle.protocol.specs.Claims.{at_registry, committed_of, is_received, live_of, whole}
-use Rattle.protocol.specs.History.{Entry, Transition, carries, holds, is_status, newest, reserved, spendable, stands_at, transitions_of}
-use Rattle.protocol.specs.Owner.{At, Due, Owner, Owing, Owns}
+use Rattle.protocol.specs.Claims.{at_registry, committed_of, live_of, whole}
+use Rattle.protocol.specs.History.{Entry, Transition, carries, holds, newest, reserved, spendable, stands_at, transitions_of}
+use Rattle.protocol.specs.Owner.{At, Due, Owner, Owns}
 use Rattle.protocol.specs.Registries.{has_member}
 use Rattle.protocol.specs.Verdict.{extend, history_from}
 use Rattle.protocol.specs.WayOut.{AtRest, IsOpen, WayOut}
 use Rattle.protocol.specs.World.{World, run, station}
 use Rattle.safety.proofs.WayToRest.ClosingTransfers.{close_one}
-use Rattle.safety.proofs.AgreementOfNodes.CompletionsAgree.{stood, initiator_has}
+use Rattle.safety.proofs.OneTransfer.OwedUnits.{owed_open}
+use Rattle.safety.proofs.AgreementOfNodes.CompletionsAgree.{stood}
 use Rattle.units.proofs.Lists.SomePass.{list_any_some}
 use Rattle.units.proofs.Lists.Membership.{In}
-use Rattle.units.proofs.Lists.OneValue.{one_some}
 use Rattle.safety.proofs.OwnersOfUnits.UnitsWithOneOwner.{causal_one_owner}
 use Rattle.safety.proofs.WorldLemmas.NodesWithStation.{AllPlaced}
 use Rattle.safety.proofs.WorldLemmas.QuietWorlds.{Quiet, there}
@@ -87,29 +82,6 @@ module _ (scheme : Scheme) where
 
 -- ---- at rest
 
--- what is owed is open at the log or at the acquirer
-owed_open : (scheme : Scheme) (f : Node → List Entry) → Causal scheme f → (s : Serial) (t : TransactionId) → Owing f s t → ((t : TransactionId) → IsOpen f t → ⊥) → ⊥
-owed_open scheme f causal s t o closed =
-    let done = ap (option_map (λ (z : Transition). z.new)) o.is ∙ ap Some o.new in
-    let agrees = completed_agrees scheme f causal (Registry t.code) t done in
-    let b = log_backed scheme (f Itl) (causal.made Itl) t agrees.0 agrees.1 agrees.2 in
-    let p = proposer_of scheme (f Itl) (causal.made Itl) t agrees.0 b.content agrees.1 b.known in
-    let i = initiator_has scheme f causal t p.content p.got in
-    let a = b.content.acquirer in
-    let content : o.last.content ≡ Some b.content = ap (λ (z : Transition). z.content) (one_some o.last i.0 (sym o.is ∙ i.1)) ∙ i.2 ∙ sym p.is ∙ b.known in
-    let waits : is_received f t (Some b.content) ≡ false = subst (λ k. is_received f t k ≡ false) content o.waits in
-    let sent = heard_sent scheme f causal Itl (Registry a) t Accepted b.heard in
-    let taken = subst (λ z. IsTaken (newest (at_registry f a) z)) b.heard.about (accepted_sent scheme a (f (Registry a)) (causal.made (Registry a)) b.heard.notification sent b.heard.told).1 in
-    at_acquirer a (newest (at_registry f a) t) refl taken waits agrees
-  where
-    at_acquirer : (a : Code) (q : Option Transition) → newest (at_registry f a) t ≡ q → IsTaken q → stands_at (at_registry f a) t Completed ≡ false → LogAgrees f t → ⊥
-    at_acquirer a None is taken waits agrees = taken
-    at_acquirer a (Some x) is (inl e) waits agrees = closed t (Registry a, Accepted, ap (option_map (λ (z : Transition). z.new)) is ∙ ap Some e, inr (inr refl))
-    at_acquirer a (Some x) is (inr (inl e)) waits agrees =
-        let y : true ≡ false = sym (ap (λ (z : Option Status). is_status z Completed) (ap (option_map (λ (z : Transition). z.new)) is ∙ ap Some e)) ∙ waits in
-        cc (y)
-    at_acquirer a (Some x) is (inr (inr e)) waits agrees = ended scheme f causal (Registry a) t agrees (inr (inr (ap (option_map (λ (z : Transition). z.new)) is ∙ ap Some e)))
-
 module _ (w : World) (quiet : Quiet w) (closed : (t : TransactionId) → IsOpen (committed_of w) t → ⊥) where
   not_reserved : (c : Code) (s : Serial) → reserved c (at_registry (committed_of w) c) s ≡ false
   not_reserved c s =
@@ -131,7 +103,7 @@ module _ (w : World) (quiet : Quiet w) (closed : (t : TransactionId) → IsOpen 
     h.0,
     and_from (holds w.scheme c (at_registry (committed_of w) c) s) (not (reserved c (at_registry (committed_of w) c) s)) h.1 (ap not (not_reserved c s)),
   )
-  spends s (Due t) o = absurd (owed_open w.scheme (committed_of w) (committed_causal w quiet.sound) s t o closed)
+  spends s (Due t) o = absurd (owed_open w.scheme (committed_of w) (committed_causal w quiet.sound) t o.last o.is o.new o.waits (closed t))
 
   at_rest : AtRest w
   at_rest = record {

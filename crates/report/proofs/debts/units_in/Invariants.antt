@@ -1,6 +1,6 @@
 use Rattle.std.proofs.Common.{◌≡◌, ◌+◌, take, sum_by}
 use Rattle.status.specs.Content.{raws}
-use Rattle.report.specs.NumberOfUnits.{units_of}
+use Rattle.safety.specs.NumberOfUnits.{units_of}
 use Rattle.report.specs.ReportLines.{shown}
 use Rattle.report.proofs.debts.units_in.Given as goal
 

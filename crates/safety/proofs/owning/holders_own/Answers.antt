@@ -1,5 +1,5 @@
 use Rattle.protocol.specs.Claims.{live_of, committed_of}
-use Rattle.safety.proofs.OwnersOfUnits.HoldersInLog.{holder_owns}
+use Rattle.safety.proofs.OwnersOfUnits.AccountedUnits.{holder_owns}
 use Rattle.safety.proofs.WorldLemmas.ReachedWorlds.{reached, reached_live, reached_committed}
 use Rattle.safety.proofs.owning.holders_own.Goals as goal
 

@@ -21,7 +21,7 @@ use Rattle.protocol.proofs.CountsInLists.{count_yes, count_no, number_none}
 use Rattle.units.proofs.Lists.Membership.{In}
 use Rattle.units.proofs.Lists.SomePass.{list_any_not}
 use Rattle.safety.proofs.ListLemmas.FirstFound.{any_found}
-use Rattle.report.specs.NumberOfUnits.{units_of, allotted_units}
+use Rattle.safety.specs.NumberOfUnits.{units_of, allotted_units}
 
 -- ---- which units they have
 
@@ -65,7 +65,7 @@ module _ (s : Serial) where
   apart_at b (d ∷ ds) h c (inl e) x y = h.0 s x (subst (λ (z : Block). has z ≡ true) (sym e) y)
   apart_at b (d ∷ ds) h c (inr i) x y = apart_at b ds h.1 c i x y
 
-  apart_once : (bs : List Block) → AllApart bs → count_by has bs ≡ cond (list_any has bs) 1 0
+  pub apart_once : (bs : List Block) → AllApart bs → count_by has bs ≡ cond (list_any has bs) 1 0
   apart_once [] h = refl
   apart_once (b ∷ bs) h =
       elim (cases_Bool (has b)) [

@@ -14,7 +14,7 @@ use Rattle.protocol.proofs.UnitsOfBlocks.{unit_of_same, same_unit_refl, In_up, b
 use Rattle.units.proofs.Lists.Membership.{In, In_map}
 use Rattle.units.proofs.Lists.OneValue.{clash}
 use Rattle.units.proofs.Lists.SomePass.{list_any_none, list_any_not, list_any_some}
-use Rattle.report.specs.NumberOfUnits.{units_of}
+use Rattle.safety.specs.NumberOfUnits.{units_of}
 
 -- how often a unit is there
 abbrev is_at : Serial → Piece → Bool

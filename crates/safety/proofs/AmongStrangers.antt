@@ -1,0 +1,4 @@
+-- What trusted nodes keep, whatever strangers send.
+pub mod WholeBooks
+pub mod BookMoves
+pub mod SafeWorlds

@@ -98,9 +98,9 @@ fn receive<T: Drop, O: Opening, C: NodeCore, S: NodeStore, B: Bell, R: Wait + Sy
     unreachable!()
 }
 
-/// Hands a job to a worker, and waits for its result. `None` if the desk has stopped before a worker took it, or if no
-/// worker takes jobs any more, since the channel is full then. Fails with `NoMemory` if memory ran out, and the job was
-/// handed to none.
+/// Hands a job to a worker, and waits for its result. `None` if the desk has stopped before a worker took it, or if the
+/// channel has had no room for `LONGEST_QUIET` seconds, since no worker takes jobs any more then. Fails with `NoMemory`
+/// if memory ran out, and the job was handed to none.
 fn ask<O: Opening, C: NodeCore, S: NodeStore, B: Bell, R: Wait + SystemClock>(
     rt: &R,
     alloc: Global,
@@ -112,7 +112,8 @@ fn ask<O: Opening, C: NodeCore, S: NodeStore, B: Bell, R: Wait + SystemClock>(
         drop(job);
         return Err(NoMemory);
     };
-    let handed = errands.try_send(rt, Errand { job, back });
+    let errand = Errand { job, back };
+    let handed = errands.send_timeout(rt, errand, Duration::from_secs(LONGEST_QUIET));
     let is_handed = handed.is_ok();
     drop(handed);
     let taken = if is_handed {

@@ -8,7 +8,7 @@ use Rattle.std.specs.Cmp.{first_so, second_so}
 use Rattle.std.specs.List.{AllByRecursion, IsDistinct}
 use Rattle.std.specs.Map.{keys_of}
 use Rattle.std.specs.Str.{bytes_eq}
-use Rattle.explain.specs.Topics.{Has, topics}
+use Rattle.explain.specs.Topics.{Has, format_topics, topics}
 
 -- the text differs from each of the others
 differs : List ℕ → List (List ℕ) → Bool
@@ -30,7 +30,7 @@ distinct [] e = tt
 distinct (x ∷ xs) e = (each_other x xs (first_so (differs x xs) (all_differ xs) e), distinct xs (second_so (differs x xs) (all_differ xs) e))
 
 topics_differ : all_differ (keys_of topics) ≡ true
-unfolding all_differ differs topics
+unfolding all_differ differs format_topics topics
 topics_differ = refl
 
 pub one_text : (word first second : List ℕ) → Has topics word first → Has topics word second → first ≡ second

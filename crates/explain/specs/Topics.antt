@@ -8,14 +8,19 @@ use Rattle.command_faults.specs.declared.fault.OpFault.{OpFault}
 use Rattle.command_faults.specs.declared.fault.OpFault.TheVariants.{Input, Write}
 use Rattle.explain.specs.declared.format_topics.TheConstants.{FORMAT_TOPICS}
 use Rattle.explain.specs.declared.protocol_topics.TheConstants.{PROTOCOL_TOPICS}
+use Rattle.explain.specs.declared.table_topics.TheConstants.{TABLE_TOPICS}
 
 -- the name and the text of each topic of a table; no public contract cites it
 abbrev pub entries : List (Bor (List ℕ) × Bor (List ℕ)) → List (List ℕ × List ℕ)
 entries table = map (λ t. (t.0.now, t.1.now)) table
 
+-- the name and the text of each topic of faults, outcomes and tables
+unfoldable pub format_topics : List (List ℕ × List ℕ)
+format_topics = map (λ t. (t.0.now, t.1.now)) FORMAT_TOPICS.now ++ map (λ t. (t.0.now, t.1.now)) TABLE_TOPICS.now
+
 -- the name and the text of each topic of the documents
 unfoldable pub topics : List (List ℕ × List ℕ)
-topics = map (λ t. (t.0.now, t.1.now)) PROTOCOL_TOPICS.now ++ map (λ t. (t.0.now, t.1.now)) FORMAT_TOPICS.now
+topics = map (λ t. (t.0.now, t.1.now)) PROTOCOL_TOPICS.now ++ format_topics
 
 -- one of them has that name and that text
 abbrev pub Has : List (List ℕ × List ℕ) → (word text : List ℕ) → Type 0

@@ -1,6 +1,6 @@
 //! The topics of `docs/FORMATS.md`: words of faults, and outcomes.
 //!
-//! `docs/explained.py` compares the examples, which have these texts, with the document.
+//! `tools/explained.py` compares the examples, which have these texts, with the document.
 
 /// The name and the text of each of these topics, in the order of the document.
 pub(crate) const FORMAT_TOPICS: &[(&str, &str)] = &[
@@ -16,11 +16,11 @@ What to do: write the file as UTF-8 without a byte order mark; jq . SCHEME names
     (
         "shape",
         "shape: a fault of a scheme
-Cause: a key or a value that the two tables above don't allow: a missing or an unknown key, a value
-of another type, a number or a block out of range, a kind twice
+Cause: a key or a value that a scheme may not have: a missing or an unknown key, a value of another
+type, a number or a block out of range, a kind twice
 Causes (line 1: shape): a key that is missing, misspelt or unknown; a number in quotes; a block
 without its kind, such as NZ:1:1-100
-What to do: compare with the example of a scheme above
+What to do: compare with the first line of examples/one_transfer/input
 ",
     ),
     (
@@ -73,10 +73,11 @@ auto_vacuum, even if SQLite opens it
 What to do: it is not a store of this program; look for the right file
 Causes (store NZ: damaged 7): the record at place 7 is missing although a later one is there, or its
 text is not a record: the file was changed
-What to do: sqlite3 DIR/NZ.db 'select * from entries where place = 7' shows it; restore a copy from
-before the change
-Causes (store NZ: damaged 7 of audit, events and trace): as above; or the record at place 7 is one
-that NZ would not have recorded after those before it
+What to do: sqlite3 DIR/NZ.db 'select * from entries where place = 7' shows it. Put a copy in its
+place only if it has every record that the node reported: after an older one units may stay owed for
+good, without a fault
+Causes (store NZ: damaged 7 of audit, events and trace): the record at place 7 is missing, or its
+text is not a record, or it is one that NZ would not have recorded after those before it
 What to do: kyoto-link show SCHEME DIR NZ shows it
 ",
     ),

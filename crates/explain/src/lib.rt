@@ -4,6 +4,7 @@
 mod explaining;
 mod format_topics;
 mod protocol_topics;
+mod table_topics;
 mod topics;
 
 pub use explaining::explain;

@@ -1,6 +1,6 @@
 //! The topics of `docs/PROTOCOL.md`: codes in ascending order, and then statuses.
 //!
-//! `docs/explained.py` compares the examples, which have these texts, with the document.
+//! `tools/explained.py` compares the examples, which have these texts, with the document.
 
 /// The name and the text of each of these topics.
 pub(crate) const PROTOCOL_TOPICS: &[(&str, &str)] = &[

@@ -1,9 +1,10 @@
 //! Topics, by their names.
 ghost use Rattle.std.specs.Prelude.{◌≡◌, ℕ, List, IfSome, IfNone};
-ghost use Rattle.explain.specs.Topics.{Has, HasNone, entries, topics};
+ghost use Rattle.explain.specs.Topics.{Has, HasNone, entries, format_topics, topics};
 
 use crate::format_topics::FORMAT_TOPICS;
 use crate::protocol_topics::PROTOCOL_TOPICS;
+use crate::table_topics::TABLE_TOPICS;
 
 /// Returns the text of the first topic of the table with that name, or `None`, where the table has no such topic.
 fn text_in(table: &'static [(&'static str, &'static str)], word: &str) -> Option<&'static str>
@@ -18,6 +19,17 @@ fn text_in(table: &'static [(&'static str, &'static str)], word: &str) -> Option
     None
 }
 
+/// Returns the text of the topic of faults, outcomes and tables with that name, or `None`, where there is no such topic.
+fn format_topic_of(word: &str) -> Option<&'static str>
+    ensures some { IfSome result (λ text. Has format_topics word.now text.now) }
+    ensures none { IfNone result (HasNone format_topics word.now) }
+{
+    match text_in(FORMAT_TOPICS, word) {
+        Some(text) => Some(text),
+        None => text_in(TABLE_TOPICS, word),
+    }
+}
+
 /// Returns the text of the topic with that name, or `None`, where there is no such topic. A text is whole lines.
 pub(crate) fn topic_of(word: &str) -> Option<&'static str>
     ensures some { IfSome result (λ text. Has topics word.now text.now) }
@@ -25,7 +37,7 @@ pub(crate) fn topic_of(word: &str) -> Option<&'static str>
 {
     match text_in(PROTOCOL_TOPICS, word) {
         Some(text) => Some(text),
-        None => text_in(FORMAT_TOPICS, word),
+        None => format_topic_of(word),
     }
 }
 

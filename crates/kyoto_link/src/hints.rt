@@ -1,12 +1,22 @@
-//! A second line about a fault, for a user at a terminal: the path, the word or the line at fault.
+//! Further lines about a fault: the path, the word or the line at fault, and what was expected there. A node always
+//! writes them, since its faults stand in the journal of a service. Other commands write them at a terminal, or if the
+//! variable `KYOTO_LINK_HINTS` of the environment is 1.
 
 use crate::scheme_hints::tell_scheme;
+use crate::shown_lines::{line_at, shown};
+use crate::store_hints::tell_store;
 use crate::system_files::SystemFiles;
-use commands::command_faults::{OpFault, SetupFault};
+use commands::command_faults::{Cause, OpFault, SetupFault};
 use commands::operator::{Action, NodeWords};
 use commands::{Archive, scheme_at};
-use std::fs;
 use std::io::IsTerminal;
+use std::{env, fs};
+
+/// The variable of the environment with which hints are written although standard error is no terminal.
+const HINTS: &str = "KYOTO_LINK_HINTS";
+
+/// The name of standard input in a hint.
+const STANDARD_INPUT: &str = "standard input";
 
 /// The files and words that a command names.
 #[derive(Clone, Copy)]
@@ -139,25 +149,61 @@ fn tell_unread(rt: &HostRuntime, named: &Named<'_>) {
     };
 }
 
-/// Writes the line of the script, which is counted from 1, after its path.
-fn tell_script_line(rt: &HostRuntime, script: &str, line: u64) {
-    let Ok(text) = fs::read_to_string(rt, script) else {
+/// The form of a line that has this fault, as a hint names it. `None` if the words of the fault say enough.
+fn expected(cause: Cause, of_script: bool) -> Option<&'static str> {
+    match cause {
+        Cause::Order if of_script => Some(
+            "an order such as 'propose NZ 1 JP 7 NZ:1:1-100:AAU', or a question such as 'until JP NZ1 Completed 10000'",
+        ),
+        Cause::Order => Some(
+            "an event such as 'propose NZ 1 JP 7 NZ:1:1-100:AAU', 'commit NZ 1', 'post NZ 0' or 'deliver 0 2012-05-01T00:00:00Z'",
+        ),
+        Cause::Truncated => Some("a newline at the end of the line"),
+        _ => None,
+    }
+}
+
+/// Writes the line of a text, after its place, and the form that it should have.
+fn tell_text_line(rt: &HostRuntime, place: &str, text: &[u8], line: u64, form: Option<&str>) {
+    let Some(found) = line_at(text, line) else {
         return;
     };
-    let mut number: u64 = 0;
-    for found in text.as_str().lines() {
-        number = number.saturating_add(1);
-        if number == line {
-            let _ = eprintln!(rt; "kyoto-link: {script}:{line}: {found}");
+    if let Ok(found) = shown(rt.alloc(), found) {
+        let _ = eprintln!(rt; "kyoto-link: {place}:{line}: {}", found.as_str());
+    }
+    if let Some(form) = form {
+        let _ = eprintln!(rt; "kyoto-link: expected was {form}");
+    }
+}
+
+/// Writes the line of the script at fault.
+fn tell_script_line(rt: &HostRuntime, script: &str, line: u64, cause: Cause) {
+    if let Ok(text) = fs::read(rt, script) {
+        tell_text_line(rt, script, text.as_slice(), line, expected(cause, true));
+    }
+}
+
+/// Writes the line at fault of an input that was read from standard input, whose first line is a scheme.
+fn tell_input_line(rt: &HostRuntime, input: &[u8], line: u64, cause: Cause) {
+    match cause {
+        Cause::Order | Cause::Truncated | Cause::TooLong => {
+            tell_text_line(rt, STANDARD_INPUT, input, line, expected(cause, false));
+        }
+        _ => {
+            if let Some(scheme) = line_at(input, 1) {
+                tell_scheme(rt, STANDARD_INPUT, scheme);
+            }
         }
     }
 }
 
 /// Names the file that has a fault in this line, or the node that isn't in the scheme, or the word that is no
 /// transaction's.
-fn tell_line(rt: &HostRuntime, named: &Named<'_>, line: u64) {
+fn tell_line(rt: &HostRuntime, named: &Named<'_>, line: u64, cause: Cause) {
     if scheme_at(rt.alloc(), &SystemFiles { rt }, named.scheme).is_err() {
-        tell_scheme(rt, named.scheme);
+        if let Ok(text) = fs::read(rt, named.scheme) {
+            tell_scheme(rt, named.scheme, text.as_slice());
+        }
     } else if let Some(node) = named.node {
         let _ = eprintln!(rt; "kyoto-link: {node} is no node of {}", named.scheme);
     } else if let Some(id) = named.id {
@@ -165,32 +211,27 @@ fn tell_line(rt: &HostRuntime, named: &Named<'_>, line: u64) {
             "kyoto-link: {id} is not the identifier of a transaction, such as NZ1"
         );
     } else if let Some(script) = named.script {
-        tell_script_line(rt, script, line);
+        tell_script_line(rt, script, line, cause);
     }
 }
 
-/// If standard error is a terminal, writes there which file, word or line caused the fault of an action.
-pub(crate) fn explain(rt: &HostRuntime, action: &Action, fault: OpFault) {
-    if !rt.stderr().is_terminal() {
-        return;
+/// Whether hints are wanted about faults of a command, which is a node or another one.
+pub(crate) fn are_wanted(rt: &HostRuntime, is_node: bool) -> bool {
+    if is_node || rt.stderr().is_terminal() {
+        return true;
     }
-    if let (Action::Explain { topic }, OpFault::Input { .. }) = (action, fault) {
-        let _ = eprintln!(rt;
-            "kyoto-link: there is no topic {topic}; 'kyoto-link explain --help' lists the kinds"
-        );
+    match env::var(rt, HINTS) {
+        Ok(value) => value.as_str() == "1",
+        Err(_) => false,
     }
-    if let (Action::Node(words), OpFault::Setup(fault)) = (action, fault) {
-        tell_setup(rt, words, fault);
-    }
-    let Some(named) = named_by(action) else {
-        return;
-    };
+}
+
+/// Writes on standard error which file, word or line caused the fault of an action that names files.
+fn explain_named(rt: &HostRuntime, named: &Named<'_>, fault: OpFault) {
     match fault {
-        OpFault::Read => tell_unread(rt, &named),
-        OpFault::Input { line, cause: _ } => tell_line(rt, &named, line),
-        OpFault::Store { node, fault: _ } => {
-            let _ = eprintln!(rt; "kyoto-link: the store is {}/{node}.db", named.folder);
-        }
+        OpFault::Read => tell_unread(rt, named),
+        OpFault::Input { line, cause } => tell_line(rt, named, line, cause),
+        OpFault::Store { node, fault } => tell_store(rt, named.folder, node, fault),
         OpFault::Stuck { node, place } => {
             let _ = eprintln!(rt;
                 "kyoto-link: 'kyoto-link show {} {} {node}' writes the record at place {place}",
@@ -198,5 +239,30 @@ pub(crate) fn explain(rt: &HostRuntime, action: &Action, fault: OpFault) {
             );
         }
         OpFault::Unsettled { .. } | OpFault::Setup(_) | OpFault::Write(_) | OpFault::NoMemory => {}
+    }
+}
+
+/// Writes on standard error which file, word or line caused the fault of an action. `input` is what was read from
+/// standard input, if it was kept.
+pub(crate) fn explain(rt: &HostRuntime, action: &Action, fault: OpFault, input: Option<&[u8]>) {
+    match (action, fault) {
+        (Action::Explain { topic }, OpFault::Input { .. }) => {
+            let _ = eprintln!(rt;
+                "kyoto-link: there is no topic {topic}; 'kyoto-link explain --help' lists the kinds"
+            );
+        }
+        (Action::Node(words), OpFault::Setup(fault)) => tell_setup(rt, words, fault),
+        (Action::Rehearse | Action::Chart, OpFault::Input { line, cause }) => {
+            if let Some(input) = input {
+                tell_input_line(rt, input, line, cause);
+            }
+        }
+        (Action::Rehearse | Action::Chart, OpFault::Read) => {
+            let _ = eprintln!(rt; "kyoto-link: {STANDARD_INPUT} can't be read");
+        }
+        _ => {}
+    }
+    if let Some(named) = named_by(action) {
+        explain_named(rt, &named, fault);
     }
 }

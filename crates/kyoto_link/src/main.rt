@@ -8,17 +8,19 @@ ghost use Rattle.commands.specs.Obeying.{status_of};
 mod hints;
 mod operator_input;
 mod scheme_hints;
+mod shown_lines;
+mod store_hints;
 mod system_files;
 mod watching;
 
-use crate::hints::explain;
+use crate::hints::{are_wanted, explain};
 use crate::operator_input::StandardInput;
 use crate::system_files::SystemFiles;
 use crate::watching::Terminal;
 use clap::Error;
 use commands::command_faults::OpFault;
 use commands::{Ended, obey};
-use std::io::ErrorKind;
+use std::io::{ErrorKind, IsTerminal};
 use std::net::{Net, TcpListener, TcpStream};
 use std::process::ExitCode;
 use std::rt::Clock as SystemClock;
@@ -34,8 +36,9 @@ fn tell(rt: &HostRuntime, fault: OpFault) {
     let _ = eprintln!(rt; "kyoto-link: {fault}");
 }
 
-/// Writes on standard error what is wrong with the words: `clap`'s lines, each after the program's name.
-fn tell_wrong_words(rt: &HostRuntime, error: &Error) {
+/// Writes on standard error what is wrong with the words: `clap`'s lines, each after the program's name. A file after
+/// `rehearse` or `chart` is most often meant as their input.
+fn tell_wrong_words(rt: &HostRuntime, words: &[String], error: &Error) {
     let Ok(text) = format!(in rt.alloc(); "{error}") else {
         tell(rt, OpFault::NoMemory);
         return;
@@ -45,21 +48,30 @@ fn tell_wrong_words(rt: &HostRuntime, error: &Error) {
             let _ = eprintln!(rt; "kyoto-link: {line}");
         }
     }
+    if let Some(command) = reader_of_input(words) {
+        if words.len() > 2 {
+            let _ = eprintln!(rt;
+                "kyoto-link: {command} reads standard input: 'kyoto-link {command} < FILE'"
+            );
+        }
+    }
 }
 
 /// Writes on standard error what went wrong, if anything did, and returns the exit status. If standard error can't be
 /// written, only the status shows it.
-fn report(rt: &HostRuntime, ended: &Ended) -> ExitCode
+fn report(rt: &HostRuntime, words: &[String], ended: &Ended, input: Option<&[u8]>) -> ExitCode
     ensures { exit_status result ≡ status_of ended.now }
 {
     match ended {
         Ended::Done => {}
         Ended::Failed(action, fault) => {
             tell(rt, *fault);
-            explain(rt, action, *fault);
+            if are_wanted(rt, is_node(words)) {
+                explain(rt, action, *fault, input);
+            }
         }
         Ended::NoAction(fault) => tell(rt, *fault),
-        Ended::WrongWords(error) => tell_wrong_words(rt, error),
+        Ended::WrongWords(error) => tell_wrong_words(rt, words, error),
     }
     ExitCode::from(ended.status())
 }
@@ -72,14 +84,44 @@ fn is_node(words: &[String]) -> bool {
     }
 }
 
+/// The command that reads its whole input from standard input, if the words name one.
+fn reader_of_input(words: &[String]) -> Option<&str> {
+    match words.get(1)?.as_str() {
+        "rehearse" => Some("rehearse"),
+        "chart" => Some("chart"),
+        _ => None,
+    }
+}
+
+/// Writes on standard error, if standard input is a terminal, that the command waits for lines.
+fn tell_waiting(rt: &HostRuntime, words: &[String]) {
+    let waits = match words.len() {
+        2 => reader_of_input(words).is_some(),
+        _ => is_node(words),
+    };
+    if waits && rt.stdin().is_terminal() {
+        let _ = eprintln!(rt; "kyoto-link: reading lines from the terminal; Ctrl-D ends them");
+    }
+}
+
+/// The input of the command that the words name.
+fn input_of<R: Net>(rt: &HostRuntime, net: &R, words: &[String]) -> io::Result<StandardInput> {
+    if is_node(words) {
+        return StandardInput::of_operator(rt, net);
+    }
+    let is_kept = reader_of_input(words).is_some() && are_wanted(rt, false);
+    Ok(StandardInput::of_command(rt, is_kept))
+}
+
 /// Does what the words ask for. `threads` is the same runtime, as one that may start threads, wait and open sockets.
 fn run<R>(rt: &HostRuntime, threads: &R, words: &[String]) -> ExitCode
 where
     R: Threads + Wait + SystemClock + Net<Listener = TcpListener, Stream = TcpStream> + Sync,
 {
-    let Ok(mut input) = StandardInput::new(rt, threads, is_node(words)) else {
-        return report(rt, &Ended::NoAction(OpFault::NoMemory));
+    let Ok(mut input) = input_of(rt, threads, words) else {
+        return report(rt, words, &Ended::NoAction(OpFault::NoMemory), None);
     };
+    tell_waiting(rt, words);
     let ended = obey(
         threads,
         rt.alloc(),
@@ -89,7 +131,7 @@ where
         &mut io::writer(rt),
         &Terminal { rt },
     );
-    report(rt, &ended)
+    report(rt, words, &ended, input.kept())
 }
 
 /// The words of the command line. Fails with `InvalidData` if one of them isn't UTF-8.
@@ -101,7 +143,7 @@ fn main(rt: HostRuntime) -> ExitCode {
     match words(&rt) {
         Ok(words) => run(&rt, &rt, words.as_slice()),
         Err(error) if error.kind() == ErrorKind::OutOfMemory => {
-            report(&rt, &Ended::NoAction(OpFault::NoMemory))
+            report(&rt, &[], &Ended::NoAction(OpFault::NoMemory), None)
         }
         Err(_) => {
             let _ = eprintln!(rt;

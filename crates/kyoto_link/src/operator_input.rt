@@ -74,26 +74,23 @@ impl Read for OperatorInput {
 /// Standard input, as a command reads it.
 #[derive(Drop)]
 pub(crate) enum StandardInput {
-    /// Each read waits until something is written.
-    Waiting(StdinLock<'static>),
+    /// Each read waits until something is written. What was read is kept for a hint, if one is wanted and memory
+    /// doesn't run out.
+    Waiting {
+        stdin: StdinLock<'static>,
+        kept: Option<Vec<u8>>,
+    },
     /// A read returns now and then if nothing is written.
     Returning(BufReader<OperatorInput>),
 }
 
 impl StandardInput {
-    /// The input of a node's operator, or that of any other command.
+    /// The input of a node's operator.
     ///
     /// # Errors
     ///
     /// Fails with `OutOfMemory`.
-    pub(crate) fn new<R: Net>(
-        rt: &HostRuntime,
-        net: &R,
-        is_operator: bool,
-    ) -> io::Result<StandardInput> {
-        if !is_operator {
-            return Ok(StandardInput::Waiting(rt.reader()));
-        }
+    pub(crate) fn of_operator<R: Net>(rt: &HostRuntime, net: &R) -> io::Result<StandardInput> {
         let input = OperatorInput {
             stdin: rt.reader(),
             watch: Watch::new(net, rt.alloc()),
@@ -101,12 +98,51 @@ impl StandardInput {
         let reader = BufReader::with_capacity(rt.alloc(), READ_AT_ONCE, input)?;
         Ok(StandardInput::Returning(reader))
     }
+
+    /// The input of any other command. What is read is kept if a hint may need it.
+    pub(crate) fn of_command(rt: &HostRuntime, is_kept: bool) -> StandardInput {
+        let kept = if is_kept {
+            Some(Vec::new(rt.alloc()))
+        } else {
+            None
+        };
+        StandardInput::Waiting {
+            stdin: rt.reader(),
+            kept,
+        }
+    }
+
+    /// What was read, if it was kept.
+    pub(crate) fn kept(&self) -> Option<&[u8]> {
+        match self {
+            StandardInput::Waiting {
+                kept: Some(bytes),
+                ..
+            } => Some(bytes.as_slice()),
+            _ => None,
+        }
+    }
+}
+
+/// Adds these bytes to those that were kept. If memory runs out, none is kept any more.
+fn keep(kept: &mut Option<Vec<u8>>, bytes: &[u8]) {
+    let is_lost = match kept {
+        Some(before) => before.extend_from_slice(bytes).is_err(),
+        None => false,
+    };
+    if is_lost {
+        *kept = None;
+    }
 }
 
 impl Read for StandardInput {
     fn read(&mut self, piece: &mut [u8]) -> io::Result<usize> {
         match self {
-            StandardInput::Waiting(stdin) => stdin.read(piece),
+            StandardInput::Waiting { stdin, kept } => {
+                let count = stdin.read(piece)?;
+                keep(kept, &piece[..count]);
+                Ok(count)
+            }
             StandardInput::Returning(reader) => reader.read(piece),
         }
     }

@@ -1,10 +1,9 @@
-//! The place of the fault in a scheme's file, for a user at a terminal.
+//! The place of the fault in a scheme, for a hint.
 
 use protocol::scheme::Scheme;
 use protocol::units::NoMemory;
 use serde_json::Value;
 use std::alloc::Global;
-use std::fs;
 
 /// Two codes; a registry has at most one of them.
 const CODES: [&str; 2] = ["AA", "AB"];
@@ -41,37 +40,33 @@ fn is_faulty(alloc: Global, registry: &Value) -> bool {
     }
 }
 
-/// Names the first registry that has a fault by itself, counted from 1, or the file if none has.
-fn tell_registry(rt: &HostRuntime, path: &str, value: &Value) {
+/// Names the first registry that has a fault by itself, counted from 1, or the scheme if none has.
+fn tell_registry(rt: &HostRuntime, place: &str, value: &Value) {
     let mut number: usize = 0;
     if let Some(registries) = registries_in(value) {
         for registry in registries.as_slice() {
             number = number.saturating_add(1);
             if is_faulty(rt.alloc(), registry) {
                 let _ = eprintln!(rt;
-                    "kyoto-link: the fault is in registry {number} of the scheme's file, {path}"
+                    "kyoto-link: the fault is in registry {number} of the scheme, {place}"
                 );
                 return;
             }
         }
     }
     let _ = eprintln!(rt;
-        "kyoto-link: the fault is in the scheme's file, {path}, and in no single registry of it"
+        "kyoto-link: the fault is in the scheme, {place}, and in no single registry of it"
     );
 }
 
-/// Names the place in the scheme's file at which it is no JSON, or otherwise the registry that has a fault.
-pub(crate) fn tell_scheme(rt: &HostRuntime, path: &str) {
-    let Ok(bytes) = fs::read(rt, path) else {
-        return;
-    };
-    match Value::from_slice(rt.alloc(), bytes.as_slice()) {
-        Ok(value) => tell_registry(rt, path, &value),
+/// Names the place in the text of a scheme at which it is no JSON, or otherwise the registry that has a fault. `place` is
+/// its file, or the input that has it.
+pub(crate) fn tell_scheme(rt: &HostRuntime, place: &str, text: &[u8]) {
+    match Value::from_slice(rt.alloc(), text) {
+        Ok(value) => tell_registry(rt, place, &value),
         Err(error) => {
             let (line, column) = (error.line(), error.column());
-            let _ = eprintln!(rt;
-                "kyoto-link: the scheme's file is no JSON at {path}:{line}:{column}"
-            );
+            let _ = eprintln!(rt; "kyoto-link: the scheme is no JSON at {place}:{line}:{column}");
         }
     }
 }

@@ -7,7 +7,7 @@ use protocol::units::Node;
 use sqlite::File as StoreFile;
 use std::alloc::{AllocError, Global};
 use std::fs::File;
-use std::io::{ErrorKind, IsTerminal, Read, Write};
+use std::io::{ErrorKind, Read, Write};
 use std::os::unix::fs::PermissionsExt;
 use std::{fs, io};
 use store_files::durable::SqlStore;
@@ -20,7 +20,7 @@ pub(crate) struct SystemFiles<'a> {
 }
 
 /// The path of the node's store.
-fn store_path(alloc: Global, folder: &str, node: Node) -> Result<String, AllocError> {
+pub(crate) fn store_path(alloc: Global, folder: &str, node: Node) -> Result<String, AllocError> {
     format!(in alloc; "{folder}/{node}.db")
 }
 
@@ -37,18 +37,20 @@ fn new_sum_path(alloc: Global, folder: &str, node: Node) -> Result<String, Alloc
     format!(in alloc; "{folder}/{node}.scheme.new")
 }
 
-/// Writes the sum, and a newline, into a file at the first path, and moves it to the second one.
-fn write_sum(rt: &HostRuntime, new: &str, path: &str, sum: &str) -> io::Result<()> {
+/// Writes the sum, and a newline, into a file at the first path, and moves it to the second one. The folder is synced
+/// too, so that the name is there after a power failure.
+fn write_sum(rt: &HostRuntime, folder: &str, new: &str, path: &str, sum: &str) -> io::Result<()> {
     let mut file = fs::create(rt, new)?;
     file.write_all(sum.as_bytes())?;
     file.write_all(b"\n")?;
     file.sync_all()?;
-    fs::rename(rt, new, path)
+    fs::rename(rt, new, path)?;
+    fs::open(rt, folder)?.sync_all()
 }
 
-/// Writes, at a terminal, that a store isn't there and is made.
+/// Writes that a store isn't there and is made: the store of another folder may be meant.
 fn tell_missing(rt: &HostRuntime, path: &str) {
-    if rt.stderr().is_terminal() && fs::metadata(rt, path).is_err() {
+    if fs::metadata(rt, path).is_err() {
         let _ = eprintln!(rt; "kyoto-link: {path} doesn't exist, and is created as an empty store");
     }
 }
@@ -121,6 +123,10 @@ impl<'a> Archive for SystemFiles<'a> {
         let Ok(metadata) = file.metadata() else {
             return Err(unread);
         };
+        // A pipe or a device may have no end.
+        if !metadata.is_file() {
+            return Err(unread);
+        }
         if metadata.permissions().mode() & OF_OTHERS != 0 {
             return Err(OpFault::Setup(SetupFault::KeysShared));
         }
@@ -159,7 +165,7 @@ impl<'a> Archive for SystemFiles<'a> {
         let Ok(new) = new_sum_path(self.rt.alloc(), folder, node) else {
             return Err(OpFault::NoMemory);
         };
-        match write_sum(self.rt, new.as_str(), path.as_str(), sum) {
+        match write_sum(self.rt, folder, new.as_str(), path.as_str(), sum) {
             Ok(()) => Ok(()),
             Err(_) => Err(OpFault::Setup(SetupFault::SchemeSum)),
         }

@@ -1,5 +1,6 @@
+use crate::failing_streams::Endless;
 use crate::registries::registry;
-use crate::same::{assert_same, room};
+use crate::same::assert_same;
 use crate::standing::standing_at;
 use crate::stations::{COMPLETED, NodeDesk, StillClock, UNKNOWN, desk_of, refused};
 use desk::Seat;
@@ -8,9 +9,11 @@ use protocol::units::NoMemory;
 use protocol::units::refusal_code::{NODE_STOPPED, NOT_A_MESSAGE, OUT_OF_MEMORY};
 use replies::{Answer, DeskAnswerer};
 use std::alloc::Global;
+use std::io::Read;
 use std::process::Abort;
 use std::rt::Clock;
 use std::sync::Wait;
+use test_support::failing_streams::Full;
 use test_support::{READING, again};
 
 /// Asserts that these answers refuse with these codes, one after the other, and which of them a journal judged.
@@ -38,19 +41,19 @@ fn lacks_memory(rt: &impl Abort, answers: &[Answer]) -> bool {
     answers.iter().any(|answer| answer.reply() == without)
 }
 
-/// How a session at the desk over these bytes ends; its answers have to refuse with these codes. `NoMemory` if there
+/// How a session at the desk over that reader ends; its answers have to refuse with these codes. `NoMemory` if there
 /// was no memory for it or for an answer.
-fn served_once(
+fn served_once<R: Read + Drop>(
     rt: &(impl Wait + Clock + Abort),
     alloc: Global,
     desk: &NodeDesk,
-    bytes: &[u8],
+    reader: R,
     codes: &[u16],
 ) -> Result<SessionEnd, NoMemory> {
     let seat = Seat::new(alloc);
     let mut answerer = DeskAnswerer::new(rt, alloc, desk, seat, &StillClock);
-    let mut reader = Counted::new(bytes);
-    let mut writer = Counted::new(room(rt, alloc));
+    let mut reader = Counted::new(reader);
+    let mut writer = Counted::new(Full { room: usize::MAX });
     let end = serve_session(alloc, &mut reader, &mut writer, &mut answerer);
     assert_same(rt, writer.failures(), 0);
     let lacks_memory = lacks_memory(rt, answerer.answers());
@@ -65,17 +68,17 @@ fn served_once(
 }
 
 /// The same, but a session that runs out of memory leaves the desk as it was, and another one takes its place.
-fn served(
+fn served<R: Read + Copy + Drop>(
     rt: &(impl Wait + Clock + Abort),
     alloc: Global,
     desk: &NodeDesk,
-    bytes: &[u8],
+    reader: R,
     codes: &[u16],
 ) -> SessionEnd {
     let seat = Seat::new(alloc);
     let before = standing_at(rt, alloc, desk, &seat);
     let end = again!(
-        served_once(rt, alloc, desk, bytes, codes),
+        served_once(rt, alloc, desk, reader, codes),
         Err(NoMemory) => assert_same(rt, standing_at(rt, alloc, desk, &seat), before)
     );
     drop(seat);
@@ -108,5 +111,16 @@ fn session_of_a_stopped_node(rt: HostRuntime) {
     desk.stop(&rt);
     let end = served(&rt, alloc, &desk, bytes.as_bytes(), &[NODE_STOPPED]);
     assert_same(&rt, end, SessionEnd::Stopped);
+    drop(desk);
+}
+
+/// Lines of 99 letters without end: each one is refused, and the session ends at its limit.
+#[test]
+fn session_of_an_endless_stream(rt: HostRuntime) {
+    let alloc = rt.alloc();
+    let desk = desk_of(&rt, alloc, registry(&rt, "NZ"));
+    let codes = [NOT_A_MESSAGE; 10_000];
+    let end = served(&rt, alloc, &desk, Endless { given: 0 }, &codes);
+    assert_same(&rt, end, SessionEnd::TurnLimit);
     drop(desk);
 }

@@ -7,10 +7,11 @@ use crate::nz_desk::{
 use crate::same::{assert_same, assert_same_in};
 use crate::standing::{commit, commit_stored, next_for_log, next_key, query, take, take_stored};
 use desk::{Life, Seat, Taken, Told, Unsettled, settle};
-use protocol::Stepped;
 use protocol::status::{Status, TransactionId};
 use protocol::units::refusal_code::NODE_STOPPED;
 use protocol::units::{NoMemory, Refusal};
+use protocol::{NodeCore, Stepped};
+use registry_core::RegistryCore;
 use std::alloc::Global;
 use std::process::Abort;
 use std::rt::Clock;
@@ -32,20 +33,34 @@ fn assert_next(rt: &(impl Wait + Abort), desk: &NzDesk, expected: [Option<usize>
     }
 }
 
-/// A desk that has taken a proposal from each of two seats.
-fn desk_of_two(rt: &(impl Wait + Abort), alloc: Global, a: &mut Seat, b: &mut Seat) -> NzDesk {
-    let desk = nz_desk(rt, alloc);
-    take_all(rt, alloc, &desk, a, &[(TEN, recorded(0))]);
-    take_all(rt, alloc, &desk, b, &[(TEN_MORE, recorded(1))]);
-    desk
+/// Has the desk take a proposal, which is recorded at that place.
+fn proposed(
+    rt: &(impl Wait + Abort),
+    alloc: Global,
+    desk: &NzDesk,
+    seat: &mut Seat,
+    given: Given,
+    place: usize,
+) -> Taken {
+    let taken = take(rt, alloc, desk, seat, given);
+    assert_same(rt, taken.told(), recorded(place));
+    taken
 }
 
-/// A desk that has committed two proposals, and the seats that noted them. `NoMemory` if its store ran out of memory.
-fn committed_two(rt: &(impl Wait + Abort), alloc: Global) -> Result<(NzDesk, [Seat; 2]), NoMemory> {
+/// A desk that has committed two proposals, and the seats that noted them and had their results confirmed. `NoMemory`
+/// if its store ran out of memory.
+fn committed_two(
+    rt: &(impl Wait + Clock + Abort),
+    alloc: Global,
+) -> Result<(NzDesk, [Seat; 2]), NoMemory> {
     let (mut a, mut b) = (Seat::new(alloc), Seat::new(alloc));
-    let desk = desk_of_two(rt, alloc, &mut a, &mut b);
+    let desk = nz_desk(rt, alloc);
+    let first = proposed(rt, alloc, &desk, &mut a, TEN, 0);
+    let second = proposed(rt, alloc, &desk, &mut b, TEN_MORE, 1);
     assert_next(rt, &desk, [None, None, None]);
     assert_same(rt, commit(rt, &desk)?, 2);
+    assert!(rt; confirm(rt, &desk, &mut a, first));
+    assert!(rt; confirm(rt, &desk, &mut b, second));
     Ok((desk, [a, b]))
 }
 
@@ -119,6 +134,15 @@ fn assert_settles(rt: &impl Abort, state: &NzState, seats: &[Seat; 2]) {
     assert_same(rt, first, Err(Unsettled::Missing(1)));
 }
 
+/// Asserts that a fresh core of the core's scheme and node has no record.
+fn assert_fresh(rt: &impl Abort, core: RegistryCore) {
+    let fresh = again!(core.fresh(), Err(NoMemory) => ());
+    let fresh = fresh.expect(rt, "memory");
+    assert_same(rt, fresh.records(), 0);
+    drop(fresh);
+    drop(core);
+}
+
 #[test]
 fn a_stopped_desk_settles(rt: HostRuntime) {
     let alloc = rt.alloc();
@@ -128,7 +152,8 @@ fn a_stopped_desk_settles(rt: HostRuntime) {
     assert_stops(&rt, alloc, &desk, &mut a);
     let (state, seats) = (state_left(desk), [a, b]);
     assert_settles(&rt, &state, &seats);
-    drop((state, seats));
+    drop(seats);
+    assert_fresh(&rt, state.into_core());
 }
 
 /// Has the desk record that many inputs, which close and open an account in turn.

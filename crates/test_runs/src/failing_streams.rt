@@ -28,7 +28,7 @@ impl Read for Dripping {
 }
 
 /// Gives lines of 99 bytes without end, a byte at a time.
-#[derive(Drop)]
+#[derive(Clone, Copy)]
 pub struct Endless {
     pub given: usize,
 }

@@ -1,4 +1,4 @@
-use crate::failing_streams::{Dripping, Endless, long_line};
+use crate::failing_streams::{Dripping, long_line};
 use crate::same::{assert_same, room};
 use exchanges::{Answerer, Counted, SessionEnd, serve_session};
 use protocol::units::refusal_code::{NODE_STOPPED, NOT_A_MESSAGE};
@@ -208,14 +208,4 @@ fn a_padded_proposal_is_too_long_by_one_space(rt: HostRuntime) {
         let line = padded(&rt, alloc, spaces);
         assert_long(&rt, alloc, line.as_slice(), end, lines);
     }
-}
-
-#[test]
-fn an_endless_stream_has_a_limit(rt: HostRuntime) {
-    let alloc = rt.alloc();
-    let ended = again!(
-        served(alloc, Endless { given: 0 }, Full { room: NEVER }),
-        (SessionEnd::NoMemory, given, failures) => assert_no_more(&rt, given, 10_000, failures)
-    );
-    assert_same(&rt, ended, (SessionEnd::TurnLimit, 10_000, 0));
 }

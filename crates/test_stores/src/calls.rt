@@ -1,7 +1,9 @@
 //! Calls of stores, each repeated where memory ran out.
 
+ghost use Rattle.std.specs.Prelude.{◌≤◌};
+
 use crate::same::assert_same;
-use crate::sample_records::{are_two, two};
+use crate::sample_records::{ACCEPTED, PROPOSE, are_two, has_text, two};
 use desk::stores::{NodeStore, StoreFault};
 use protocol::wire::Input;
 use std::alloc::Global;
@@ -72,4 +74,43 @@ pub fn append_two<S: NodeStore>(rt: &impl Abort, alloc: Global, store: &mut S) {
     let batch = two(rt, alloc);
     assert_same(rt, append(rt, store, 0, &batch), Ok(()));
     drop(batch);
+}
+
+/// Asserts that the store has the two records, that it still has them after it was opened again, and that it met no
+/// fault.
+pub fn assert_kept<S: NodeStore>(rt: &impl Abort, alloc: Global, store: &mut S) {
+    assert_two(rt, alloc, store);
+    assert_same(rt, reopen(rt, store), Ok(()));
+    assert_two(rt, alloc, store);
+    assert!(rt; store.fault_count() == 0);
+}
+
+/// Asserts that the store has that one record, or none, at the places from `from` on, at most `most` of them.
+pub fn assert_page<S: NodeStore>(
+    rt: &impl Abort,
+    alloc: Global,
+    store: &mut S,
+    from: u64,
+    most: u64,
+    wanted: Option<&str>,
+)
+    requires some { 1 ≤ most }
+    requires few { most ≤ 256 }
+{
+    let page = again!(store.load_page(from, most), Err(StoreFault::NoMemory) => ());
+    let page = page.expect(rt, "no fault of the store");
+    let is_so = match (page.as_slice(), wanted) {
+        ([record], Some(text)) => has_text(alloc, record, text),
+        ([], None) => true,
+        _ => false,
+    };
+    assert!(rt; is_so);
+    drop(page);
+}
+
+/// Asserts the pages of a store that has the two records.
+pub fn assert_pages<S: NodeStore>(rt: &impl Abort, alloc: Global, store: &mut S) {
+    assert_page(rt, alloc, store, 0, 1, Some(PROPOSE));
+    assert_page(rt, alloc, store, 1, 256, Some(ACCEPTED));
+    assert_page(rt, alloc, store, 2, 256, None);
 }

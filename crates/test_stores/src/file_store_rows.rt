@@ -1,11 +1,14 @@
-use crate::calls::{append, append_two, assert_two, count, load, reopen, waits};
+use crate::calls::{
+    append, append_two, assert_kept, assert_page, assert_pages, assert_two, count, load, reopen,
+    waits,
+};
 use crate::folders::{add_folder, add_text, remove_folder};
 use crate::fused_files::{
     FOREVER, RoomyFiles, RoomyStore, after_losses, assert_refused, changed, closed, have_blown,
     new_files, open_as, opened, refused, registry,
 };
 use crate::same::assert_same;
-use crate::sample_records::{ACCEPTED, PROPOSE, has_text, two};
+use crate::sample_records::{PROPOSE, two};
 use desk::stores::{NodeStore, StoreFault};
 use sqlite::File;
 use sqlite_disk::Disk;
@@ -33,15 +36,6 @@ pub fn assert_two_in(rt: &impl Abort, alloc: Global, files: RoomyFiles) {
     drop(store);
 }
 
-/// Asserts that the store has the two records, that it still has them after it was opened again, and that it met no
-/// fault.
-fn assert_kept<S: NodeStore>(rt: &impl Abort, alloc: Global, store: &mut S) {
-    assert_two(rt, alloc, store);
-    assert_same(rt, reopen(rt, store), Ok(()));
-    assert_two(rt, alloc, store);
-    assert!(rt; store.fault_count() == 0);
-}
-
 #[test]
 fn records_are_kept_in_files(rt: HostRuntime) {
     let alloc = rt.alloc();
@@ -50,32 +44,11 @@ fn records_are_kept_in_files(rt: HostRuntime) {
     drop(store);
 }
 
-/// Asserts that the store has that one record, or none, at the places from `from` on.
-fn assert_page<S: NodeStore>(
-    rt: &impl Abort,
-    alloc: Global,
-    store: &mut S,
-    from: u64,
-    wanted: Option<&str>,
-) {
-    let page = again!(store.load_page(from, 1), Err(StoreFault::NoMemory) => ());
-    let page = page.expect(rt, "no fault of the store");
-    let is_so = match (page.as_slice(), wanted) {
-        ([record], Some(text)) => has_text(alloc, record, text),
-        ([], None) => true,
-        _ => false,
-    };
-    assert!(rt; is_so);
-    drop(page);
-}
-
 #[test]
 fn pages_of_a_store_in_files(rt: HostRuntime) {
     let alloc = rt.alloc();
     let mut store = open_as(&rt, alloc, files_of_two(&rt, alloc), "NZ");
-    for (from, wanted) in [(0, Some(PROPOSE)), (1, Some(ACCEPTED)), (2, None)] {
-        assert_page(&rt, alloc, &mut store, from, wanted);
-    }
+    assert_pages(&rt, alloc, &mut store);
     drop(store);
 }
 
@@ -155,7 +128,7 @@ fn a_record_that_is_none_is_named(rt: HostRuntime) {
     let alloc = rt.alloc();
     let statement = "UPDATE entries SET body = 'x' WHERE place = 1";
     let mut store = damaged(&rt, alloc, statement, 1);
-    assert_page(&rt, alloc, &mut store, 0, Some(PROPOSE));
+    assert_page(&rt, alloc, &mut store, 0, 1, Some(PROPOSE));
     assert_damaged_page(&rt, &mut store, 1);
     drop(store);
 }

@@ -1,5 +1,6 @@
-use crate::calls::{append, load, loaded};
+use crate::calls::{append, append_two, assert_kept, assert_pages, assert_two, load, loaded};
 use crate::same::assert_same;
+use crate::sample_records::{are_two, two};
 use desk::stores::{Kept, MemoryStore, NodeStore, StoreFault};
 use protocol::units::{Code, Node};
 use protocol::wire::{Input, Number};
@@ -16,33 +17,9 @@ fn number(rt: &impl Abort, value: u64) -> Number {
     Number::new(value).expect(rt, "a short number")
 }
 
-/// Two records: account 8 is opened, and closed.
-fn two(rt: &impl Abort, alloc: Global) -> Vec<Input> {
-    let batch = [
-        Input::OpenAccount(number(rt, 8)),
-        Input::CloseAccount(number(rt, 8)),
-    ];
-    Vec::from_array(alloc, batch).expect(rt, READING)
-}
-
 /// An acknowledgement.
 fn one(rt: &impl Abort, alloc: Global) -> Vec<Input> {
     Vec::from_array(alloc, [Input::Ack(number(rt, 7))]).expect(rt, READING)
-}
-
-fn is_open(input: &Input, account: u64) -> bool {
-    matches!(input, Input::OpenAccount(number) if number.value == account)
-}
-
-fn is_close(input: &Input, account: u64) -> bool {
-    matches!(input, Input::CloseAccount(number) if number.value == account)
-}
-
-fn are_two(inputs: &[Input]) -> bool {
-    match inputs {
-        [first, second] => is_open(first, 8) && is_close(second, 8),
-        _ => false,
-    }
 }
 
 /// Appends and loads through the bound, as callers of any store do.
@@ -62,24 +39,11 @@ fn appended_and_loaded(
     append_and_load(&mut store, batch)
 }
 
-/// Asserts that the store has the two records.
-fn assert_two(rt: &impl Abort, store: &mut MemoryStore) {
-    let records = loaded(rt, store);
-    assert!(rt; are_two(&records));
-    drop(records);
-}
-
 /// Asserts that the store has that number of records.
 fn assert_count(rt: &impl Abort, store: &mut MemoryStore, count: usize) {
     let records = loaded(rt, store);
     assert_same(rt, records.len(), count);
     drop(records);
-}
-
-/// A page of the store.
-fn page(rt: &impl Abort, store: &mut MemoryStore, from: u64, most: u64) -> Vec<Input> {
-    let page = again!(store.load_page(from, most), Err(StoreFault::NoMemory) => ());
-    page.expect(rt, "no fault of the store")
 }
 
 /// Asserts the result of appending the batch to a store that has that number of records.
@@ -96,24 +60,11 @@ fn assert_append(
 #[test]
 fn records_are_kept_in_their_order(rt: HostRuntime) {
     let alloc = rt.alloc();
-    let batch = two(&rt, alloc);
     let mut store = MemoryStore::new(alloc, nz(&rt));
     assert_same(&rt, store.node(), nz(&rt));
-    assert_append(&rt, &mut store, 0, &batch, Ok(()));
-    assert_two(&rt, &mut store);
-    assert_same(&rt, store.reopen(), Ok(()));
-    assert_two(&rt, &mut store);
-    let first = page(&rt, &mut store, 0, 1);
-    assert!(rt; first.len() == 1 && is_open(&first[0], 8));
-    drop(first);
-    let second = page(&rt, &mut store, 1, 256);
-    assert!(rt; second.len() == 1 && is_close(&second[0], 8));
-    drop(second);
-    let third = page(&rt, &mut store, 2, 256);
-    assert!(rt; third.is_empty());
-    drop(third);
-    assert_same(&rt, store.fault_count(), 0);
-    drop(batch);
+    append_two(&rt, alloc, &mut store);
+    assert_kept(&rt, alloc, &mut store);
+    assert_pages(&rt, alloc, &mut store);
 }
 
 #[test]
@@ -125,7 +76,7 @@ fn a_store_through_its_bound(rt: HostRuntime) {
         Err(StoreFault::NoMemory) => ()
     );
     let records = records.expect(&rt, "no fault of the store");
-    assert!(rt; are_two(&records));
+    assert!(rt; are_two(alloc, &records));
     drop(records);
     drop(batch);
 }
@@ -141,7 +92,7 @@ fn the_fuse_keeps_the_whole_batch(rt: HostRuntime) {
     assert_append(&rt, &mut store, 2, &[], Err(StoreFault::Reopen));
     assert_same(&rt, store.fault_count(), 1);
     assert_same(&rt, store.reopen(), Ok(()));
-    assert_two(&rt, &mut store);
+    assert_two(&rt, alloc, &mut store);
     assert_append(&rt, &mut store, 2, &batch, Ok(()));
     assert_count(&rt, &mut store, 4);
     drop(batch);

@@ -112,21 +112,35 @@ fn assert_all_refused(rt: &impl Abort, holdings: &mut Holdings) {
     }
 }
 
+/// Calls where account 1 has forty units, and account 2 none.
+const CALLS: &[(Call, u64, Option<u16>)] = &[
+    (Call::Close, 1, Some(112)),
+    (Call::Close, 2, None),
+    (Call::Close, 2, Some(111)),
+    (Call::Open, 2, None),
+    (Call::Open, 3, Some(110)),
+];
+
 #[test]
 fn holdings_are_reserved_once(rt: HostRuntime) {
     let first = id(&rt, "NZ1");
     let sixty = [block(&rt, "NZ:1:1-60:AAU")];
+    let left = line(&rt, "NZ:1:61-100:AAU", None);
     let alloc = rt.alloc();
     let mut holdings = hundred(&rt, alloc);
     assert_reserved(&rt, &mut holdings, alloc, &sixty, first, 40);
     assert_all_refused(&rt, &mut holdings);
     assert_released(&rt, &mut holdings, id(&rt, "NZ2"), 40);
     assert_released(&rt, &mut holdings, first, 100);
+    assert_reserved(&rt, &mut holdings, alloc, &sixty, first, 40);
+    assert_removed(&rt, &mut holdings, first, 40);
+    assert_lines(&rt, &holdings, alloc, &[left]);
+    assert_calls(&rt, &mut holdings, CALLS);
     drop(holdings);
 }
 
 #[test]
-fn holdings_are_taken_out(rt: HostRuntime) {
+fn two_blocks_are_taken_out(rt: HostRuntime) {
     let first = id(&rt, "NZ1");
     let blocks = [block(&rt, "NZ:1:1-30:AAU"), block(&rt, "NZ:1:31-60:AAU")];
     let left = line(&rt, "NZ:1:61-100:AAU", None);

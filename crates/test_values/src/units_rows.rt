@@ -10,6 +10,7 @@ use test_support::{READING, again};
 
 #[test]
 fn block_texts(rt: HostRuntime) {
+    assert!(rt; Block::read("NZ:1:1-999999999999999:AAU").is_ok());
     assert!(rt; Block::read("NZ:1:999999999999999-999999999999999:AAU").is_ok());
     assert_same(
         &rt,

@@ -72,9 +72,9 @@ def orders(count):
         yield f"propose AA 1 AB 1 AA:1:{unit}-{unit}:AAU"
 
 
-def transfers(codes, count):
-    """Yields the lines of transfers of a unit each, from each registry in turn to the next one. Each message is
-    delivered at once."""
+def transfers(codes, count, together=1):
+    """Yields the lines of transfers of a unit each, from each registry in turn to the next one. Of so many together each
+    takes a step before any takes the next one. A posted message is delivered at once."""
     yield scheme(codes, count)
     sent = {node: 0 for node in [*codes, "ITL"]}
     posted = 0
@@ -87,13 +87,17 @@ def transfers(codes, count):
         sent[node] += 1
         posted += 1
 
-    for number in range(count):
-        initiator, acquirer = codes[number % len(codes)], codes[(number + 1) % len(codes)]
-        unit = number // len(codes) + 1
-        yield f"propose {initiator} 1 {acquirer} 1 {initiator}:1:{unit}-{unit}:AAU"
-        for node in (initiator, "ITL", acquirer, "ITL", initiator, "ITL"):
-            yield from passed(node)
-        yield f"commit {acquirer} 1"
+    for start in range(0, count, together):
+        numbers = range(start, min(start + together, count))
+        pairs = [(codes[number % len(codes)], codes[(number + 1) % len(codes)]) for number in numbers]
+        for number, (initiator, acquirer) in zip(numbers, pairs):
+            unit = number // len(codes) + 1
+            yield f"propose {initiator} 1 {acquirer} 1 {initiator}:1:{unit}-{unit}:AAU"
+        for step in range(6):
+            for initiator, acquirer in pairs:
+                yield from passed((initiator, "ITL", acquirer, "ITL", initiator, "ITL")[step])
+        for _, acquirer in pairs:
+            yield f"commit {acquirer} 1"
 
 
 def delivered_twice(count):

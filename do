@@ -14,9 +14,10 @@ usage: ./do COMMAND
   test CRATE      runs the tests of a crate of tests
   examples        compares the program's output for each of the examples with its files
   bench NAME ..   runs bench/NAME.py with these words; without words it lists the benches
-  docs            looks for stale names, wrong comments of definitions, other texts of `explain`, old lists, the version
+  trial NAME ..   runs trials/NAME.py with these words; without words it lists the trials
+  docs            looks for stale names, wrong comments of definitions, other texts of `explain`, the version
   pages           runs the commands of README and OPERATING as written, and compares their outputs
-  lists           writes the generated lists of docs/log anew
+  lists           writes lists of all contracts, lemmas, definitions and edits into out/lists
   times           runs the gate, and writes the processor seconds of each crate into docs/log/times.md
   format          formats all sources
   gate            runs the gate of a merge, .ci/run
@@ -35,6 +36,18 @@ in_crate() {
     cd -- "crates/$1"
 }
 
+# The script of a folder with that name, or the list of the folder's scripts.
+run_script() {
+    local folder=$1 name=${2-}
+    if [[ -z $name ]]; then
+        grep -lx 'if __name__ == "__main__":' "$folder"/*.py | sed "s|$folder/||; s|\.py\$||"
+        exit
+    fi
+    [[ -f $folder/$name.py ]] || fail "no $name in $folder"
+    shift 2
+    exec python3 "$folder/$name.py" "$@"
+}
+
 command=${1-}
 shift || true
 case $command in
@@ -44,22 +57,13 @@ check | plant | test)
     ;;
 edits) rt must-fail "$@" ;;
 examples) (in_crate test_examples && exec rt run) ;;
-bench)
-    if [[ -z ${1-} ]]; then
-        grep -lx 'if __name__ == "__main__":' bench/*.py | sed 's|bench/||; s|\.py$||'
-        exit
-    fi
-    [[ -f bench/$1.py ]] || fail "no bench $1"
-    name=$1
-    shift
-    exec python3 "bench/$name.py" "$@"
-    ;;
+bench) run_script bench "$@" ;;
+trial) run_script trials "$@" ;;
 docs)
     status=0
     for script in stale_names count_definitions explained; do
-        python3 "docs/$script.py" || status=1
+        python3 "tools/$script.py" || status=1
     done
-    python3 docs/make_lists.py --check || status=1
     # The version stands in the code; the documents and the release have it too.
     version=$(sed -n 's/^const VERSION: &str = "\(.*\)";$/\1/p' crates/operator/src/command_line.rt)
     for file in CHANGELOG.md release/MANIFEST crates/test_examples/data/command_line/version/output; do
@@ -70,9 +74,9 @@ docs)
     done
     exit "$status"
     ;;
-pages) exec python3 docs/tried.py "$@" ;;
-lists) exec python3 docs/make_lists.py ;;
-times) exec python3 bench/gate.py "$@" ;;
+pages) exec python3 tools/tried.py "$@" ;;
+lists) exec python3 tools/make_lists.py ;;
+times) exec python3 tools/gate.py "$@" ;;
 format) for crate in crates/*/; do (cd -- "$crate" && rt fmt); done ;;
 gate) exec .ci/run ;;
 release) exec release/make ;;

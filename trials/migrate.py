@@ -26,6 +26,7 @@ import sys
 import tempfile
 import time
 
+import paths
 from endings import check_end, run_to_end
 from records import write_store
 from rehearse import program, run, scheme

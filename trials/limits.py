@@ -19,6 +19,7 @@ import sys
 import tempfile
 import time
 
+import paths
 from records import record, write_store
 from rehearse import LONGEST_INPUT, codes_of, program
 

@@ -11,7 +11,7 @@ it prints the number of definitions of all crates and of those that the contract
 for each definition whose comment is wrong: one that is reached although its comment denies it, or one that isn't
 reached and has no comment that says it. The exit status is 1 if there is such a definition.
 
-With --files the script prints the tables of docs/log/definitions.md instead: the files of definitions of each crate,
+With --files the script prints the tables of out/lists/definitions.md instead: the files of definitions of each crate,
 each after the files that it needs, with the comment at its beginning.
 """
 import glob

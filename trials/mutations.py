@@ -4,10 +4,11 @@
     mutations.py [--list] [--only WORD] [--done FILE] [--jobs N]
 
 A mutation is a wrong constant, comparison, connective, constructor, code or field, a negated condition or two causes in
-the other order. One is planted alone at each place that has one. The places are found in crates/protocol/specs and in
-the status tables. A mutation that the checker rejects as a definition, since its types differ, is counted apart. The
-others are checked with the equations of `test_definitions`, and those that no equation refuses with the worked runs of
-`protocol`. The libraries must be built: `rt lib` in crates/protocol.
+the other order. One is planted alone at each place that has one. The places are found in crates/protocol/specs, in the
+status tables and in crates/safety/specs. A mutation that the checker rejects as a definition, since its types differ, is
+counted apart. Those of `protocol` are checked with the equations of `test_definitions`, and those that no equation
+refuses with the worked runs of `protocol`. Those of `safety` are checked with its worked runs, and those that none
+refuses with its laws. The libraries must be built: `rt lib` in crates/protocol.
 
 A line is printed for each mutation, and at the end the number of each result. The exit status is 1 if a mutation that
 isn't refused is missing in docs/MUTATIONS.md, which explains each of these, or if one that is there is refused. With
@@ -30,6 +31,7 @@ import definitions
 from definitions import ROOT
 
 LISTED = ROOT / "docs" / "MUTATIONS.md"
+SAFETY = ROOT / "crates" / "safety"
 WORKED = sorted((ROOT / "crates/protocol/proofs").glob("Worked*.antt"))
 STATUSES = ["Proposed", "Checked", "Accepted", "Rejected", "Cancelled", "Terminated", "Completed"]
 COLUMNS = [
@@ -150,7 +152,7 @@ def mutations():
 
 
 def unnamed():
-    for path in definitions.definitions():
+    for path in [*definitions.definitions(), *(it for it in sorted((SAFETY / "specs").glob("*.antt")) if it.stem != "Lib")]:
         text, file = path.read_text(), str(path.relative_to(ROOT / "crates"))
         codes = [it.strip() for items in re.findall(r"RefusalCodes\.\{([^}]*)\}", text) for it in items.split(",")]
         lines = []
@@ -200,6 +202,37 @@ def check(words):
     return ("equations" if equations else "limit" if errors else "none"), equations
 
 
+def is_of_law(it):
+    return it.file.startswith("safety/")
+
+
+def not_worked(place, names):
+    """Returns the names of the files and folders of `safety` that worked runs don't need."""
+    kept = {"src": (), "proofs": ("WorkedLaws", "WorkedLaws.antt")}.get(pathlib.Path(place).name, names)
+    return [name for name in names if name not in kept]
+
+
+def result_at_laws(it, folder):
+    """Returns the result of a mutation of a definition of `safety`: no definition, refused by a worked run or by the proof
+    of a law, or not refused."""
+    for worked_alone in True, False:
+        shutil.rmtree(folder, ignore_errors=True)
+        for part in "src", "specs", "proofs":
+            shutil.copytree(SAFETY / part, folder / part, ignore=not_worked if worked_alone else None)
+        if worked_alone:
+            (folder / "src" / "lib.rt").write_text("//! Worked runs alone.\n#![tactic(auto)]\n")
+            (folder / "proofs" / "Lib.antt").write_text("pub mod WorkedLaws\n")
+        (folder / "specs" / pathlib.Path(it.file).name).write_text(planted(it))
+        where, names = check(definitions.checking(folder / "src" / "lib.rt", SAFETY.name))
+        if where == "definitions":
+            return "isn't a definition"
+        if names:
+            return f"refused by {min(names)}"
+        if where == "limit":
+            return "refused by a limit"
+    return "NOT REFUSED"
+
+
 def result_of(it, folder, words, refusing):
     """Returns the result of a mutation: no definition, refused by an equation, or not refused. The files of equations
     that refused other mutations of its definition are tried first."""
@@ -231,7 +264,7 @@ def tried(changes):
         shutil.copytree(ROOT / "crates" / definitions.CRATE / "src", folder / "src")
         words = definitions.checking(folder / "src" / "lib.rt")
         for it in changes:
-            result = result_of(it, folder, words, refusing)
+            result = result_at_laws(it, folder / "laws") if is_of_law(it) else result_of(it, folder, words, refusing)
             print(f"{it}: {result}", flush=True)
             yield it, result
 

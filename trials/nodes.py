@@ -36,6 +36,7 @@ import sys
 import tempfile
 import time
 
+import paths
 from folders import Difference
 from node_answers import try_answers
 from node_group import raise_handles

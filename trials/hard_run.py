@@ -28,6 +28,7 @@ import tempfile
 import threading
 import time
 
+import paths
 from building import build_c
 from endings import run_to_end
 from kills import tonnes

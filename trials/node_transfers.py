@@ -9,6 +9,7 @@ import signal
 import sqlite3
 import time
 
+import paths
 from events import check_events
 from folders import differ, do
 from kills import is_completed, transactions

@@ -10,7 +10,7 @@ The options choose the parts to try; without one of them all four are tried.
   output of `events` must end with that table; checker/ must have the same report and the same records as the stores;
   `chart` must draw those events with that table; and `audit --cut` must write that table alone.
 - --copies N: N sets of copies of the stores of runs that go on, copied one node after another. `audit --cut` must write
-  the cut that bench/cuts.py finds by checker/: the table, the number of records left at each node, and the message for
+  the cut that trials/cuts.py finds by checker/: the table, the number of records left at each node, and the message for
   which the first of them waits. In the table, held and owed units must add up to the allotted ones, no unit may be in
   two lines, and no transaction may be Completed at one node and undone at another. `audit` must report the same fault
   with the same status. A set with a torn copy, which SQLite's library finds torn too, isn't counted.
@@ -36,6 +36,7 @@ import sys
 import tempfile
 import time
 
+import paths
 from audit import RECORDS_EACH, check_table, journals, write_stores
 from cuts import Cut, Given, forged, formats, worlds
 from folders import Difference, Folder, compare, copy_stores, differ, do, end_of, is_whole, put_in

@@ -8,6 +8,7 @@ missing. A crate that `rt` did not check again keeps its row and its date, and a
 The sum in the head of the page is measured by the system, and includes the time of `rt` and of the compiler. The output
 of `rt` goes to gate.log in the folder for temporary files. The exit status is that of `rt`.
 """
+import argparse
 import collections
 import datetime
 import os
@@ -68,7 +69,7 @@ def text(seconds, lines):
     """Yields the page: its head and its table."""
     table = rows(seconds, str(datetime.date.today()))
     sums = [sum(row[1][at] for row in table) for at in range(3)]
-    yield "# Times\n\nProcessor seconds of the prover by crate. Made by `bench/gate.py`; `release/prove` reads the table.\n\n"
+    yield "# Times\n\nProcessor seconds of the prover by crate. Made by `tools/gate.py`; `release/prove` reads the table.\n\n"
     yield from (f"- {line}\n" for line in lines)
     yield "\n| Crate | Code | Tests | Edits | Together | Measured |\n|---|---|---|---|---|---|\n"
     yield from (f"| `{name}` | {code} | {tests} | {edits} | {code + tests + edits} | {date} |\n" for name, (code, tests, edits, date) in table)
@@ -76,11 +77,14 @@ def text(seconds, lines):
 
 
 def main():
-    lines = head("gate", sys.argv[1:])
+    parser = argparse.ArgumentParser(description=__doc__.splitlines()[0])
+    parser.add_argument("words", metavar="WORDS", nargs="*", help="words after rt ci, as names of crates")
+    words = parser.parse_args().words
+    lines = head("tools/gate.py", words)
     begin = time.time()
     log = pathlib.Path(tempfile.gettempdir()) / "gate.log"
     with log.open("w", encoding="utf-8") as out:
-        run = subprocess.Popen(["rt", "ci", *sys.argv[1:]], cwd=TOP, stdout=out, stderr=subprocess.STDOUT, start_new_session=True)
+        run = subprocess.Popen(["rt", "ci", *words], cwd=TOP, stdout=out, stderr=subprocess.STDOUT, start_new_session=True)
         gate = Gate(run.pid)
         try:
             while run.poll() is None:

@@ -9,6 +9,7 @@ import signal
 import socket
 import time
 
+import paths
 from folders import Difference, Folder, differ
 from node_process import NodeProcess
 from rehearse import codes_of, program, scheme

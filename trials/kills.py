@@ -21,6 +21,7 @@ import sys
 import tempfile
 import time
 
+import paths
 from endings import check_end, run_to_end
 from rehearse import codes_of, program, scheme
 

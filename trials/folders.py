@@ -9,6 +9,7 @@ import sqlite3
 import subprocess
 import time
 
+import paths
 from cuts import formats
 from rehearse import program
 

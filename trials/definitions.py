@@ -284,13 +284,13 @@ def below(crate, used):
     return {*lower, *(lowest for it in lower for lowest in below(it, used))}
 
 
-def checking(root):
-    """Returns the command by which the checker checks the copy of the crate with built libraries."""
+def checking(root, crate=CRATE):
+    """Returns the command by which the checker checks a copy of the crate with built libraries."""
     kit = pathlib.Path(subprocess.run(["rt", "doc"], capture_output=True, text=True, check=True).stdout.strip()).parent
     lines = (line for line in (ROOT / "crates.txt").read_text().splitlines() if line and not line.startswith("#"))
     used = {name: libraries.split() for name, libraries in (line.split(":") for line in lines)}
-    words = [kit / "bin" / "rattle", "check", "--crate-name", CRATE, root, "--extern", f"std={kit / 'rlibs' / 'std.rlib'}", "-L", f"dependency={kit / 'rlibs'}"]
-    for it in sorted(below(CRATE, used)):
+    words = [kit / "bin" / "rattle", "check", "--crate-name", crate, root, "--extern", f"std={kit / 'rlibs' / 'std.rlib'}", "-L", f"dependency={kit / 'rlibs'}"]
+    for it in sorted(below(crate, used)):
         library = ROOT / "crates" / it / "out" / "rlib" / f"{it}.rlib"
         if not library.exists():
             sys.exit(f"{it} isn't built: `rt lib` in crates/protocol builds it and the crates that it uses")

@@ -1,12 +1,12 @@
 #!/usr/bin/env python3
 """Refuses each allocation of tests and of whole commands in turn, and checks that a command writes all or nothing.
 
-    no_memory.py [--tests TEXT] [--seconds N]
+    no_memory.py [--tests TEXT] [--seconds N] [--within N]
 
 Each test of `test_values`, `test_stores`, `test_runs` and `test_nodes` runs alone, once for each of its allocations, of
-which that one is refused (`no_memory.c`, loaded before the C library). The test must pass, as it repeats a call that found no
-memory, after it has checked the state; or it stops while it reads its own texts. If the runs of a test would take
-longer than `--seconds` together, allocations are skipped at equal distances. The tests of EXEMPT are left out.
+which that one is refused (`no_memory.c`, loaded before the C library). The test must pass, as it repeats a call that
+found no memory, after it has checked the state; or it stops while it reads its own texts. If the runs of a test would
+take longer than `--seconds` together, allocations are skipped at equal distances. The tests of EXEMPT are left out.
 
 `rehearse` reads the input of each example, `chart` the examples with a diagram, the command lines of the examples that
 have one are read, and `audit` reads the stores of a whole transfer and of one whose proposal comes too late. Each
@@ -14,6 +14,9 @@ command runs once with all its memory and must write the outputs in its folder, 
 allocations. Each time it must write the same as the first run, or nothing, with `out of memory` on standard error and
 exit status 5. If the command fails with a fault and has no memory for its line, it may write `out of memory` with the
 status of that fault. The stores must keep their records.
+
+With --within the commands come first, and the tests share the seconds that are left: each has as many as the tests after
+it. A test for which none is left is named, and not run.
 
 A line is printed for each test and each command, and one for each run that failed. The exit status is 1 if one failed.
 """
@@ -32,6 +35,7 @@ import sys
 import tempfile
 import time
 
+import paths
 from audit import MOMENT, write_stores
 from building import build_c
 from endings import check_end, run_to_end
@@ -39,7 +43,7 @@ from records import FORMAT
 from rehearse import program
 
 TOP = pathlib.Path(__file__).resolve().parent.parent
-SOURCE = TOP / "bench" / "no_memory.c"
+SOURCE = TOP / "trials" / "no_memory.c"
 OUT_OF_MEMORY = (5, b"", b"kyoto-link: out of memory\n")
 TESTS = ("test_values", "test_stores", "test_runs", "test_nodes")
 # The message of a test that found no memory for its own texts, and the status of a test that fails.
@@ -282,16 +286,25 @@ def refuse_each_of_test(refusing, threads, test, name, seconds):
     return not others, (count, len(numbers), passed, reading)
 
 
-def refuse_each_of_tests(refusing, only, seconds):
-    """Returns whether all tests passed, or stopped while reading, each time. Prints the sums of each program."""
-    kept = True
+def refuse_each_of_tests(refusing, only, seconds, end=None):
+    """Returns whether all tests passed, or stopped while reading, each time. Prints the sums of each program. A test has
+    that number of seconds, or if the moment `end` is given, an equal share of the seconds until then."""
+    programs = test_programs()
+    names = {crate: [it for it in tests_of(test) if only in it and not any(it.startswith(exempt) for exempt in EXEMPT)] for crate, test in programs.items()}
+    kept, left = True, sum(map(len, names.values()))
     with concurrent.futures.ThreadPoolExecutor(PROCESSORS) as threads:
-        for crate, test in test_programs().items():
-            names = [it for it in tests_of(test) if only in it and not any(it.startswith(exempt) for exempt in EXEMPT)]
-            ended = [refuse_each_of_test(refusing, threads, test, name, seconds) for name in names]
+        for crate, test in programs.items():
+            ended = []
+            for name in names[crate]:
+                share = seconds if end is None else (end - time.monotonic()) / left
+                left -= 1
+                if share > 0:
+                    ended.append(refuse_each_of_test(refusing, threads, test, name, share))
+                else:
+                    print(f"test {name}: no time is left for it")
             kept = all(is_kept for is_kept, _ in ended) and kept
             counts, refused, passed, reading = (sum(it[part] for _, it in ended) for part in range(4))
-            print(f"{crate}: {len(names)} tests, {counts} allocations, {refused} of them refused; passed {passed} times, stopped while "
+            print(f"{crate}: {len(ended)} tests, {counts} allocations, {refused} of them refused; passed {passed} times, stopped while "
                   f"reading {reading} times", flush=True)
     return kept
 
@@ -313,15 +326,17 @@ def refuse_each_of_audits(refusing, room):
 def main():
     words = argparse.ArgumentParser(description=__doc__, formatter_class=argparse.RawDescriptionHelpFormatter)
     words.add_argument("--tests", metavar="TEXT", help="run only the tests with this text in their names, and no command")
-    words.add_argument("--seconds", type=float, default=20, help="the most seconds of the runs of one test together")
+    words.add_argument("--seconds", type=float, default=20, help="the most seconds of the runs of one test together (20)")
+    words.add_argument("--within", metavar="SECONDS", type=float, help="the most seconds of all runs together, nearly")
     given = words.parse_args()
+    end = None if given.within is None else time.monotonic() + given.within
     with tempfile.TemporaryDirectory() as room:
-        refusing = Refusing(room)
-        kept = refuse_each_of_tests(refusing, given.tests or "", given.seconds)
+        refusing, kept = Refusing(room), True
         if given.tests is None:
             program()
-            kept = refuse_each_of_examples(refusing) and kept
+            kept = refuse_each_of_examples(refusing)
             kept = refuse_each_of_audits(refusing, room) and kept
+        kept = refuse_each_of_tests(refusing, given.tests or "", given.seconds, end) and kept
     print("all or nothing each time" if kept else "other texts were written, a store changed, or a test failed")
     return 0 if kept else 1
 

@@ -9,6 +9,7 @@ row. A line is printed for each wrong row. The exit status is 1 if one of these 
 built: `rt lib` in crates/protocol.
 """
 
+import argparse
 import dataclasses
 import pathlib
 import shutil
@@ -140,6 +141,7 @@ def refuted(refutation, folder, words, is_wrong):
 
 
 def main():
+    argparse.ArgumentParser(description=__doc__.splitlines()[0]).parse_args()
     good = True
     with tempfile.TemporaryDirectory() as place:
         folder = pathlib.Path(place)

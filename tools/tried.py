@@ -5,9 +5,10 @@
 
 A block of commands begins with ```sh, and a block that begins with ```text is the standard output of the commands since
 the last such block; in it the line `..` stands for any lines. All commands of a page are run by one shell, in a copy of
-this checkout that is removed afterwards. Blocks with `rt` and `docker` are left out. The exit status is 1 if an output
-differs or a command fails, and the time of each page is printed.
+the files of this checkout that git knows or doesn't ignore, which is removed afterwards. Blocks with `rt` and `docker`
+are left out. The exit status is 1 if an output differs or a command fails, and the time of each page is printed.
 """
+import argparse
 import pathlib
 import re
 import shutil
@@ -24,8 +25,12 @@ MARK = "---- after block"
 
 
 def copy(folder):
-    """Copies the checkout, with the program that was built here, if there is one."""
-    shutil.copytree(TOP, folder, symlinks=True, ignore=shutil.ignore_patterns(".git", "out", "__pycache__"))
+    """Copies the files that git knows or doesn't ignore, with the program that was built here, if there is one."""
+    listed = subprocess.run(["git", "ls-files", "-z", "--cached", "--others", "--exclude-standard"], cwd=TOP, capture_output=True, text=True, check=True)
+    for name in filter(None, listed.stdout.split("\0")):
+        if (TOP / name).is_symlink() or (TOP / name).is_file():
+            (folder / name).parent.mkdir(parents=True, exist_ok=True)
+            shutil.copy2(TOP / name, folder / name, follow_symlinks=False)
     built = TOP / "crates/kyoto_link/out"
     for name in ("kyoto_link", "kyoto-link.sources"):
         if (built / name).is_file():
@@ -58,8 +63,10 @@ def run(page, folder):
 
 
 def main():
+    parser = argparse.ArgumentParser(description=__doc__.splitlines()[0])
+    parser.add_argument("pages", metavar="PAGE", nargs="*", default=PAGES, help="a page, such as README.md")
     faults = 0
-    for page in sys.argv[1:] or PAGES:
+    for page in parser.parse_args().pages:
         with tempfile.TemporaryDirectory() as temporary:
             folder = pathlib.Path(temporary) / "kyoto-link"
             copy(folder)

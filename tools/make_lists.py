@@ -1,21 +1,20 @@
 #!/usr/bin/env python3
-"""Writes the generated lists of docs/log, with the date of their making: contracts.md, lemmas.md, definitions.md and
-edits.md. With --check it writes nothing, and ends with status 1 if one of them, apart from its date, is out of date.
+"""Writes lists of the sources into out/lists, with the date of their making: contracts.md, lemmas.md, definitions.md and
+edits.md.
 
 contracts.md has, for each crate, each public function with the names of its clauses; lemmas.md each file of lemmas with
 its first comment and the names that it exports; definitions.md each file of definitions with its first comment; edits.md
 each edit of must-fail, a bug that the prover must refuse.
 """
+import argparse
 import datetime
 import pathlib
 import re
-import sys
 
 from count_definitions import crates_of, heading, tables
 
 TOP = pathlib.Path(__file__).resolve().parent.parent
-LOG = TOP / "docs/log"
-DATE = re.compile(r"^Made on .*\n", re.MULTILINE)
+LISTS = TOP / "out/lists"
 FUNCTION = re.compile(r"^( *)pub (?:const )?fn (\w+)")
 METHOD = re.compile(r"^( *)fn (\w+)")
 CLAUSE = re.compile(r"^ +(requires|ensures)(?: (\w+))? \{")
@@ -69,7 +68,7 @@ def exported(path):
 
 def title(name, about):
     """The heading of a list, and the line with its date."""
-    return f"# {name}\n\nMade on {datetime.date.today()} by `docs/make_lists.py`.\n\n{about}\n"
+    return f"# {name}\n\nMade on {datetime.date.today()} by `tools/make_lists.py`.\n\n{about}\n"
 
 
 def contracts():
@@ -125,16 +124,10 @@ def edits():
 
 
 def main():
-    status = 0
+    argparse.ArgumentParser(description=__doc__.splitlines()[0]).parse_args()
+    LISTS.mkdir(parents=True, exist_ok=True)
     for name, lines in (("contracts", contracts), ("lemmas", lemmas), ("definitions", definitions), ("edits", edits)):
-        path, text = LOG / f"{name}.md", "".join(lines())
-        if "--check" not in sys.argv[1:]:
-            LOG.mkdir(exist_ok=True)
-            path.write_text(text, encoding="utf-8")
-        elif not path.exists() or DATE.sub("", path.read_text(encoding="utf-8")) != DATE.sub("", text):
-            print(f"{path.relative_to(TOP)} is out of date: ./do lists writes it anew")
-            status = 1
-    sys.exit(status)
+        (LISTS / f"{name}.md").write_text("".join(lines()), encoding="utf-8")
 
 
 if __name__ == "__main__":

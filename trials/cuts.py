@@ -1,10 +1,8 @@
 """Finds the furthest cut of all nodes' records by checker/, and the expected output of `kyoto-link audit --cut`."""
 
 import json
-import pathlib
-import sys
 
-sys.path.insert(0, str(pathlib.Path(__file__).resolve().parent.parent / "checker"))
+import paths
 
 import formats
 import worlds

@@ -10,6 +10,7 @@ import socket
 import threading
 import time
 
+import paths
 from building import need
 from folders import differ
 from hard_run import send_slowly, sit_idle

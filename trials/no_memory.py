@@ -8,15 +8,15 @@ which that one is refused (`no_memory.c`, loaded before the C library). The test
 found no memory, after it has checked the state; or it stops while it reads its own texts. If the runs of a test would
 take longer than `--seconds` together, allocations are skipped at equal distances. The tests of EXEMPT are left out.
 
-`rehearse` reads the input of each example of its own, `chart` the examples with a diagram, the command lines of the examples that
-have one are read, and `audit` reads the stores of a whole transfer and of one whose proposal comes too late. Each
-command runs once with all its memory and must write the outputs in its folder, and then once for each of its
+`rehearse` reads the input of each example of its own, `chart` the examples with a diagram, the command lines of the
+examples that have one are read, and `audit` reads the stores of a whole transfer and of one whose proposal comes too
+late. Each command runs once with all its memory and must write the outputs in its folder, and then once for each of its
 allocations. Each time it must write the same as the first run, or nothing, with `out of memory` on standard error and
 exit status 5. If the command fails with a fault and has no memory for its line, it may write `out of memory` with the
 status of that fault. The stores must keep their records.
 
 With --within the commands come first, and the tests share the seconds that are left: each has as many as the tests after
-it. A test for which none is left is named, and not run.
+it. A test is named, and its allocations aren't refused, if none is left for it or its share is too short to count them.
 
 A line is printed for each test and each command, and one for each run that failed. The exit status is 1 if one failed.
 """
@@ -52,6 +52,8 @@ READING = b"the test's own texts"
 FAILED = -signal.SIGABRT
 # The most seconds of a run of a test.
 LONGEST = 120
+# The number of runs in which the allocations of a test are counted, nearly.
+COUNTING = 30
 PROCESSORS = os.cpu_count() or 1
 # Tests of threads that wait for one another end differently in each run. An endless session, an input at its limit and
 # millions of interrupted calls take too long to run thousands of times.
@@ -267,14 +269,17 @@ def allocations_of(refusing, test, name):
     return low
 
 
-def refuse_each_of_test(refusing, threads, test, name, seconds):
+def refuse_each_of_test(refusing, threads, test, name, seconds, least_runs=0):
     """Returns whether the test passed with all its memory, and passed or stopped while reading with each allocation
     refused, or with the ones that the time allows. Returns also the number of allocations, of those refused, of passes
-    and of stops while reading."""
+    and of stops while reading. The test is only named if the time is too short for that number of runs."""
     begin = time.monotonic()
     whole, _ = refusing.run([name], b"", 0, test)
     each = time.monotonic() - begin
     check_end([test, name], whole[0], (0,), whole[2])
+    if least_runs * each > seconds:
+        print(f"test {name}: {seconds:.1f} seconds are too few for it")
+        return True, (0, 0, 0, 0)
     count = allocations_of(refusing, test, name)
     most = max(1, int(seconds * PROCESSORS / each))
     step = -(-count // most) or 1
@@ -311,7 +316,7 @@ def refuse_each_of_tests(refusing, only, seconds, end=None):
                 share = seconds if end is None else (end - time.monotonic()) / left
                 left -= 1
                 if share > 0:
-                    ended.append(refuse_each_of_test(refusing, threads, test, name, share))
+                    ended.append(refuse_each_of_test(refusing, threads, test, name, share, COUNTING if end else 0))
                 else:
                     print(f"test {name}: no time is left for it")
             kept = all(is_kept for is_kept, _ in ended) and kept

@@ -12,10 +12,11 @@ usage: ./do COMMAND
   edits [CRATE]   tries the edits that the prover must refuse, of one crate or of all
   plant CRATE     lists wrong bodies that the crate's contracts let through
   test CRATE      runs the tests of a crate of tests
-  examples        compares the program's output for each of the examples with its files
+  examples ..     compares the program's output for each of the examples, or those named, with their files
   bench NAME ..   runs bench/NAME.py with these words; without words it lists the benches
   trial NAME ..   runs trials/NAME.py with these words; without words it lists the trials
-  docs            looks for stale names, wrong comments of definitions, other texts of `explain`, the version
+  docs            looks for stale names, wrong comments of definitions, other texts of `explain`, lemmas that are
+                  proved again, must-fail edits without a place, the version
   pages           runs the commands of README and OPERATING as written, and compares their outputs
   lists           writes lists of all contracts, lemmas, definitions and edits into out/lists
   times           runs the gate, and writes the processor seconds of each crate into docs/log/times.md
@@ -56,17 +57,17 @@ check | plant | test)
     (in_crate "${1-}" && exec rt "$command")
     ;;
 edits) rt must-fail "$@" ;;
-examples) (in_crate test_examples && exec rt run) ;;
+examples) exec python3 tools/examples.py "$@" ;;
 bench) run_script bench "$@" ;;
 trial) run_script trials "$@" ;;
 docs)
     status=0
-    for script in stale_names count_definitions explained; do
+    for script in stale_names count_definitions explained same_lemmas edits_refused; do
         python3 "tools/$script.py" || status=1
     done
     # The version stands in the code; the documents and the release have it too.
     version=$(sed -n 's/^const VERSION: &str = "\(.*\)";$/\1/p' crates/operator/src/command_line.rt)
-    for file in CHANGELOG.md release/MANIFEST crates/test_examples/data/command_line/version/output; do
+    for file in CHANGELOG.md release/MANIFEST examples/command_line/version/output; do
         if ! grep -qF " $version" "$file"; then
             printf '%s has no version %s\n' "$file" "$version"
             status=1

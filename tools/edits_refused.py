@@ -1,10 +1,11 @@
 #!/usr/bin/env python3
 """Looks in the output of `rt ci` for must-fail edits that show nothing.
 
-    edits_refused.py LOG
+    edits_refused.py [LOG]
 
 `rt ci` passes where an edit can't be applied or wasn't tried, since such an edit counts for nothing there. LOG is a file
-with the output of `rt ci`. A line is printed for each edit that is bad, that was not tried, that was refused only for a
+with the output of `rt ci`. Without it, only the places of the edits are looked at: each text that an edit replaces must
+stand once in its file. A line is printed for each edit that is bad, that was not tried, that was refused only for a
 name or at a limit of the prover, or that the output doesn't mention. The exit status is 1 if there is one, and otherwise
 0, after a line with the number of edits.
 """
@@ -25,6 +26,22 @@ def edits():
     return sorted(f"{it.parent.parent.name}/{it.name}" for it in (TOP / "crates").glob("*/must-fail/*.edit"))
 
 
+def faults_of_places():
+    """Yields a line for each text of an edit that doesn't stand once in its file, as earlier parts of the edit left it."""
+    for edit in sorted((TOP / "crates").glob("*/must-fail/*.edit")):
+        texts, path, old = {}, None, None
+        for key, _, value in (line.partition(": ") for line in edit.read_text(encoding="utf-8").splitlines()):
+            if key == "file":
+                path = edit.parent.parent / value
+                texts.setdefault(path, path.read_text(encoding="utf-8"))
+            elif key == "old":
+                old = value
+                if texts[path].count(old) != 1:
+                    yield f"{edit.relative_to(TOP)}: {old!r} stands {texts[path].count(old)} times in {path.relative_to(TOP)}"
+            elif key == "new":
+                texts[path] = texts[path].replace(old, value)
+
+
 def faults_of(output):
     """Returns a line for each edit that shows nothing by this output of `rt ci`."""
     refused, found = set(), []
@@ -40,13 +57,16 @@ def faults_of(output):
 
 def main():
     parser = argparse.ArgumentParser(description=__doc__.splitlines()[0])
-    parser.add_argument("log", metavar="LOG", type=pathlib.Path, help="a file with the output of rt ci")
-    faults = faults_of(parser.parse_args().log.read_text(encoding="utf-8", errors="replace"))
+    parser.add_argument("log", metavar="LOG", nargs="?", type=pathlib.Path, help="a file with the output of rt ci")
+    log = parser.parse_args().log
+    faults = list(faults_of_places())
+    if log:
+        faults += faults_of(log.read_text(encoding="utf-8", errors="replace"))
     for fault in faults:
         print(f"must-fail edit: {fault}")
     if faults:
         sys.exit(1)
-    print(f"{len(edits())} must-fail edits, each refused by a clause or a definition")
+    print(f"{len(edits())} must-fail edits, each " + ("refused by a clause or a definition" if log else "with its place"))
 
 
 if __name__ == "__main__":

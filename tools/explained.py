@@ -4,9 +4,9 @@
     explained.py [--write]
 
 The text of a topic has the rows about it from the tables in PROTOCOL.md and FORMATS.md, without their markup. It must
-be the same as `output` in the topic's folder of crates/test_examples/data/explain, and the file `word` there must have
-the topic's name. A line is printed for each file that differs, and the exit status is 1 if there is one. With --write
-the script writes these files first.
+be the same as `output` in the topic's folder of examples/explain, and the file `word` there must have the topic's name.
+A line is printed for each file that differs, and the exit status is 1 if there is one. With --write the script writes
+these files first.
 """
 import argparse
 import pathlib
@@ -16,7 +16,7 @@ import textwrap
 
 TOP = pathlib.Path(__file__).resolve().parent.parent
 DOCS = TOP / "docs"
-EXAMPLES = TOP / "crates/test_examples/data/explain"
+EXAMPLES = TOP / "examples/explain"
 WIDTH = 100
 
 
@@ -48,7 +48,7 @@ def named_by(fault):
     """Returns the topic of a fault, as `order` of `kyoto-link: line 2: order`, or `keys` of `kyoto-link: --keys: read
     failed`."""
     word = re.sub(r"^(kyoto-link: )?(line \d+: |store NZ: |fault |--)?", "", fault).split()[0].removesuffix(":")
-    return {"out": "memory", "no": "node", "the": "scheme"}.get(word, word)
+    return {"out": "memory", "no": "node", "the": "scheme", "not": "not-carried"}.get(word, word)
 
 
 def has_own_table(name, topics):

@@ -4,9 +4,9 @@ program.
 
     stale_names.py
 
-The documents are README.md, docs/*.md, bench/*.md, trials/*.md and the README of the examples' data, without their
-fenced blocks. A name is a word that stands alone in its backticks, and may have `_`, `-`, `.`, `::` and `/` in it; words
-in capitals stand for a name. A line is printed for each stale name, and the exit status is 1 if there is one.
+The documents are README.md, docs/*.md, bench/*.md, trials/*.md and examples/README.md, without their fenced blocks. A
+name is a word that stands alone in its backticks, and may have `_`, `-`, `.`, `::` and `/` in it; words in capitals
+stand for a name. A line is printed for each stale name, and the exit status is 1 if there is one.
 """
 
 import pathlib
@@ -15,7 +15,8 @@ import sys
 
 TOP = pathlib.Path(__file__).resolve().parent.parent
 SOURCES = ("crates/*/src/**/*.rt", "crates/*/specs/**/*.antt", "crates/*/proofs/**/*.antt", "crates/*/must-fail/*.edit",
-           "crates/test_examples/data/**/*", "bench/*.py", "bench/*.c", "trials/*.py", "trials/*.c", "tools/*.py")
+           "examples/*/**/*", "bench/*.py", "bench/*.c", "trials/*.py", "trials/*.c", "tools/*.py")
+DOCUMENTS = ("README.md", "docs/*.md", "bench/*.md", "trials/*.md", "examples/README.md")
 OTHERS = ("crates.txt", "kyoto-link", ".ci/run", "HANDLES")
 # Names of other programs, and of the language and its prover.
 FOREIGN = {"auto_vacuum", "call_once", "db-journal", "jq", "libsqlite3-dev", "retain", "retain_mut", "x-iterator"}
@@ -38,7 +39,7 @@ def known_words():
 
 def main():
     known, stale = known_words(), []
-    for path in sorted([TOP / "README.md", *TOP.glob("docs/*.md"), *TOP.glob("bench/*.md"), *TOP.glob("trials/*.md"), TOP / "crates/test_examples/data/README.md"]):
+    for path in sorted(path for pattern in DOCUMENTS for path in TOP.glob(pattern)):
         fenced = False
         for number, line in enumerate(path.read_text(encoding="utf-8").splitlines(), 1):
             fenced ^= line.startswith("```")

@@ -5,8 +5,8 @@
 
 A block of commands begins with ```sh, and a block that begins with ```text is the standard output of the commands since
 the last such block; in it the line `..` stands for any lines. All commands of a page are run by one shell, in a copy of
-the files of this checkout that git knows or doesn't ignore, which is removed afterwards. Blocks with `rt` and `docker`
-are left out. The exit status is 1 if an output differs or a command fails, and the time of each page is printed.
+the files of this checkout that git knows or doesn't ignore, which is removed afterwards. Blocks with `rt`, `docker`
+and `./do gate` are left out. The exit status is 1 if an output differs or a command fails, and the time of each page is printed.
 """
 import argparse
 import pathlib
@@ -20,7 +20,7 @@ import time
 TOP = pathlib.Path(__file__).resolve().parent.parent
 PAGES = ("README.md", "docs/OPERATING.md")
 BLOCK = re.compile(r"^```(sh|text)\n(.*?)^```$", re.MULTILINE | re.DOTALL)
-ELSEWHERE = re.compile(r"^(rt|docker|sudo) ", re.MULTILINE)
+ELSEWHERE = re.compile(r"^(rt|docker|sudo|\./do gate)\b", re.MULTILINE)
 MARK = "---- after block"
 
 

@@ -6,7 +6,7 @@ import paths
 
 import formats
 import worlds
-from night import message_text
+from journals import message_text
 from nodes import Given, Message
 
 CALLS = {"AcceptProposal": "proposal", "RequestCancellation": "request"}

@@ -7,7 +7,7 @@ A definition that no equation pins can be wrong unnoticed, with the code and the
 the list is planted alone in a copy of the crate `test_definitions`, with a copy of the definitions, and the checker
 must find that the equation that the list names fails by its value. Laws and code are not proved. With --stack, changes
 of one list are planted together if their texts don't touch, which is faster and shows less, since one change may make
-the equation of another one fail. The libraries must be built: `rt lib` in crates/protocol.
+the equation of another one fail. The libraries must be built: `rt lib` in crates/test_definitions.
 
 A line is printed for each change. The exit status is 1 if a change isn't refused, if an equation fails without a
 change, or if the checker reports another error.
@@ -293,8 +293,11 @@ def checking(root, crate=CRATE):
     for it in sorted(below(crate, used)):
         library = ROOT / "crates" / it / "out" / "rlib" / f"{it}.rlib"
         if not library.exists():
-            sys.exit(f"{it} isn't built: `rt lib` in crates/protocol builds it and the crates that it uses")
+            sys.exit(f"{it} isn't built: `rt lib` in crates/{crate} builds it and the crates that it uses")
         words += ["--extern", f"{it}={library}"]
+    for it in used[crate]:
+        if it not in used:
+            words += ["--extern", f"{it}={kit / 'rlibs' / f'{it}.rlib'}"]
     return [*words, "--antt-project", kit / "rattle" / "logic" / "antt-project.json", "--logic-built", kit / "logic_built"]
 
 

@@ -40,7 +40,8 @@ import paths
 from audit import RECORDS_EACH, check_table, journals, write_stores
 from cuts import Cut, Given, forged, formats, worlds
 from folders import Difference, Folder, compare, copy_stores, differ, do, end_of, is_whole, put_in
-from night import Rehearsal, record_text, wrong_table
+from journals import record_text
+from night import Rehearsal, wrong_table
 from rehearse import codes_of, program, run, scheme
 
 DEFAULTS = {"runs": 100, "copies": 50, "records": 1_000_000, "forged": 20}

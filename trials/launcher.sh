@@ -210,4 +210,12 @@ if [[ $(id -u) -eq 0 ]]; then
     as=()
 fi
 
+begin "a limit on the size of files"
+mkdir "$room/limited"
+head -n 1 "$top/examples/one_transfer/input" >"$room/scheme"
+status=0
+(cd / && ulimit -f 8 && env -i PATH="$path" HOME="$home" "$copy/kyoto-link" show "$room/scheme" "$room/limited" NZ \
+    >"$room/out" 2>"$room/err") || status=$?
+[[ $status -eq 4 ]] || fail "status $status"
+
 exit "$failed"

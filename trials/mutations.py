@@ -8,7 +8,7 @@ the other order. One is planted alone at each place that has one. The places are
 status tables and in crates/safety/specs. A mutation that the checker rejects as a definition, since its types differ, is
 counted apart. Those of `protocol` are checked with the equations of `test_definitions`, and those that no equation
 refuses with the worked runs of `protocol`. Those of `safety` are checked with its worked runs, and those that none
-refuses with its laws. The libraries must be built: `rt lib` in crates/protocol.
+refuses with its laws. The libraries must be built: `rt lib` in crates/test_definitions.
 
 A line is printed for each mutation, and at the end the number of each result. The exit status is 1 if a mutation that
 isn't refused is missing in docs/MUTATIONS.md, which explains each of these, or if one that is there is refused. With

@@ -31,6 +31,7 @@ import paths
 
 import formats
 import worlds
+from journals import record_text
 from records import write_store
 from rehearse import program
 
@@ -144,39 +145,6 @@ class Rehearsal:
             found.append(chosen())
             self.world.apply(formats.event(found[-1]))
         return found
-
-
-def message_text(message):
-    """Returns a message's keys and values."""
-    found = {"from": message.sender, "to": message.receiver, "transaction": formats.identifier_text(message.transaction)}
-    if message.kind == "request":
-        return {**found, "call": "RequestCancellation"}
-    if message.kind != "proposal":
-        return {**found, "call": "AcceptNotification", "codes": list(message.codes), "status": message.kind}
-    units = [formats.block_text(it) for it in message.content.units]
-    parts = {"account": message.content.account, "to_account": message.content.to_account, "to_registry": message.content.acquirer}
-    return {**found, **parts, "call": "AcceptProposal", "status": message.status, "units": units}
-
-
-def record_text(given):
-    """Returns the text of a journal's record, of format 2."""
-    name, value = given.name, given.value
-    if name == "message":
-        parts = {"input": "received", "message": message_text(value[0]), "moment": value[1]}
-    elif name == "propose":
-        parts = {"account": value.account, "input": name, "to_account": value.to_account, "to_registry": value.acquirer,
-                 "units": [formats.block_text(it) for it in value.units]}
-    elif name == "request":
-        parts = {"input": name, "transaction": formats.identifier_text(value)}
-    elif name in ("open", "close"):
-        parts = {"account": value, "input": name}
-    elif name == "ack":
-        parts = {"input": name, "key": value}
-    elif name == "clean-up":
-        parts = {"input": "clean_up", "moment": value}
-    else:
-        parts = {"input": name, "may": value[1], "registry": value[0]}
-    return json.dumps({**parts, "v": 2}, sort_keys=True, separators=(",", ":"))
 
 
 def run(words, given=None):

@@ -40,6 +40,7 @@ import paths
 from audit import MOMENT, write_stores
 from building import build_c
 from endings import check_end, run_to_end
+from examples import EXAMPLES, end_of
 from records import FORMAT
 from rehearse import program
 
@@ -64,7 +65,6 @@ EXEMPT = {
     "limit_rows::an_input_is_read_so_often",
     "limit_rows::a_write_is_interrupted_so_often",
 }
-EXAMPLES = TOP / "examples"
 # The inputs of these examples are of other commands.
 OF_OTHER_COMMANDS = {"as_json", "furthest_cut", "trace"}
 UNITS = ["NZ:1:1-100:AAU"]
@@ -206,19 +206,6 @@ def refuse_each(name, refusing, words, text, folder, wanted=None):
     return not any(others for _, _, others in ended)
 
 
-def expected_of(example):
-    """Returns the expected end of a run on the example: its status, and the bytes of standard output and of standard
-    error."""
-    error = example / "error"
-    if error.exists():
-        said = error.read_bytes()
-        if (example / "words").exists():
-            # The program writes each line of the error that isn't empty.
-            return (2, b"", b"".join(b"kyoto-link: " + line + b"\n" for line in said.split(b"\n") if line))
-        return (3, b"", said)
-    return (0, (example / "output").read_bytes(), b"")
-
-
 def refuse_each_of_examples(refusing):
     """Returns whether the runs of all examples wrote all or nothing."""
     kept = True
@@ -230,14 +217,14 @@ def refuse_each_of_examples(refusing):
         given = example / "input"
         if given.exists():
             text = given.read_bytes()
-            kept = refuse_each(f"rehearse {name}", refusing, lambda _: ["rehearse"], text, None, expected_of(example)) and kept
+            kept = refuse_each(f"rehearse {name}", refusing, lambda _: ["rehearse"], text, None, end_of(example)) and kept
         drawn = example / "chart.mmd"
         if drawn.exists():
             kept = refuse_each(f"chart {name}", refusing, lambda _: ["chart"], text, None, (0, drawn.read_bytes(), b"")) and kept
         line = example / "words"
         if line.exists():
             words = line.read_text().split()
-            kept = refuse_each(f"words {name}", refusing, lambda _: words, b"", None, expected_of(example)) and kept
+            kept = refuse_each(f"words {name}", refusing, lambda _: words, b"", None, end_of(example)) and kept
     return kept
 
 

@@ -1,4 +1,4 @@
-"""Lets the trials import the modules of checker/ and of bench/."""
+"""Lets the trials import the modules of checker/, bench/ and tools/."""
 
 import pathlib
 import sys
@@ -6,4 +6,4 @@ import sys
 TOP = pathlib.Path(__file__).resolve().parent.parent
 # checker/ has a module of the name of a trial, and comes first.
 sys.path.insert(0, str(TOP / "checker"))
-sys.path.append(str(TOP / "bench"))
+sys.path += [str(TOP / "bench"), str(TOP / "tools")]

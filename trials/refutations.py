@@ -6,7 +6,7 @@
 Each wrong row is planted alone in a copy of the definitions, as `definitions.py` plants its changes. The checker must
 then accept a proof that the events lead to a world in which the law is false, and must refuse the proof with the right
 row. A line is printed for each wrong row. The exit status is 1 if one of these checks fails. The libraries must be
-built: `rt lib` in crates/protocol.
+built: `rt lib` in crates/test_definitions.
 """
 
 import argparse

@@ -18,6 +18,9 @@ use Rattle.accounts.specs.declared.unit_holding.AccountStatus.{AccountStatus}
 pub tied : (m n : ℕ) → eq_by_cmp nat_cmp m n ≡ eqb n m
 tied m n = grind (arith, nat_tests)
 
+pub turned : (m n : ℕ) → eqb m n ≡ eqb n m
+turned m n = grind (arith, nat_tests)
+
 account_status_found : (es : List (ℕ × Account)) (n : ℕ) → find nat_cmp n (map (λ e. (e.0, e.1.account_status)) es) ≡ option_map (λ a. a.account_status) (lookup (λ k. is_eq (nat_cmp n k)) es)
 account_status_found [] n = refl
 account_status_found (e ∷ es) n = step (eq_by_cmp nat_cmp n e.0) e.1 (find nat_cmp n (map (λ f. (f.0, f.1.account_status)) es)) (lookup (λ k. is_eq (nat_cmp n k)) es) (account_status_found es n)

@@ -2,7 +2,6 @@
 -- together, all its entries do.
 use Rattle.std.proofs.Common.{◌≡◌, ℕ, ◌+◌, ◌<◌, List, [], ◌∷◌, ◌++◌, map, Bool, true, false, true≢false, is_some, ◌&&◌, not, cond, T, Option, Some, None, refl, sym, ap, ◌∙◌, subst, arith, inl, inr}
 use Rattle.std.specs.declared.cmp.Ordering.{Ordering}
-use Rattle.std.specs.declared.cmp.Ordering.TheVariants.{Less, Equal, Greater}
 use Rattle.std.specs.Cmp.{IsTotalOrder, eq_by_cmp_equiv, tied_itself}
 use Rattle.std.specs.FinMap.{FinMap, get, get-entries, entries, entries_sorted}
 use Rattle.std.specs.FinMap.Entries.{find, is_sorted, below_all, where_key, is_sorted-where_key, find-where_key, is_some-find}
@@ -12,16 +11,8 @@ use Rattle.std.proofs.lemmas.Bool.{cases_Bool, or_parts, or_from, false_from_ne_
 use Rattle.std.proofs.lemmas.List.Folds.{list_any-append}
 use Rattle.std.proofs.lemmas.List.Sums.{sum_by-cons}
 use Rattle.std.proofs.lemmas.Map.Lookups.{CmpEqualImpliesEq}
-
-less : (r : Ordering) → T (is_lt r) → r ≡ Less
-less Less h = refl
-less Equal h = absurd h
-less Greater h = absurd h
-
-equal : (r : Ordering) → is_eq r ≡ true → r ≡ Equal
-equal Less h = cc (h)
-equal Equal h = refl
-equal Greater h = cc (h)
+use Rattle.units.proofs.CountingUnits.{less}
+use Rattle.units.proofs.UnitLines.{eq_true}
 
 both : (a b : Bool) → T (a && b) → T a × T b
 both true b h = (tt, h)
@@ -65,7 +56,7 @@ module _ {K : Type 0} (R : K → K → Ordering) (o : IsTotalOrder R) (same : Cm
         let kept = sum_by-cons (λ (x : K × X). cond (p x.1) 1 0) e left in
         elim (eq_by_cmp R k e.0) as (λ t. eq_by_cmp R k e.0 ≡ t → tally p (cond t (Some e.1) (find R k es)) + count_of p (cond (not t) (e ∷ left) left) ≡ count_of p (e ∷ es)) [
           | true ↦ λ t.
-              let none : find R k es ≡ None = subst (λ x. find R x es ≡ None) (sym (same k e.0 (equal _ t))) (find_below e.0 es two.0) in
+              let none : find R k es ≡ None = subst (λ x. find R x es ≡ None) (sym (same k e.0 (eq_true _ t))) (find_below e.0 es two.0) in
               let nothing : tally p (find R k es) ≡ 0 = ap (tally p) none in
               omega (arith, later, all, nothing)
           | false ↦ λ t. omega (arith, later, all, kept)
@@ -91,7 +82,7 @@ module _ {K : Type 0} (R : K → K → Ordering) (o : IsTotalOrder R) (same : Cm
               let later : 0 < count_of p es = omega (arith, lt, all, skipped) in
               let w = some_counted p es two.1 later in
               let apart : eq_by_cmp R w.0 e.0 ≡ false = false_from_ne_true (eq_by_cmp R w.0 e.0) (λ t.
-              let clash : None ≡ Some w.1 = sym (find_below e.0 es two.0) ∙ ap (λ x. find R x es) (sym (same w.0 e.0 (equal _ t))) ∙ w.2 in
+              let clash : None ≡ Some w.1 = sym (find_below e.0 es two.0) ∙ ap (λ x. find R x es) (sym (same w.0 e.0 (eq_true _ t))) ∙ w.2 in
               cc (clash)) in
               (w.0, w.1, ap (λ t. cond t (Some e.1) (find R w.0 es)) apart ∙ w.2, w.3)
         ]

@@ -7,8 +7,8 @@ use Rattle.std.specs.BTreeMap.{BTreeMap}
 use Rattle.std.specs.FinMap.{FinMap, get}
 use Rattle.std.specs.Option.{option_map}
 use Rattle.std.specs.Ordering.{nat_cmp}
+use Rattle.std.proofs.Math.Bool.{and-true, and-false}
 use Rattle.std.proofs.lemmas.Bool.{cases_Bool, eqb-true, eq-eqb}
-use Rattle.std.proofs.lemmas.Bool.Decides.{nat_tests}
 use Rattle.std.proofs.lemmas.List.Folds.{list_any-append}
 use Rattle.std.proofs.lemmas.List.Sums.{sum_by-append, sum_by-cons}
 use Rattle.units.specs.Apart.{AllApart}
@@ -30,9 +30,11 @@ use Rattle.accounts.specs.declared.account.Account.{Account}
 use Rattle.accounts.specs.declared.unit_holding.UnitHolding.{UnitHolding}
 use Rattle.accounts.specs.declared.reservation.Reservation.{Reservation}
 use Rattle.accounts.specs.declared.reservation.Share.{Share}
+use Rattle.accounts.proofs.AccountStatuses.{turned}
 use Rattle.accounts.proofs.Counts.{tally}
 use Rattle.accounts.proofs.Parts.{intervals_of, kinds_counted, get_kinds, kind_found, kind_covered, apart_append}
 use Rattle.accounts.proofs.OneUnit.{released_reserves, released_in, released_free, released_share, others, taken_reserves, taken_in, taken_free, taken_share, put, in_account, credited_in, credited_free, credited_reserves, credited_share, reserved_in, reserved_free, reserved_reserves, reserved_share}
+use Rattle.accounts.proofs.Shares.{left}
 use Rattle.accounts.proofs.UnitHoldingCounts.{count, adds, same, nothing, count_bound, shares_within}
 
 -- ---- a transaction's reservation is let go
@@ -79,10 +81,6 @@ freed_held m (Some a) = refl
 freed_free : (m : ℕ) (o : Option Account) → m ≤ held_in o → free_in (option_map (with_more_free m) o) ≡ free_in o + m
 freed_free m None le = omega arith
 freed_free m (Some a) le = refl
-
-fewer_held : (m : ℕ) (o : Option Account) → held_in (option_map (with_fewer m) o) ≡ held_in o - m
-fewer_held m None = omega arith
-fewer_held m (Some a) = refl
 
 fewer_free : (m : ℕ) (o : Option Account) → free_in (option_map (with_fewer m) o) ≡ free_in o
 fewer_free m None = refl
@@ -161,7 +159,7 @@ module _ (accounts : BTreeMap ℕ Account) (unit_holdings : UnitHoldings) (res :
     kept_removed accounts' res' gone taken = record {
       counted = record {
         held = λ n.
-            let now = ap held_in (taken n) ∙ fewer_held (share_of (shares_of res id) n) (tree.get nat_cmp accounts n) in
+            let now = ap held_in (taken n) ∙ left (share_of (shares_of res id) n) (tree.get nat_cmp accounts n) in
             let before = kept.counted.held n in
             let after = held_after n in
             let shared = (kept.listed id).shared n in
@@ -178,9 +176,6 @@ module _ (accounts : BTreeMap ℕ Account) (unit_holdings : UnitHoldings) (res :
     }
 
 -- ---- units are put into an account
-
-turned : (m n : ℕ) → eqb m n ≡ eqb n m
-turned m n = grind (arith, nat_tests)
 
 same_number : (n : ℕ) → eqb n n ≡ true
 same_number n = eq-eqb n n refl
@@ -346,13 +341,9 @@ module _ (accounts : BTreeMap ℕ Account) (unit_holdings : UnitHoldings) (res :
             let all = ap (λ ss. share_of ss n) given.shares_are ∙ sum_by-append f (shares_of res id) (share ∷ []) in
             let one = sum_by-cons f share [] in
             let before = (kept.listed id).shared n in
-            let after = share_reserved changed free n id ∙ ap (λ t. count (is_share n id) unit_holdings + cond (eqb a n && t) (units_in blocks) 0) (same_id-refl id) ∙ ap (λ t. count (is_share n id) unit_holdings + cond t (units_in blocks) 0) (with_true (eqb a n)) in
+            let after = share_reserved changed free n id ∙ ap (λ t. count (is_share n id) unit_holdings + cond (eqb a n && t) (units_in blocks) 0) (same_id-refl id) ∙ ap (λ t. count (is_share n id) unit_holdings + cond t (units_in blocks) 0) (and-true (eqb a n)) in
             omega (arith, all, one, before, after);
       }
-        where
-          with_true : (t : Bool) → (t && true) ≡ t
-          with_true true = refl
-          with_true false = refl
 
       listed_other : Reserved → AreFree → (q : TransactionId) → same_id id q ≡ false → IsListed unit_holdings' q (blocks_of res' q) (shares_of res' q)
       listed_other changed free q other =
@@ -368,13 +359,9 @@ module _ (accounts : BTreeMap ℕ Account) (unit_holdings : UnitHoldings) (res :
             shared = λ n.
                 let all = ap (λ ss. share_of ss n) (ap shares_in at) in
                 let before = (kept.listed q).shared n in
-                let after = share_reserved changed free n q ∙ ap (λ t. count (is_share n q) unit_holdings + cond (eqb a n && t) (units_in blocks) 0) other ∙ ap (λ t. count (is_share n q) unit_holdings + cond t (units_in blocks) 0) (with_false (eqb a n)) in
+                let after = share_reserved changed free n q ∙ ap (λ t. count (is_share n q) unit_holdings + cond (eqb a n && t) (units_in blocks) 0) other ∙ ap (λ t. count (is_share n q) unit_holdings + cond t (units_in blocks) 0) (and-false (eqb a n)) in
                 omega (arith, all, before, after);
           }
-        where
-          with_false : (t : Bool) → (t && false) ≡ false
-          with_false true = refl
-          with_false false = refl
 
       pub kept_reserved : Reserved → AreFree → (accounts' : BTreeMap ℕ Account)
           → ((n : ℕ) → tree.get nat_cmp accounts' n ≡ cond (eqb n a) (option_map (with_fewer_free (units_in blocks)) (tree.get nat_cmp accounts n)) (tree.get nat_cmp accounts n))

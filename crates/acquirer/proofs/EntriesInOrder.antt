@@ -1,5 +1,6 @@
 -- The order of awaited transfers: those of one account stand together, and none of them before the least identifier.
-use Rattle.std.proofs.Common.{◌≡◌, ℕ, ◌≤◌, Bool, true, false, List, ◌∷◌, refl, arith}
+use Rattle.std.proofs.Common.{◌≡◌, ℕ, ◌≤◌, false, List, ◌∷◌, refl, arith}
+use Rattle.std.proofs.lemmas.Bool.{false_from_ne_true}
 use Rattle.std.specs.BTreeSet.{BTreeSet, contains, IsKeyRangeOf}
 use Rattle.std.specs.Ordering.{is_gt, nat_cmp, ordering_then}
 use Rattle.std.specs.declared.cmp.Ordering.{Ordering}
@@ -31,15 +32,11 @@ starts l q e h = compared_then (λ r. is_gt r ≡ false) l.account q.account (id
 accounts_go_up : (x y : Awaited) → is_gt (awaited_cmp x y) ≡ false → x.account ≤ y.account
 accounts_go_up x y = compared_then (λ r. is_gt r ≡ false → x.account ≤ y.account) x.account y.account (id_cmp x.id y.id) (λ l h. omega arith) (λ e h. omega arith) (λ g h. absurd (cc (h)))
 
-not_true : (b : Bool) → (b ≡ true → ⊥) → b ≡ false
-not_true true h = absurd (h refl)
-not_true false h = refl
-
 -- where the first of a range is of another account, none of the account is there
 pub none_of : (awaited : BTreeSet Awaited) (l found : Awaited) (rest : List Awaited) → IsKeyRangeOf awaited_cmp (Included l) Unbounded awaited (found ∷ rest)
     → ((t : TransactionId) → is_gt (id_cmp l.id t) ≡ false) → (found.account ≡ l.account → ⊥) → (q : Awaited) → q.account ≡ l.account → contains awaited_cmp awaited q ≡ false
 none_of awaited l found rest range least other q e =
-    not_true (contains awaited_cmp awaited q) (λ h.
+    false_from_ne_true (contains awaited_cmp awaited q) (λ h.
     let start = starts l q e (least q.id) in
     let low = accounts_go_up l found range.1.0.0 in
     let high = accounts_go_up found q (range.2 q (start, tt) h) in

@@ -1,27 +1,24 @@
 -- Stores that are read one after another: what is known of them after one more.
-use Rattle.std.proofs.Common.{◌≡◌, ◌≢◌, ℕ, ◌+◌, ◌<◌, List, [], ◌∷◌, ◌++◌, Some, Err, inl, inr, refl, sym, ap, subst, ◌∙◌, length, arith}
-use Rattle.std.specs.Prelude.{slice_get, ◌⊎◌, ◌==◌}
+use Rattle.std.proofs.Common.{◌≡◌, ℕ, ◌+◌, ◌<◌, List, [], ◌∷◌, ◌++◌, Some, Err, inl, inr, refl, sym, ap, subst, ◌∙◌, length, arith}
+use Rattle.std.specs.Prelude.{slice_get}
 use Rattle.std.proofs.Math.ListN.{set}
-use Rattle.std.proofs.lemmas.Bool.{cases_Bool, eqb-true, eqb-false}
+use Rattle.std.proofs.lemmas.Bool.{cases_eq}
 use Rattle.units.specs.declared.code.Node.{Node}
 use Rattle.protocol.specs.Input.{Input}
 use Rattle.protocol.specs.Scheme.{Scheme}
 use Rattle.units.proofs.Lists.OneValue.{one_some}
 use Rattle.units.proofs.Lists.Positions.{last_at}
+use Rattle.protocol.proofs.Replaying.{slice_get_front}
 use Rattle.stores.specs.declared.fault.StoreFault.{StoreFault}
 use Rattle.stores.specs.declared.fault.StoreFault.TheVariants.{Device, Full, Damaged, WrongNode, WrongVersion, Reopen, NoMemory}
 use Rattle.desk.specs.Loading.{IsLoaded}
 use Rattle.command_faults.specs.Faults.{of_store}
-use Rattle.weave.proofs.Lists.{front_get}
 use Rattle.command_faults.specs.declared.fault.OpFault.{OpFault}
-use Rattle.command_faults.specs.declared.fault.OpFault.TheVariants.{Input as Line, Read, Write, Store, Stuck, Unsettled, Setup}
+use Rattle.command_faults.specs.declared.fault.OpFault.TheVariants.{Input as Line, Read, Write, Store, Stuck, Unsettled, Setup, Undone}
 use Rattle.command_faults.specs.declared.fault.OpFault.TheVariants as op
 use Rattle.stores.specs.declared.node_store.NodeStore.{Ghosts}
 use Rattle.audit.specs.Stores.{AreLoadedTo, AreUnwritten, FailsToLoad, FailsToLoadAt, IsLoadedAs, IsUnwritten}
 use Rattle.weave.proofs.Lists.{set_here, set_other}
-
-same_or_not : (k j : ℕ) → (k ≡ j) ⊎ (k ≢ j)
-same_or_not k j = elim (cases_Bool (k == j)) [ inl y ↦ inl (eqb-true k j y) | inr d ↦ inr (eqb-false k j d) ]
 
 module _ {S : Type 0} (g : Ghosts S) where
   pub kept_same : (old : S) → IsUnwritten g old old
@@ -34,7 +31,7 @@ module _ {S : Type 0} (g : Ghosts S) where
   pub kept_more : (olds news : List S) (at : ℕ) (old new : S) → at < length news → slice_get olds at ≡ Some old → IsUnwritten g old new
       → AreUnwritten g olds news → AreUnwritten g olds (set news at new)
   kept_more olds news at old new below was kept all k o w iso isw =
-      elim (same_or_not k at) [
+      elim (cases_eq k at) [
         | inl e ↦
             let here : Some old ≡ Some o = sym was ∙ subst (λ z. slice_get olds z ≡ Some o) e iso in
             let there : Some new ≡ Some w = sym (set_here news at new below) ∙ subst (λ z. slice_get (set news at new) z ≡ Some w) e isw in
@@ -56,7 +53,7 @@ module _ {S : Type 0} (g : Ghosts S) (scheme : Scheme) where
       → IsLoadedAs g scheme n old new journal → AreLoadedTo g at scheme ns olds news journals
       → AreLoadedTo g (at + 1) scheme ns olds (set news at new) (journals ++ journal ∷ [])
   loaded_more ns olds news journals at n old new journal count below isn was loaded all k m o w j under ism iso isw isj =
-      elim (same_or_not k at) [
+      elim (cases_eq k at) [
         | inl e ↦
             let node : Some n ≡ Some m = sym isn ∙ subst (λ z. slice_get ns z ≡ Some m) e ism in
             let here : Some old ≡ Some o = sym was ∙ subst (λ z. slice_get olds z ≡ Some o) e iso in
@@ -68,7 +65,7 @@ module _ {S : Type 0} (g : Ghosts S) (scheme : Scheme) where
             (subst (IsLoadedAs g scheme n old new) (one_some journal j last) loaded)))
         | inr apart ↦
             let before : k < at = omega (arith, under, apart) in
-            all k m o w j before ism iso (sym (set_other news at k new apart) ∙ isw) (sym (front_get journals (journal ∷ []) k (omega (arith, before, count))) ∙ isj)
+            all k m o w j before ism iso (sym (set_other news at k new apart) ∙ isw) (sym (slice_get_front journals (journal ∷ []) k (omega (arith, before, count))) ∙ isj)
       ]
 
   -- the store at an index was not read
@@ -94,3 +91,4 @@ module _ {S : Type 0} (g : Ghosts S) (scheme : Scheme) where
   fails_first ns olds news journals at n old new count below isn was all (Stuck m place) f = absurd f
   fails_first ns olds news journals at n old new count below isn was all (Unsettled m) f = absurd f
   fails_first ns olds news journals at n old new count below isn was all (Setup told) f = absurd f
+  fails_first ns olds news journals at n old new count below isn was all (Undone line) f = absurd f

@@ -18,7 +18,7 @@ use Rattle.desk.proofs.Keepings.{kept_loaded}
 use Rattle.world.specs.Cores.{journal_of, node_of, scheme_of}
 use Rattle.world.specs.declared.any_core.Core.{Core}
 use Rattle.command_faults.specs.declared.fault.OpFault.{OpFault}
-use Rattle.command_faults.specs.declared.fault.OpFault.TheVariants.{Input as Line, Read, Write, Store, Stuck, Unsettled, Setup, NoMemory}
+use Rattle.command_faults.specs.declared.fault.OpFault.TheVariants.{Input as Line, Read, Write, Store, Stuck, Unsettled, Setup, Undone, NoMemory}
 use Rattle.audit.specs.Audits.{FailsToFindRun, FailsToWeave}
 use Rattle.audit.specs.Opened.{opened_core}
 use Rattle.audit.specs.Stores.{AreLoaded, AreUnwritten, FailsToLoad}
@@ -63,6 +63,7 @@ module _ {S : Type 0} (g : Ghosts S) (scheme : Scheme) (olds news : List S) wher
   load_fault (Stuck n place) h = absurd h
   load_fault (Unsettled n) h = absurd h
   load_fault (Setup told) h = absurd h
+  load_fault (Undone line) h = absurd h
 
   pub run_fault : (journals : List (List Input)) → AreLoaded g scheme (nodes scheme) olds news journals → (e : OpFault) → FailsToWeave scheme journals e
       → FailsToFindRun g e scheme olds news
@@ -74,6 +75,7 @@ module _ {S : Type 0} (g : Ghosts S) (scheme : Scheme) (olds news : List S) wher
   run_fault journals loaded (Write count) h = absurd h
   run_fault journals loaded (Unsettled n) h = absurd h
   run_fault journals loaded (Setup told) h = absurd h
+  run_fault journals loaded (Undone line) h = absurd h
 
 -- ---- a core beside its store
 

@@ -4,7 +4,7 @@ use Rattle.std.specs.Io.KnownBytes.{Appends, Keeps}
 use Rattle.protocol.specs.Scheme.{Scheme}
 use Rattle.desk.specs.Views.{StateView, SeatView}
 use Rattle.command_faults.specs.declared.fault.OpFault.{OpFault}
-use Rattle.command_faults.specs.declared.fault.OpFault.TheVariants.{Input as Line, Read, Write, Store, Stuck, Unsettled, Setup, NoMemory}
+use Rattle.command_faults.specs.declared.fault.OpFault.TheVariants.{Input as Line, Read, Write, Store, Stuck, Unsettled, Setup, Undone, NoMemory}
 use Rattle.audit.specs.Reported.{FailsToReport, IsReported, IsTableFault}
 
 -- ---- the table, or why there is none
@@ -22,6 +22,7 @@ fails_unwritten Read scheme helds seats v h = absurd h
 fails_unwritten (Write count) scheme helds seats v h = absurd h
 fails_unwritten (Store told fault) scheme helds seats v h = absurd h
 fails_unwritten (Setup fault) scheme helds seats v h = absurd h
+fails_unwritten (Undone line) scheme helds seats v h = absurd h
 
 pub fails_in_table : (e : OpFault) (scheme : Scheme) (helds : List StateView) (seats : List (List SeatView)) (before after : Option (List ℕ)) (table : List ℕ) → IsReported scheme helds seats table
     → ((count : ℕ) × (e ≡ Write count) × (count < length table) × Appends before after (take count table)) → FailsToReport e scheme helds seats before after

@@ -14,7 +14,7 @@ use Rattle.protocol.specs.Input.{Input as Record}
 use Rattle.world.specs.Cores.{journal_of}
 use Rattle.world.specs.declared.any_core.Core.{Core}
 use Rattle.command_faults.specs.declared.fault.OpFault.{OpFault}
-use Rattle.command_faults.specs.declared.fault.OpFault.TheVariants.{Input, Read, Write, Store, Stuck, Unsettled, Setup, NoMemory}
+use Rattle.command_faults.specs.declared.fault.OpFault.TheVariants.{Input, Read, Write, Store, Stuck, Unsettled, Setup, Undone, NoMemory}
 use Rattle.weave.proofs.Lists.{image_at}
 use Rattle.audit.specs.Audits.{FailsToWeave}
 use Rattle.audit.specs.Reported.{IsTableFault, committed_by_all}
@@ -66,6 +66,7 @@ module _ (scheme : Scheme) (helds : List StateView) (seats : List (List SeatView
   fails_at at n held heard (Store told fault) is_n is_held is_heard before none = none
   fails_at at n held heard (Stuck told place) is_n is_held is_heard before none = none
   fails_at at n held heard (Setup fault) is_n is_held is_heard before none = none
+  fails_at at n held heard (Undone line) is_n is_held is_heard before none = none
 
   pub of_settling : (e : OpFault) → FailsToSettle scheme helds seats e → IsTableFault scheme helds seats e
   of_settling (Unsettled told) h = h
@@ -76,6 +77,7 @@ module _ (scheme : Scheme) (helds : List StateView) (seats : List (List SeatView
   of_settling (Store told fault) h = absurd h
   of_settling (Stuck told place) h = absurd h
   of_settling (Setup fault) h = absurd h
+  of_settling (Undone line) h = absurd h
 
   pub of_weaving : (e : OpFault) → AreSettled scheme helds seats → FailsToWeave scheme (committed_by_all helds) e → IsTableFault scheme helds seats e
   of_weaving (Stuck n place) settled h = record { settled = settled; fault = h }
@@ -86,6 +88,7 @@ module _ (scheme : Scheme) (helds : List StateView) (seats : List (List SeatView
   of_weaving (Write count) settled h = absurd h
   of_weaving (Store told fault) settled h = absurd h
   of_weaving (Setup fault) settled h = absurd h
+  of_weaving (Undone line) settled h = absurd h
 
 -- the core of one node more has its committed records
 pub journals_more : (cores : List Core) (core : Core) (helds : List StateView) (at : ℕ) (held : StateView) → at < length helds → held ≡ get_or helds at held → map journal_of cores ≡ map committed_records (take at helds) → journal_of core ≡ committed_records held

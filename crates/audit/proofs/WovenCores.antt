@@ -17,10 +17,9 @@ use Rattle.protocol.specs.Registries.{nodes}
 use Rattle.protocol.specs.Weave.{Projects, uncommitted}
 use Rattle.protocol.specs.World.{World, Station, journal, opening, station}
 use Rattle.protocol.specs.declared.event.WorldEvent.{WorldEvent}
-use Rattle.protocol.proofs.NodeIndices.{Differ, nodes_differ}
+use Rattle.protocol.proofs.NodeIndices.{Differ, nodes_differ, other_way}
 use Rattle.safety.proofs.WorldLemmas.SchemesKept.{run_scheme}
 use Rattle.safety.proofs.WorldLemmas.StationsAfterPut.{at}
-use Rattle.world.proofs.KeptWorlds.{not_same}
 use Rattle.weave.specs.Following.{IsWoven, journal_of}
 
 abbrev nodes_in : List Station → List Node
@@ -34,11 +33,11 @@ placed js ns n = option_map_or (λ i. slice_index_or js i []) (position_from (λ
 
 no_index : (ns : List Node) (n : Node) (k : ℕ) → AllByRecursion (Differ n) ns → position_from (λ m. same_node m n) k ns ≡ None
 no_index [] n k all = refl
-no_index (m ∷ ms) n k all = cond-false (same_node m n) (Some k) (position_from (λ m. same_node m n) (k + 1) ms) (not_same n m all.0) ∙ no_index ms n (k + 1) all.1
+no_index (m ∷ ms) n k all = cond-false (same_node m n) (Some k) (position_from (λ m. same_node m n) (k + 1) ms) (other_way n m all.0) ∙ no_index ms n (k + 1) all.1
 
 no_station : (ss : List Station) (n : Node) → AllByRecursion (Differ n) (nodes_in ss) → at n ss ≡ None
 no_station [] n all = refl
-no_station (s ∷ ss) n all = cond-false (same_node s.node n) (Some s) (at n ss) (not_same n s.node all.0) ∙ no_station ss n all.1
+no_station (s ∷ ss) n all = cond-false (same_node s.node n) (Some s) (at n ss) (other_way n s.node all.0) ∙ no_station ss n all.1
 
 -- ---- one after another
 

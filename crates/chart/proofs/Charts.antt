@@ -1,5 +1,5 @@
 -- The lines that one more event adds, and the chart at the end.
-use Rattle.std.proofs.Common.{◌≡◌, ℕ, ◌+◌, suc, List, [], ◌∷◌, ◌++◌, length, take, map, get_or, ◌<◌, Bool, true, false, cond, Option, Some, None, option_map, refl, sym, ap, subst, ◌∙◌, arith, append_assoc, append-nil}
+use Rattle.std.proofs.Common.{◌≡◌, ℕ, ◌+◌, suc, List, [], ◌∷◌, ◌++◌, length, take, map, get_or, ◌<◌, Bool, true, false, cond, Option, option_map, refl, sym, ap, subst, ◌∙◌, arith, append_assoc, append-nil}
 use Rattle.std.specs.Prelude.{◌||◌, not, codes, filter, flat_map, slice_get}
 use Rattle.std.specs.List.{enumerate_from, list_any}
 use Rattle.std.proofs.lemmas.Grind.{flat_map-append}
@@ -9,14 +9,14 @@ use Rattle.std.proofs.lemmas.List.Elements.{filter-append}
 use Rattle.std.proofs.lemmas.List.Folds.{list_any-append}
 use Rattle.units.specs.declared.code.Node.{Node}
 use Rattle.units.specs.declared.code.Node.TheVariants.{Itl}
-use Rattle.status.specs.declared.moment.Moment.{Moment}
 use Rattle.wire.specs.declared.message.Message.{Message}
 use Rattle.protocol.specs.Scheme.{Scheme}
-use Rattle.protocol.specs.World.{Station, Turn, Stepped, World, at_node, deliver, opening, run, step}
+use Rattle.protocol.specs.World.{Stepped, World, opening, run, step}
 use Rattle.protocol.specs.declared.event.Outcome.{Outcome}
 use Rattle.protocol.specs.declared.event.Posted.{Posted}
 use Rattle.protocol.specs.declared.event.WorldEvent.{WorldEvent}
 use Rattle.protocol.specs.declared.event.WorldEvent.TheVariants.{Take, Commit, Post, Deliver, Crash, Restart}
+use Rattle.world.proofs.Worlds.{delivered_bag}
 use Rattle.chart.specs.ChartLines.{lost_line, participant_line, wide_note_line}
 use Rattle.chart.specs.Chart.{Happening, HasDrawn, IsChart, IsDrawn, chart_text, delivers, first_ones, happening, happening_line, happening_nodes, happenings, is_delivered, lost, message_of, participants, parties}
 use Rattle.report.specs.Table.{IsSafeTable}
@@ -44,22 +44,13 @@ happenings-snoc : (w : World) (es : List WorldEvent) (e : WorldEvent) → happen
 happenings-snoc w [] e = refl
 happenings-snoc w (x ∷ es) e = ap (λ (l : List Happening). happening w x ∷ l) (happenings-snoc (step w x).world es e)
 
--- an event at a node leaves the bag as it was
-node_bag : (w : World) (s : Option Station) (f : Station → Turn) → (at_node w s f).world.bag ≡ w.bag
-node_bag w None f = refl
-node_bag w (Some s) f = refl
-
-deliver_bag : (w : World) (moment : Moment) (p : Option Posted) → (deliver w moment p).world.bag ≡ w.bag
-deliver_bag w moment None = refl
-deliver_bag w moment (Some p) = node_bag w _ _
-
 -- the message of a delivery is also in the bag after it
 pub same_message : (w : World) (e : WorldEvent) → message_of (step w e).world e ≡ message_of w e
 unfolding step
 same_message w (Take n input) = refl
 same_message w (Commit n count) = refl
 same_message w (Post n key) = refl
-same_message w (Deliver index moment) = ap (λ (bag : List Posted). option_map (λ (p : Posted). p.message) (slice_get bag index)) (deliver_bag w moment (slice_get w.bag index))
+same_message w (Deliver index moment) = ap (λ (bag : List Posted). option_map (λ (p : Posted). p.message) (slice_get bag index)) (delivered_bag w moment (slice_get w.bag index))
 same_message w (Crash n kept) = refl
 same_message w (Restart n) = refl
 

@@ -1,5 +1,5 @@
 -- Nodes, each once where it first occurs, with one more node.
-use Rattle.std.proofs.Common.{◌≡◌, List, [], ◌∷◌, ◌++◌, Bool, true, false, true≢false, cond, inl, inr, refl, sym, ap, ◌∙◌, append_assoc, append-nil}
+use Rattle.std.proofs.Common.{◌≡◌, List, [], ◌∷◌, ◌++◌, Bool, true, false, cond, inl, inr, refl, sym, ap, ◌∙◌, append_assoc, append-nil}
 use Rattle.std.specs.Prelude.{◌||◌, not, filter}
 use Rattle.std.specs.List.{list_any}
 use Rattle.std.proofs.lemmas.Bool.{cases_Bool}
@@ -7,6 +7,7 @@ use Rattle.std.proofs.lemmas.List.Elements.{filter-append}
 use Rattle.units.specs.Code.{same_node}
 use Rattle.units.specs.declared.code.Node.{Node}
 use Rattle.units.proofs.Same.{node_of_same, same_node-refl}
+use Rattle.protocol.proofs.NodeIndices.{other_way}
 use Rattle.chart.specs.Chart.{first_ones}
 
 abbrev is : Node → Node → Bool
@@ -21,13 +22,6 @@ with_node ns n = cond (list_any (is n) ns) ns (ns ++ n ∷ [])
 
 same_turned : (x n : Node) → same_node x n ≡ true → same_node n x ≡ true
 same_turned x n same = ap (same_node n) (node_of_same x n same) ∙ same_node-refl n
-
-apart_turned : (x n : Node) → same_node x n ≡ false → same_node n x ≡ false
-apart_turned x n apart =
-    elim (cases_Bool (same_node n x)) [
-      | inl same ↦ absurd (true≢false (sym (same_turned n x same) ∙ apart))
-      | inr is ↦ is
-    ]
 
 -- another node stays where one is left out
 kept : (x n : Node) (ns : List Node) → same_node x n ≡ false → list_any (is n) (filter (isnt x) ns) ≡ list_any (is n) ns
@@ -74,7 +68,7 @@ other_head x n ns apart =
     elim (cases_Bool (list_any (is n) ns)) [
       | inl there ↦ ap (λ (l : List Node). x ∷ filter (isnt x) l) (has_it ns n there) ∙ sym (has_it (x ∷ filter (isnt x) ns) n (rest ∙ there))
       | inr none ↦
-          ap (λ (l : List Node). x ∷ filter (isnt x) l) (lacks_it ns n none) ∙ ap (λ (l : List Node). x ∷ l) (left_in x n ns (apart_turned x n apart))
+          ap (λ (l : List Node). x ∷ filter (isnt x) l) (lacks_it ns n none) ∙ ap (λ (l : List Node). x ∷ l) (left_in x n ns (other_way x n apart))
           ∙ sym (lacks_it (x ∷ filter (isnt x) ns) n (rest ∙ none))
     ]
 

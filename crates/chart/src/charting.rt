@@ -29,7 +29,7 @@ use std::collections::BTreeSet;
 use std::io::{Read, Write};
 use units::{NoMemory, Node};
 use wire::Message;
-use world::World;
+use world::{ReachedWorld, World};
 
 /// The drawing of the events so far.
 #[derive(Drop)]
@@ -45,7 +45,7 @@ struct Drawing {
 #[derive(Drop)]
 struct Sketch {
     alloc: Global,
-    world: World,
+    world: ReachedWorld,
     drawing: Drawing,
 }
 
@@ -299,14 +299,14 @@ impl Reporter for Sketch {
         };
         Ok(Sketch {
             alloc,
-            world: World::new(alloc, scheme)?,
+            world: ReachedWorld::new(alloc, scheme)?,
             drawing,
         })
     }
 
     fn tell(&mut self, _number: u64, event: &WorldEvent) -> Result<(), NoMemory> {
         let outcome = self.world.apply(event)?;
-        let message = message_of(&self.world, event);
+        let message = message_of(self.world.as_world(), event);
         self.drawing.add(message, event, outcome)?;
         Ok(())
     }
@@ -317,7 +317,7 @@ impl Reporter for Sketch {
             world,
             drawing,
         } = self;
-        let text = drawing.text(alloc, &world);
+        let text = drawing.text(alloc, world.as_world());
         drop(world);
         text
     }

@@ -4,6 +4,7 @@ use Rattle.std.specs.Bool.{OnTrue, OnFalse}
 use Rattle.std.specs.FinMap.{get}
 use Rattle.std.specs.List.{list_any}
 use Rattle.std.specs.Option.{option_map}
+use Rattle.std.proofs.Math.Bool.{or-false}
 use Rattle.std.proofs.lemmas.List.Folds.{list_any-append}
 use Rattle.units.specs.Unit.{covers}
 use Rattle.units.specs.declared.block.Block.{Block}
@@ -64,11 +65,7 @@ both_alike true y e = refl
 both_alike false y e = e
 
 one_kind : (test : Kind → Bool) (b : RawBlock) (from count : ℕ) → list_any (λ (p : Piece). test p.kind) (map (piece b) (up_from from (suc count))) ≡ test b.kind
-one_kind test b from zero = last (test b.kind)
-  where
-    last : (x : Bool) → (x || false) ≡ x
-    last true = refl
-    last false = refl
+one_kind test b from zero = or-false (test b.kind)
 one_kind test b from (suc count) = both_alike (test b.kind) (list_any (λ (p : Piece). test p.kind) (map (piece b) (up_from (suc from) (suc count)))) (one_kind test b (suc from) count)
 
 kind_of_block : (test : Kind → Bool) (b : Block) → list_any (λ (p : Piece). test p.kind) (pieces_of b.raw) ≡ test b.raw.kind

@@ -3,6 +3,7 @@ use Rattle.std.proofs.Common.{◌≡◌, ℕ, List, Bool, true, false, true≢fa
 use Rattle.std.specs.FinMap.{get}
 use Rattle.std.specs.List.{list_any}
 use Rattle.std.specs.Option.{option_map_or}
+use Rattle.std.proofs.Math.Bool.{not-not}
 use Rattle.std.proofs.lemmas.Bool.{cases_Bool, and_parts, and_from, eqb-true}
 use Rattle.units.proofs.Same.{kind_of_same}
 use Rattle.units.specs.Canonical.{canonical}
@@ -44,13 +45,9 @@ open_only true true = refl
 open_only true false = refl
 open_only false closed = refl
 
-not_not : (b : Bool) → not (not b) ≡ b
-not_not true = refl
-not_not false = refl
-
 -- the account isn't open
 pub not_open : (o : Option AccountStatus) (has closed : Bool) → o ≡ account_status_of has closed → (not has || closed) ≡ not (is_open o)
-not_open o has closed e = sym (ap not (ap is_open e ∙ open_only has closed) ∙ not_not (not has || closed))
+not_open o has closed e = sym (ap not (ap is_open e ∙ open_only has closed) ∙ not-not (not has || closed))
 
 opened : (o : Option AccountStatus) → o ≡ Some Open → not (is_open o) ≡ false
 opened o e = ap (λ p. not (is_open p)) e

@@ -8,7 +8,7 @@ use Rattle.stores.specs.declared.fault.StoreFault.TheVariants as store_faults
 use Rattle.command_faults.specs.declared.fault.Cause.{Cause}
 use Rattle.command_faults.specs.declared.fault.Cause.TheVariants.{NotJson, Shape, TooMany, TooFew, CodeTwice, AccountTwice, UnknownAccount, AllotmentOverlap, Order, Truncated, TooLong}
 use Rattle.command_faults.specs.declared.fault.OpFault.{OpFault}
-use Rattle.command_faults.specs.declared.fault.OpFault.TheVariants.{Input, Read, Write, Store, Stuck, Unsettled, Setup, NoMemory}
+use Rattle.command_faults.specs.declared.fault.OpFault.TheVariants.{Input, Read, Write, Store, Stuck, Unsettled, Setup, Undone, NoMemory}
 use Rattle.command_faults.specs.SetupFaults.{setup_fault_status, setup_fault_text}
 use Rattle.streams.specs.declared.whole.ReadFault.{ReadFault}
 use Rattle.streams.specs.declared.whole.ReadFault.TheVariants as reading
@@ -35,6 +35,7 @@ op_fault_text (Store node fault) = codes "store " ++ node_text node ++ codes ": 
 op_fault_text (Stuck node place) = codes "stuck at " ++ node_text node ++ codes " " ++ decimal place
 op_fault_text (Unsettled node) = codes "unsettled " ++ node_text node
 op_fault_text (Setup fault) = setup_fault_text fault
+op_fault_text (Undone line) = codes "line " ++ decimal line ++ codes ": not carried out"
 op_fault_text NoMemory = codes "out of memory"
 
 -- the command's fault for a fault of a reader
@@ -47,8 +48,9 @@ abbrev pub of_store : Node → StoreFault → OpFault
 of_store node store_faults.NoMemory = NoMemory
 of_store node fault = Store node fault
 
--- the exit status. 1: no run leads to the journals, or the notes of a node's threads aren't those of one thread alone;
--- 2, 3 or 4: the setup of a node; 3: the input, its reading or the output; 4: a store; 5: memory
+-- the exit status. 1: no run leads to the journals, the notes of a node's threads aren't those of one thread alone, or a
+-- line was not carried out; 2, 3 or 4: the command can't begin; 3: the input, its reading or the output; 4: a store;
+-- 5: memory
 abbrev pub exit_status : OpFault → ℕ
 exit_status (Input line cause) = 3
 exit_status Read = 3
@@ -57,4 +59,5 @@ exit_status (Store node fault) = 4
 exit_status (Stuck node place) = 1
 exit_status (Unsettled node) = 1
 exit_status (Setup fault) = setup_fault_status fault
+exit_status (Undone line) = 1
 exit_status NoMemory = 5

@@ -78,8 +78,11 @@ pub enum OpFault {
     /// The notes of that node's threads aren't those that one thread alone would have got, or its journal isn't
     /// recorded under the scheme.
     Unsettled { node: Node },
-    /// A node that is to stand alone can't be set up, with that fault.
+    /// The command can't begin as its words ask, with that fault.
     Setup(SetupFault),
+    /// The line of the script with that number, counted from 1, is the first that was not carried out, and the words ask
+    /// for such a line to be a fault. Everything was written.
+    Undone(u64),
     /// Out of memory.
     NoMemory,
 }
@@ -99,6 +102,7 @@ impl fmt::Display for OpFault {
             OpFault::Stuck { node, place } => write!(f, "stuck at {node} {place}"),
             OpFault::Unsettled { node } => write!(f, "unsettled {node}"),
             OpFault::Setup(fault) => write!(f, "{fault}"),
+            OpFault::Undone(line) => write!(f, "line {line}: not carried out"),
             OpFault::NoMemory => write!(f, "out of memory"),
         }
     }
@@ -155,7 +159,7 @@ impl OpFault {
         ensures { result ≡ exit_status self.now }
     {
         match self {
-            OpFault::Stuck { .. } | OpFault::Unsettled { .. } => 1,
+            OpFault::Stuck { .. } | OpFault::Unsettled { .. } | OpFault::Undone(_) => 1,
             OpFault::Input { .. } | OpFault::Read | OpFault::Write(_) => 3,
             OpFault::Store { .. } => 4,
             OpFault::Setup(fault) => fault.status(),

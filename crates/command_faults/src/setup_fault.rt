@@ -1,4 +1,4 @@
-//! Why a node that is to stand alone can't be set up.
+//! Why a command can't begin as its words ask: a node that is to stand alone can't be set up, or a store is missing.
 
 ghost use Rattle.std.specs.Prelude.{◌≡◌};
 ghost use Rattle.command_faults.specs.SetupFaults.{setup_fault_status};
@@ -7,7 +7,7 @@ use std::error::Error;
 use std::fmt;
 use units::Node;
 
-/// Why a node that is to stand alone can't be set up.
+/// Why a command can't begin as its words ask.
 #[derive(Clone, Copy, Debug, PartialEq, Eq)]
 pub enum SetupFault {
     /// The value of `--listen` is no address.
@@ -31,10 +31,14 @@ pub enum SetupFault {
     Unknown,
     /// The file of keys can't be read.
     KeysUnread,
+    /// The path of the file of keys names a folder, a device or a pipe, which may have no end.
+    KeysNoFile,
+    /// The file of keys belongs to another user than the one who runs the node.
+    KeysOwner,
     /// Others than its owner may read or write the file of keys.
     KeysShared,
-    /// That line of the file of keys, counted from 1, isn't a node with its key, or names a node that an earlier line
-    /// names.
+    /// That line of the file of keys, counted from 1, isn't a node with its key, or has the node or the key of an
+    /// earlier line.
     KeysLine(u64),
     /// The file of keys has no key for that node.
     NoKey(Node),
@@ -44,6 +48,8 @@ pub enum SetupFault {
     OtherScheme,
     /// The scheme's sum, a file beside the store, can't be read or written.
     SchemeSum,
+    /// That node has no store in the folder, and the command takes existing stores alone.
+    NoStore(Node),
 }
 
 impl fmt::Display for SetupFault {
@@ -67,6 +73,8 @@ impl fmt::Display for SetupFault {
             SetupFault::NotTheLog => write!(f, "--clean-up: ITL alone cleans up"),
             SetupFault::Unknown => write!(f, "no node of the scheme"),
             SetupFault::KeysUnread => write!(f, "--keys: read failed"),
+            SetupFault::KeysNoFile => write!(f, "--keys: not a regular file"),
+            SetupFault::KeysOwner => write!(f, "--keys: another user owns the file"),
             SetupFault::KeysShared => write!(f, "--keys: others than the owner have access"),
             SetupFault::KeysLine(line) => write!(
                 f,
@@ -79,6 +87,7 @@ impl fmt::Display for SetupFault {
                 f,
                 "the scheme's sum beside the store can't be read or written"
             ),
+            SetupFault::NoStore(node) => write!(f, "store {node}: missing"),
         }
     }
 }
@@ -86,8 +95,8 @@ impl fmt::Display for SetupFault {
 impl Error for SetupFault {}
 
 impl SetupFault {
-    /// The program's exit status: 2 where the words are wrong by themselves, 4 where they don't fit the store, and else
-    /// 3.
+    /// The program's exit status: 2 where the words are wrong by themselves, 4 where they don't fit the store or there is
+    /// none, and else 3.
     pub fn status(&self) -> u8
         ensures { result ≡ setup_fault_status self.now }
     {
@@ -102,11 +111,13 @@ impl SetupFault {
             | SetupFault::NotTheLog => 2,
             SetupFault::Unknown
             | SetupFault::KeysUnread
+            | SetupFault::KeysNoFile
+            | SetupFault::KeysOwner
             | SetupFault::KeysShared
             | SetupFault::KeysLine(_)
             | SetupFault::NoKey(_)
             | SetupFault::Port => 3,
-            SetupFault::OtherScheme | SetupFault::SchemeSum => 4,
+            SetupFault::OtherScheme | SetupFault::SchemeSum | SetupFault::NoStore(_) => 4,
         }
     }
 }

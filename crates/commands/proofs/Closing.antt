@@ -1,10 +1,6 @@
 -- Stores that are closed one after another.
-use Rattle.std.proofs.Common.{◌≡◌, ◌∙◌, ◌∷◌, ◌++◌, List, [], Some, append-nil, append_assoc, arith, ap, length, refl, sym, take}
+use Rattle.std.proofs.Common.{◌≡◌, ◌∙◌, ◌∷◌, ◌++◌, List, [], Some, ap, length, refl, take}
 use Rattle.std.specs.Prelude.{slice_get}
-
--- the first of the remaining ones is done
-pub one_done : {X : Type 0} (all done left rest : List X) (x : X) → all ≡ done ++ left → left ≡ x ∷ rest → all ≡ (done ++ x ∷ []) ++ rest
-one_done {X} all done left rest x split is = split ∙ (ap (λ (xs : List X). done ++ xs) is ∙ sym (append_assoc done (x ∷ []) rest))
 
 after_done : {X : Type 0} (done rest : List X) (x : X) → slice_get (done ++ x ∷ rest) (length done) ≡ Some x
 after_done [] rest x = refl
@@ -21,8 +17,3 @@ part_done {X} all done left split = ap (λ (xs : List X). take (length done) xs)
     cut : (xs ys : List X) → take (length xs) (xs ++ ys) ≡ xs
     cut [] ys = refl
     cut (x ∷ xs) ys = ap (λ (zs : List X). x ∷ zs) (cut xs ys)
-
--- if none is left, all are done
-pub all_done : {X : Type 0} (all done left : List X) → all ≡ done ++ left → length left ≡ 0 → all ≡ done
-all_done all done [] split none = split ∙ append-nil done
-all_done all done (x ∷ xs) split none = absurd (omega (arith, none))

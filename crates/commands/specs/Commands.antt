@@ -1,5 +1,5 @@
 -- What each command does with the files and nodes that its words name, and how it fails.
-use Rattle.std.specs.Prelude.{◌≡◌, ◌⊎◌, ℕ, true, All, List, [], Option, Some, map, slice_get, string_bytes, take}
+use Rattle.std.specs.Prelude.{◌≡◌, ◌⊎◌, ℕ, true, All, List, [], Option, None, Some, map, slice_get, string_bytes, take}
 use Rattle.std.specs.Io.KnownBytes.{Appends, Keeps}
 use Rattle.units.specs.Code.{node_text}
 use Rattle.units.specs.declared.code.Node.{Node}
@@ -16,7 +16,7 @@ use Rattle.desk.specs.Views.{opened_with}
 use Rattle.command_faults.specs.Faults.{of_store}
 use Rattle.command_faults.specs.declared.fault.Cause.TheVariants.{Order}
 use Rattle.command_faults.specs.declared.fault.OpFault.{OpFault}
-use Rattle.command_faults.specs.declared.fault.OpFault.TheVariants.{Input as InputFault, Read, NoMemory}
+use Rattle.command_faults.specs.declared.fault.OpFault.TheVariants.{Input as InputFault, Read, Undone, NoMemory}
 use Rattle.report.specs.declared.form.Form.{Form}
 use Rattle.rehearse.specs.Rehearsal.{FailsSo, Reports}
 use Rattle.rehearse.specs.Report.{IsReport}
@@ -26,12 +26,15 @@ use Rattle.operator.specs.declared.actions.Action.{Action}
 use Rattle.operator.specs.declared.actions.Action.TheVariants.{Rehearse, Chart, Show, Audit, Events, Trace, Explain, Run, Node as Alone}
 use Rattle.operator.specs.declared.actions.Extent.{Extent}
 use Rattle.operator.specs.declared.actions.Extent.TheVariants.{Furthest, Whole}
+use Rattle.operator.specs.declared.actions.Missing.{Missing}
+use Rattle.operator.specs.declared.actions.Strictness.{Strictness}
+use Rattle.operator.specs.declared.actions.Strictness.TheVariants.{Strict}
 use Rattle.audit.specs.Audits.{Audits, FailsToAudit, FailsToFindRun, HasRun}
 use Rattle.audit.specs.Cuts.{CutsOff, FailsToCutOff}
 use Rattle.audit.specs.Stores.{AreLoaded, AreUnwritten}
 use Rattle.events.specs.Listing.{FailsToList, Lists}
 use Rattle.trace.specs.Traces.{FailsToTrace, Traces}
-use Rattle.explain.specs.Topics.{FailsToExplain, Has, topics}
+use Rattle.explain.specs.Topics.{Explains, FailsToExplain}
 use Rattle.input_lines.specs.declared.script_line.ScriptLine.{ScriptLine}
 use Rattle.audit.specs.Ended.{states_of}
 use Rattle.run.specs.Runs.{FailsToRun, HaveEnded, IsLoadedAmong, IsRunReport}
@@ -64,23 +67,37 @@ pub record HasClosingFault {S : Type 0} (closes : S → Type 0) (unclosed : S �
   pub failed : unclosed kept.store cause
   pub told : fault ≡ of_store kept.state.node cause
 
+-- the run is strict, and that line is the first that was not carried out
+abbrev pub IsUndone : Strictness → Option ℕ → OpFault → Type 0
+IsUndone strictness undone fault = (line : ℕ) × (strictness ≡ Strict) × (undone ≡ Some line) × (fault ≡ Undone line)
+
 module _ {S : Type 0} (of : StoreGhosts S) where
-  -- the nodes ended well, and the script's report of them was written
-  pub record HasReported (scheme : Scheme) (lines : List ScriptLine) (loaded ended : List (StoredView S)) (before after : Option (List ℕ)) : Type 0 where
+  -- the nodes ended well, and the script's report of them was written; the first line that was not carried out
+  pub record HasReported (scheme : Scheme) (lines : List ScriptLine) (loaded ended : List (StoredView S)) (undone : Option ℕ) (before after : Option (List ℕ)) : Type 0 where
     pub well : HaveEnded of (IsLoadedAmong of scheme loaded) scheme ended
     pub text : List ℕ
-    pub report : IsRunReport scheme lines (states_of ended) text
+    pub report : IsRunReport scheme lines (states_of ended) undone text
     pub written : Appends before after text
 
   -- and their stores were closed
-  abbrev pub RunsLoaded : (closes : S → Type 0) → Scheme → List ScriptLine → List (StoredView S) → (before after : Option (List ℕ)) → Type 0
-  RunsLoaded closes scheme lines loaded v w = (ended : List (StoredView S)) × HasReported scheme lines loaded ended v w × AreClosed closes ended
+  abbrev pub HasClosed : (closes : S → Type 0) → Scheme → List ScriptLine → List (StoredView S) → (undone : Option ℕ) (before after : Option (List ℕ)) → Type 0
+  HasClosed closes scheme lines loaded undone v w = (ended : List (StoredView S)) × HasReported scheme lines loaded ended undone v w × AreClosed closes ended
 
-  -- no port could be had; or the run failed; or it was reported, and a store failed to close
-  abbrev pub FailsToRunLoaded : (closes : S → Type 0) (unclosed : S → StoreFault → Type 0) → Scheme → List ScriptLine → List (StoredView S) → OpFault → (before after : Option (List ℕ)) → Type 0
-  FailsToRunLoaded closes unclosed scheme lines loaded fault v w =
+  -- and all lines were carried out, if the run is strict
+  abbrev pub RunsLoaded : (closes : S → Type 0) → Scheme → List ScriptLine → Strictness → List (StoredView S) → (before after : Option (List ℕ)) → Type 0
+  RunsLoaded closes scheme lines strictness loaded v w = (undone : Option ℕ) × HasClosed closes scheme lines loaded undone v w × (strictness ≡ Strict → undone ≡ None)
+
+  -- it was reported, and a store failed to close; or the stores were closed, and a line was not carried out
+  abbrev pub FailsAfterReport : (closes : S → Type 0) (unclosed : S → StoreFault → Type 0) → Scheme → List ScriptLine → Strictness → List (StoredView S) → OpFault → (before after : Option (List ℕ)) → Type 0
+  FailsAfterReport closes unclosed scheme lines strictness loaded fault v w =
+      ((undone : Option ℕ) × (ended : List (StoredView S)) × HasReported scheme lines loaded ended undone v w × HasClosingFault closes unclosed ended fault)
+      ⊎ ((undone : Option ℕ) × HasClosed closes scheme lines loaded undone v w × IsUndone strictness undone fault)
+
+  -- no port could be had; or the run failed; or there was a fault after its report
+  abbrev pub FailsToRunLoaded : (closes : S → Type 0) (unclosed : S → StoreFault → Type 0) → Scheme → List ScriptLine → Strictness → List (StoredView S) → OpFault → (before after : Option (List ℕ)) → Type 0
+  FailsToRunLoaded closes unclosed scheme lines strictness loaded fault v w =
       (IsPortFault fault × Keeps v w)
-      ⊎ (FailsToRun of (IsLoadedAmong of scheme loaded) fault scheme lines v w ⊎ ((ended : List (StoredView S)) × HasReported scheme lines loaded ended v w × HasClosingFault closes unclosed ended fault))
+      ⊎ (FailsToRun of (IsLoadedAmong of scheme loaded) fault scheme lines v w ⊎ FailsAfterReport closes unclosed scheme lines strictness loaded fault v w)
 
 -- ---- nodes that are loaded
 
@@ -226,7 +243,7 @@ module _ {A F S : Type 0} (g : Ghosts A F S) (archive : A) (remaining : F → Op
   -- ---- `run`
 
   -- the script was played while the nodes ran, from the records in the folder, and its report was written
-  pub record RunsFolder (path folder script : List ℕ) (before after : Option (List ℕ)) : Type 0 where
+  pub record RunsFolder (path folder script : List ℕ) (strictness : Strictness) (before after : Option (List ℕ)) : Type 0 where
     pub scheme : Scheme
     pub has_scheme : HasScheme g archive remaining path scheme
     pub lines : List ScriptLine
@@ -234,37 +251,47 @@ module _ {A F S : Type 0} (g : Ghosts A F S) (archive : A) (remaining : F → Op
     pub in_folder : g.is_folder archive folder
     pub loaded : List (StoredView S)
     pub loads : LoadsFolder g archive of folder scheme loaded
-    pub runs : RunsLoaded of (g.closes archive) scheme lines loaded before after
+    pub runs : RunsLoaded of (g.closes archive) scheme lines strictness loaded before after
 
   abbrev pub FailsFromRecords : List ℕ → Scheme → (List (StoredView S) → Failing) → Failing
   FailsFromRecords folder scheme Later fault v w = (FailsToLoadFolder g archive of folder scheme fault × Keeps v w) ⊎ ((loaded : List (StoredView S)) × LoadsFolder g archive of folder scheme loaded × Later loaded fault v w)
 
   -- the first fault of the scheme, the script, the folder, the stores and their records, the ports and the run
-  abbrev pub FailsToRunFolder : (path folder script : List ℕ) → Failing
-  FailsToRunFolder path folder script =
-      FailsFromScheme path (λ scheme. FailsFromScript script (λ lines. FailsFromFolder folder (FailsFromRecords folder scheme (λ loaded. FailsToRunLoaded of (g.closes archive) (g.unclosed archive) scheme lines loaded))))
+  abbrev pub FailsToRunFolder : (path folder script : List ℕ) → Strictness → Failing
+  FailsToRunFolder path folder script strictness =
+      FailsFromScheme path (λ scheme. FailsFromScript script (λ lines. FailsFromFolder folder (FailsFromRecords folder scheme (λ loaded. FailsToRunLoaded of (g.closes archive) (g.unclosed archive) scheme lines strictness loaded))))
 
-  -- ---- all commands
+-- ---- all commands
+
+-- an archive, the bytes that a file has left to be read, and what is known of a store
+module _ {A F S : Type 0} (g : Ghosts A F S) (archive : A) (remaining : F → Option (List ℕ)) (of : StoreGhosts S) where
+  -- for a command that reads stores alone, and treats a missing one so
+  abbrev pub Reading : Missing → (A → Type 0) → Type 0
+  Reading missing Does = (a : A) × g.reads_as archive missing a × Does a
+
+  -- for a command that appends to stores
+  abbrev pub Appending : Missing → (A → Type 0) → Type 0
+  Appending missing Does = (a : A) × g.appends_as archive missing a × Does a
 
   -- the bytes that standard input has left, before and after, and the output
   abbrev pub Performs : Action → (r s before after : Option (List ℕ)) → Type 0
   Performs Rehearse r s v w = (text : List ℕ) × Reports IsReport r s text × Appends v w text
   Performs Chart r s v w = (text : List ℕ) × Reports IsChart r s text × Appends v w text
-  Performs (Show scheme folder node form) r s v w = ShowsNode form (string_bytes scheme) (string_bytes folder) (string_bytes node) v w
-  Performs (Audit scheme folder extent form) r s v w = AuditsTo extent form (string_bytes scheme) (string_bytes folder) v w
-  Performs (Events scheme folder form) r s v w = ListsFolder form (string_bytes scheme) (string_bytes folder) v w
-  Performs (Trace scheme folder id form) r s v w = TracesFolder form (string_bytes scheme) (string_bytes folder) (string_bytes id) v w
-  Performs (Explain topic) r s v w = (text : List ℕ) × Has topics (string_bytes topic) text × Appends v w text
-  Performs (Run scheme folder script) r s v w = RunsFolder (string_bytes scheme) (string_bytes folder) (string_bytes script) v w
+  Performs (Show scheme folder node form missing) r s v w = Reading missing (λ a. ShowsNode g a remaining of form (string_bytes scheme) (string_bytes folder) (string_bytes node) v w)
+  Performs (Audit scheme folder extent form missing) r s v w = Reading missing (λ a. AuditsTo g a remaining of extent form (string_bytes scheme) (string_bytes folder) v w)
+  Performs (Events scheme folder form missing) r s v w = Reading missing (λ a. ListsFolder g a remaining of form (string_bytes scheme) (string_bytes folder) v w)
+  Performs (Trace scheme folder id form missing) r s v w = Reading missing (λ a. TracesFolder g a remaining of form (string_bytes scheme) (string_bytes folder) (string_bytes id) v w)
+  Performs (Explain words) r s v w = (text : List ℕ) × Explains (map string_bytes words.items) text × Appends v w text
+  Performs (Run scheme folder script missing strictness) r s v w = Appending missing (λ a. RunsFolder g a remaining of (string_bytes scheme) (string_bytes folder) (string_bytes script) strictness v w)
   Performs (Alone words) r s v w = StandsAlone g archive remaining of words r s v w
 
   abbrev pub FailsToPerform : Action → OpFault → (r s before after : Option (List ℕ)) → Type 0
   FailsToPerform Rehearse fault r s v w = FailsSo IsReport fault r s v w
   FailsToPerform Chart fault r s v w = FailsSo IsChart fault r s v w
-  FailsToPerform (Show scheme folder node form) fault r s v w = FailsToShowNode form (string_bytes scheme) (string_bytes folder) (string_bytes node) fault v w
-  FailsToPerform (Audit scheme folder extent form) fault r s v w = FailsToAuditTo extent form (string_bytes scheme) (string_bytes folder) fault v w
-  FailsToPerform (Events scheme folder form) fault r s v w = FailsToListFolder form (string_bytes scheme) (string_bytes folder) fault v w
-  FailsToPerform (Trace scheme folder id form) fault r s v w = FailsToTraceFolder form (string_bytes scheme) (string_bytes folder) (string_bytes id) fault v w
-  FailsToPerform (Explain topic) fault r s v w = FailsToExplain fault (string_bytes topic) v w
-  FailsToPerform (Run scheme folder script) fault r s v w = FailsToRunFolder (string_bytes scheme) (string_bytes folder) (string_bytes script) fault v w
+  FailsToPerform (Show scheme folder node form missing) fault r s v w = Reading missing (λ a. FailsToShowNode g a remaining of form (string_bytes scheme) (string_bytes folder) (string_bytes node) fault v w)
+  FailsToPerform (Audit scheme folder extent form missing) fault r s v w = Reading missing (λ a. FailsToAuditTo g a remaining of extent form (string_bytes scheme) (string_bytes folder) fault v w)
+  FailsToPerform (Events scheme folder form missing) fault r s v w = Reading missing (λ a. FailsToListFolder g a remaining of form (string_bytes scheme) (string_bytes folder) fault v w)
+  FailsToPerform (Trace scheme folder id form missing) fault r s v w = Reading missing (λ a. FailsToTraceFolder g a remaining of form (string_bytes scheme) (string_bytes folder) (string_bytes id) fault v w)
+  FailsToPerform (Explain words) fault r s v w = FailsToExplain fault (map string_bytes words.items) v w
+  FailsToPerform (Run scheme folder script missing strictness) fault r s v w = Appending missing (λ a. FailsToRunFolder g a remaining of (string_bytes scheme) (string_bytes folder) (string_bytes script) strictness fault v w)
   FailsToPerform (Alone words) fault r s v w = FailsToStand g archive remaining words fault v w

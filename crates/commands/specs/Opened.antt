@@ -4,16 +4,16 @@ use Rattle.units.specs.declared.code.Node.{Node}
 use Rattle.protocol.specs.Input.{Input}
 use Rattle.protocol.specs.Scheme.{Scheme}
 use Rattle.protocol.specs.Registries.{nodes}
-use Rattle.stores.specs.declared.fault.StoreFault.{StoreFault}
 use Rattle.stores.specs.declared.node_store.NodeStore.{Ghosts as StoreGhosts}
-use Rattle.command_faults.specs.Faults.{of_store}
 use Rattle.command_faults.specs.SchemeFile.{FailsToRead, ReadsScheme}
 use Rattle.command_faults.specs.declared.fault.OpFault.{OpFault}
 use Rattle.command_faults.specs.declared.fault.OpFault.TheVariants.{Read, NoMemory}
 use Rattle.audit.specs.Stores.{AreLoaded, FailsToLoad}
 use Rattle.input_lines.specs.Scripts.{FailsToReadScript, ReadsScript}
 use Rattle.input_lines.specs.declared.script_line.ScriptLine.{ScriptLine}
+use Rattle.commands.specs.Unopened.{IsUnopened, of_unopened}
 use Rattle.commands.specs.declared.archive.Archive.{Ghosts}
+use Rattle.commands.specs.declared.archive.Unopened.{Unopened}
 
 -- ---- files and folders
 
@@ -48,11 +48,11 @@ LacksFolder g archive path fault = (fault ≡ Read) × g.lacks archive path
 
 -- ---- stores
 
--- the node's store in the folder can't be opened
+-- the node's store in the folder isn't there, or can't be opened
 pub record IsShut {A F S : Type 0} (g : Ghosts A F S) (archive : A) (folder : List ℕ) (n : Node) (fault : OpFault) : Type 0 where
-  pub cause : StoreFault
-  pub fails : g.fails archive folder n cause
-  pub is : fault ≡ of_store n cause
+  pub cause : Unopened
+  pub fails : IsUnopened (g.misses archive) (g.fails archive) folder n cause
+  pub is : fault ≡ of_unopened n cause
 
 -- an archive, and what is known of its stores
 module _ {A F S : Type 0} (g : Ghosts A F S) (archive : A) (of : StoreGhosts S) where

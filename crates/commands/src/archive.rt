@@ -1,15 +1,27 @@
 //! The files and the stores that the words of a command name.
 ghost use Rattle.std.specs.Prelude.{◌≡◌, true, false, IfErr, IfNone, IfOk, IfSome, OnOk, List, ℕ, string_bytes};
 ghost use Rattle.stores.specs.declared.fault.StoreFault.{StoreFault as AFault};
+ghost use Rattle.operator.specs.declared.actions.Missing.{Missing as IfMissing};
+ghost use Rattle.commands.specs.Unopened.{IsUnopened};
 ghost use Rattle.units.specs.declared.code.Node.{Node as ANode};
 
 use command_faults::OpFault;
+use operator::Missing;
 use std::io::Read;
 use stores::{NodeStore, StoreFault};
 use units::Node;
 
+/// Why a store isn't open.
+#[derive(Clone, Copy, Debug, PartialEq, Eq)]
+pub enum Unopened {
+    /// There is none, and a missing store is refused.
+    Missing,
+    /// It has that fault, which is never `Reopen`.
+    Fault(StoreFault),
+}
+
 /// Files at paths, and folders with the stores of nodes.
-pub trait Archive {
+pub trait Archive: Copy {
     /// An open file.
     type File: Read + Drop;
     /// An open store.
@@ -24,8 +36,18 @@ pub trait Archive {
     /// There is no such file, or folder, or it can't be opened.
     ghost lacks: { Self → List ℕ → Type 0 };
 
+    /// The second archive is the first one for a command that reads stores alone, where a missing store is treated so: if
+    /// it is refused, no file changes.
+    ghost reads_as: { Self → IfMissing → Self → Type 0 };
+
+    /// The second archive is the first one for a command that appends to stores, where a missing store is treated so.
+    ghost appends_as: { Self → IfMissing → Self → Type 0 };
+
     /// It is the store of that node in the folder at that path.
     ghost keeps: { Self → List ℕ → ANode → Self.Store → Type 0 };
+
+    /// There is no store of that node in the folder at that path, and a missing store is refused.
+    ghost misses: { Self → List ℕ → ANode → Type 0 };
 
     /// Opening the node's store in the folder at that path fails with that fault.
     ghost fails: { Self → List ℕ → ANode → AFault → Type 0 };
@@ -55,17 +77,30 @@ pub trait Archive {
         ensures yes { result ≡ true → is_folder self.now path.now }
         ensures no { result ≡ false → lacks self.now path.now };
 
-    /// Opens the store of the node in the folder at the path. A store that isn't there is made.
+    /// The archive for a command that reads stores alone. If missing stores are refused, no file changes.
+    fn to_read(&self, missing: Missing) -> Self
+    where
+        Self: Sized,
+        ensures { reads_as self.now missing result };
+
+    /// The archive for a command that appends to stores.
+    fn to_append(&self, missing: Missing) -> Self
+    where
+        Self: Sized,
+        ensures { appends_as self.now missing result };
+
+    /// Opens the store of the node in the folder at the path. A store that isn't there is made, unless this archive is one
+    /// that refuses missing stores.
     ///
     /// # Errors
     ///
-    /// Fails with the store's fault, which is never `Reopen`.
-    fn open_store(&self, folder: &str, node: Node) -> Result<Self::Store, StoreFault>
+    /// Fails with `Missing` if there is no store and missing ones are refused, and with the store's fault.
+    fn open_store(&self, folder: &str, node: Node) -> Result<Self::Store, Unopened>
         ensures keeps { IfOk result (keeps self.now folder.now node) }
         ensures whose { IfOk result (λ s. Self.Store.whose s ≡ node) }
         ensures own { IfOk result (λ s. Self.Store.is_honest s → Self.Store.must_reopen s ≡ false
             → Self.Store.is_own s) }
-        ensures fails { IfErr result (fails self.now folder.now node) };
+        ensures fails { IfErr result (IsUnopened (misses self.now) (fails self.now) folder.now node) };
 
     /// Closes the store. Its records are all in its database file afterwards.
     ///
@@ -89,7 +124,8 @@ pub trait Archive {
     ///
     /// # Errors
     ///
-    /// Fails with `Setup` of `KeysUnread` if the file can't be read, with `Setup` of `KeysShared` if others than its
+    /// Fails with `Setup` of `KeysUnread` if the file can't be read, with `Setup` of `KeysNoFile` if it is no regular
+    /// file, with `Setup` of `KeysOwner` if it belongs to another user, with `Setup` of `KeysShared` if others than its
     /// owner may read or write it, and with `NoMemory` if memory ran out.
     fn read_keys(&self, path: &str) -> Result<Vec<u8>, OpFault>
         ensures { IfOk result (λ bytes. is_private self.now path.now bytes.items) };

@@ -11,7 +11,7 @@ mod progress;
 mod running;
 mod standing;
 
-pub use archive::Archive;
+pub use archive::{Archive, Unopened};
 pub use obeying::{Ended, obey};
 pub use opening::scheme_at;
 pub use progress::Progress;

@@ -1,11 +1,12 @@
 //! The files, folders and stores that a command's words name, opened and read.
-ghost use Rattle.std.specs.Prelude.{IfErr, IfOk, OnOk};
+ghost use Rattle.std.specs.Prelude.{◌≡◌, IfErr, IfOk, OnOk};
 ghost use Rattle.protocol.specs.Registries.{nodes};
 ghost use Rattle.commands.specs.Opened.{AreStoresIn, FailsToOpen, HasScheme, HasScript, IsShut, IsStoreIn, LacksFolder, LacksScheme, LacksScript};
+ghost use Rattle.commands.specs.Unopened.{of_unopened};
 
-use crate::archive::Archive;
+use crate::archive::{Archive, Unopened};
 use audit::read_first;
-use command_faults::{OpFault, read_scheme, store_fault};
+use command_faults::{OpFault, SetupFault, read_scheme, store_fault};
 use input_lines::{ScriptLine, read_script};
 use protocol::nodes_of;
 use protocol::scheme::Scheme;
@@ -58,11 +59,22 @@ pub(crate) fn find_folder<A: Archive>(archive: &A, path: &str) -> Result<(), OpF
     }
 }
 
+/// The command's fault for a store of the node that isn't open.
+fn unopened_fault(node: Node, unopened: Unopened) -> OpFault
+    ensures { result ≡ of_unopened node unopened }
+{
+    match unopened {
+        Unopened::Missing => OpFault::Setup(SetupFault::NoStore(node)),
+        Unopened::Fault(fault) => store_fault(node, fault),
+    }
+}
+
 /// The store of the node in the folder.
 ///
 /// # Errors
 ///
-/// Fails with the store's fault, or with `NoMemory` if memory ran out.
+/// Fails with `Setup` of `NoStore` if there is none and the archive refuses missing stores, with the store's fault, or
+/// with `NoMemory` if memory ran out.
 pub(crate) fn open_store<A: Archive>(
     archive: &A,
     folder: &str,
@@ -73,7 +85,7 @@ pub(crate) fn open_store<A: Archive>(
 {
     match archive.open_store(folder, node) {
         Ok(store) => Ok(store),
-        Err(fault) => Err(store_fault(node, fault)),
+        Err(unopened) => Err(unopened_fault(node, unopened)),
     }
 }
 

@@ -230,7 +230,7 @@ fn trace_folder<A: Archive, W: Write, P: Progress>(
 ///
 /// Fails with the first fault, in the order in which the command looks at the files and nodes that its words name.
 /// Nothing is written then, unless the output failed; but a run or a node that stands alone may have written lines
-/// before it failed.
+/// before it failed, and a strict run that fails with `Undone` has written everything.
 pub(crate) fn perform<A, I, W, P, R>(
     rt: &R,
     alloc: Global,
@@ -260,9 +260,10 @@ where
             folder,
             node,
             form,
+            missing,
         } => show_node(
             alloc,
-            archive,
+            &archive.to_read(*missing),
             scheme.as_str(),
             folder.as_str(),
             node.as_str(),
@@ -274,9 +275,10 @@ where
             folder,
             extent,
             form,
+            missing,
         } => audit_to(
             alloc,
-            archive,
+            &archive.to_read(*missing),
             scheme.as_str(),
             folder.as_str(),
             *extent,
@@ -288,9 +290,10 @@ where
             scheme,
             folder,
             form,
+            missing,
         } => list_folder(
             alloc,
-            archive,
+            &archive.to_read(*missing),
             scheme.as_str(),
             folder.as_str(),
             *form,
@@ -302,9 +305,10 @@ where
             folder,
             id,
             form,
+            missing,
         } => trace_folder(
             alloc,
-            archive,
+            &archive.to_read(*missing),
             scheme.as_str(),
             folder.as_str(),
             id.as_str(),
@@ -312,18 +316,21 @@ where
             writer,
             progress,
         ),
-        Action::Explain { topic } => explain(writer, topic.as_str()),
+        Action::Explain { words } => explain(alloc, writer, words.as_slice()),
         Action::Run {
             scheme,
             folder,
             script,
+            missing,
+            strictness,
         } => run_folder(
             rt,
             alloc,
-            archive,
+            &archive.to_append(*missing),
             scheme.as_str(),
             folder.as_str(),
             script.as_str(),
+            *strictness,
             writer,
             progress,
         ),

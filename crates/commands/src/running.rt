@@ -1,9 +1,9 @@
 //! The command `run`.
-ghost use Rattle.std.specs.Prelude.{◌≡◌, ◌⊎◌, ◌++◌, ◌∷◌, [], IfErr, IfOk, OnOk, map};
+ghost use Rattle.std.specs.Prelude.{◌≡◌, ◌⊎◌, ◌++◌, ◌∷◌, [], None, IfErr, IfOk, OnOk, map};
 ghost use Rattle.std.specs.Io.KnownBytes.{Keeps};
 ghost use Rattle.audit.specs.Ended.{stored_in};
 ghost use Rattle.run.specs.Runs.{FailsToRun, IsLoadedAmong};
-ghost use Rattle.commands.specs.Commands.{AreClosed, AreOpened, FailsToLoadFolder, FailsToRunFolder, FailsToRunLoaded, HasClosingFault, HasReported, IsPortFault, LoadsFolder, RunsFolder, RunsLoaded};
+ghost use Rattle.commands.specs.Commands.{AreClosed, AreOpened, FailsToLoadFolder, FailsToRunFolder, FailsToRunLoaded, HasClosingFault, HasReported, IsPortFault, IsUndone, LoadsFolder, RunsFolder, RunsLoaded};
 
 use crate::archive::Archive;
 use crate::opening::{find_folder, open_stores, scheme_at, script_at};
@@ -12,9 +12,10 @@ use audit::{EndedNode, load_run};
 use command_faults::{OpFault, store_fault};
 use desk::{OpenGate, Stored, WallClock};
 use input_lines::ScriptLine;
+use operator::Strictness;
 use protocol::scheme::Scheme;
 use run::world::Core;
-use run::{LoadedNode, run_script};
+use run::{EndedRun, LoadedNode, run_script};
 use sessions::Network;
 use sockets::{Port, Ports, SocketNodes};
 use std::alloc::Global;
@@ -145,15 +146,15 @@ fn run_connected<S, W, P, R>(
     loaded: Vec<Stored<Core, S>>,
     writer: &mut W,
     progress: &P,
-) -> Result<Vec<EndedNode<S>>, OpFault>
+) -> Result<EndedRun<S>, OpFault>
 where
     S: NodeStore + Send + Drop,
     W: Write,
     P: Progress,
     R: Threads + Wait + SystemClock + Net<Listener = TcpListener, Stream = TcpStream> + Sync,
     requires opened { AreOpened scheme.now loaded.items }
-    ensures ok { IfOk result (λ v. HasReported S.NodeStore scheme.now lines.now loaded.items (stored_in v.items)
-        (W.contents writer.old) (W.contents writer.new)) }
+    ensures ok { IfOk result (λ r. HasReported S.NodeStore scheme.now lines.now loaded.items (stored_in r.nodes.items)
+        r.undone (W.contents writer.old) (W.contents writer.new)) }
     ensures err { IfErr result
         (λ e. (IsPortFault e × Keeps (W.contents writer.old) (W.contents writer.new))
         ⊎ FailsToRun S.NodeStore (IsLoadedAmong S.NodeStore scheme.now loaded.items) e scheme.now lines.now
@@ -173,6 +174,20 @@ where
     ended
 }
 
+/// Fails with `Undone` of the first line that was not carried out, if there is one and the run is strict.
+fn judged(strictness: Strictness, undone: Option<u64>) -> Result<(), OpFault>
+    ensures ok { OnOk result (strictness ≡ Strictness.Strict → undone ≡ None) }
+    ensures err { IfErr result (IsUndone strictness undone) }
+{
+    match strictness {
+        Strictness::Lenient => Ok(()),
+        Strictness::Strict => match undone {
+            Some(line) => Err(OpFault::Undone(line)),
+            None => Ok(()),
+        },
+    }
+}
+
 /// Runs the nodes in threads, over connections of the loopback interface, while the script is played; reports, and
 /// closes the stores.
 fn run_loaded<A, W, P, R>(
@@ -181,6 +196,7 @@ fn run_loaded<A, W, P, R>(
     archive: &A,
     scheme: &Scheme,
     lines: &[ScriptLine],
+    strictness: Strictness,
     loaded: Vec<Stored<Core, A::Store>>,
     writer: &mut W,
     progress: &P,
@@ -191,14 +207,18 @@ where
     P: Progress,
     R: Threads + Wait + SystemClock + Net<Listener = TcpListener, Stream = TcpStream> + Sync,
     requires opened { AreOpened scheme.now loaded.items }
-    ensures ok { OnOk result (RunsLoaded A.Store.NodeStore (A.closes archive.now) scheme.now lines.now loaded.items
-        (W.contents writer.old) (W.contents writer.new)) }
+    ensures ok { OnOk result (RunsLoaded A.Store.NodeStore (A.closes archive.now) scheme.now lines.now strictness
+        loaded.items (W.contents writer.old) (W.contents writer.new)) }
     ensures err { IfErr result
         (λ e. FailsToRunLoaded A.Store.NodeStore (A.closes archive.now)
-        (A.unclosed archive.now) scheme.now lines.now loaded.items e (W.contents writer.old) (W.contents writer.new)) }
+        (A.unclosed archive.now) scheme.now lines.now strictness loaded.items e
+        (W.contents writer.old) (W.contents writer.new)) }
 {
     match run_connected(rt, alloc, scheme, lines, loaded, writer, progress) {
-        Ok(ended) => close_stores(archive, ended),
+        Ok(EndedRun { nodes, undone }) => match close_stores(archive, nodes) {
+            Ok(()) => judged(strictness, undone),
+            Err(fault) => Err(fault),
+        },
         Err(fault) => Err(fault),
     }
 }
@@ -209,7 +229,7 @@ where
 /// # Errors
 ///
 /// Fails with the first fault of these, and as `run_script` does. If everything was written, fails with the first fault
-/// of a store that is closed.
+/// of a store that is closed, and, if the run is strict, with `Undone` of the first line that was not carried out.
 pub(crate) fn run_folder<A, W, P, R>(
     rt: &R,
     alloc: Global,
@@ -217,6 +237,7 @@ pub(crate) fn run_folder<A, W, P, R>(
     scheme: &str,
     folder: &str,
     script: &str,
+    strictness: Strictness,
     writer: &mut W,
     progress: &P,
 ) -> Result<(), OpFault>
@@ -226,11 +247,11 @@ where
     P: Progress,
     R: Threads + Wait + SystemClock + Net<Listener = TcpListener, Stream = TcpStream> + Sync,
     ensures ok { OnOk result
-        (RunsFolder A.Archive archive.now A.File.remaining A.Store.NodeStore scheme.now folder.now script.now
+        (RunsFolder A.Archive archive.now A.File.remaining A.Store.NodeStore scheme.now folder.now script.now strictness
         (W.contents writer.old) (W.contents writer.new)) }
     ensures err { IfErr result
-        (λ e. FailsToRunFolder A.Archive archive.now A.File.remaining A.Store.NodeStore scheme.now folder.now script.now e
-        (W.contents writer.old) (W.contents writer.new)) }
+        (λ e. FailsToRunFolder A.Archive archive.now A.File.remaining A.Store.NodeStore scheme.now folder.now script.now
+        strictness e (W.contents writer.old) (W.contents writer.new)) }
 {
     let scheme = scheme_at(alloc, archive, scheme)?;
     let lines = script_at(alloc, archive, script)?;
@@ -242,6 +263,7 @@ where
         archive,
         &scheme,
         lines.as_slice(),
+        strictness,
         loaded,
         writer,
         progress,

@@ -64,7 +64,7 @@ impl<'a> Standing<'a> {
 /// Why a text isn't that of a file of keys.
 fn keys_fault(fault: KeysFault) -> OpFault {
     match fault {
-        KeysFault::Form(line) | KeysFault::Twice(line) => {
+        KeysFault::Form(line) | KeysFault::Twice(line) | KeysFault::Same(line) => {
             OpFault::Setup(SetupFault::KeysLine(line as u64))
         }
         KeysFault::TooMany => OpFault::Setup(SetupFault::KeysLine(MOST_KEYS as u64 + 1)),

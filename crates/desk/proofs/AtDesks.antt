@@ -15,7 +15,7 @@ use Rattle.desk.specs.Calls.{Takes, Tells, committed_by, done}
 use Rattle.desk.specs.Keeping.{Commits, IsAtDesk, IsKept, StoredView, count_with, fault_after}
 use Rattle.desk.specs.Views.{StateView, tail}
 use Rattle.desk.specs.declared.notes.Told.{Told}
-use Rattle.desk.proofs.Keepings.{after_more}
+use Rattle.desk.proofs.Keepings.{after_more, never_ok}
 
 -- what no call changes of a state, except that it may stop
 record IsSame (old new : StateView) : Type 0 where
@@ -84,12 +84,6 @@ module _ {S : Type 0} (g : Ghosts S) (opened : Scheme → Node → List Input �
         stopped = at.stopped;
         running = λ never. absurd (cc (never));
       }))
-
-  never_ok : (fault : StoreFault) → let told : Result ℕ StoreFault = Err fault in told ≡ Ok 0 → ⊥
-  never_ok fault e = cc (e)
-
-  ok_zero : (count : ℕ) → let told : Result ℕ StoreFault = Ok count in told ≡ Ok 0 → count ≡ 0
-  ok_zero count e = cc (e)
 
   -- there was nothing to commit
   at_nothing : (old : StateView) (old_store new_store : S) (result : Result ℕ StoreFault) (fault : Option StoreFault) → result ≡ Ok 0 → new_store ≡ old_store → At old old_store fault → At (committed_by old result) new_store (fault_after fault result)

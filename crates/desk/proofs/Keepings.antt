@@ -163,6 +163,12 @@ after_more journal input (Err refusal) = ([], sym (append-nil journal))
 
 -- ---- a state and its store
 
+pub never_ok : (fault : StoreFault) → let told : Result ℕ StoreFault = Err fault in told ≡ Ok 0 → ⊥
+never_ok fault e = cc (e)
+
+pub ok_zero : (count : ℕ) → let told : Result ℕ StoreFault = Ok count in told ≡ Ok 0 → count ≡ 0
+ok_zero count e = cc (e)
+
 module _ {S : Type 0} (g : Ghosts S) where
   abbrev Kept : StateView → S → Type 0
   Kept held store = IsKept g (record { state = held; store = store })
@@ -287,12 +293,6 @@ module _ {S : Type 0} (g : Ghosts S) where
       IfOk result (λ count. count ≡ length batch)
       × (length batch ≡ 0 → (result ≡ Ok 0) × (new ≡ old))
       × (0 < length batch → Appends g.is_honest g.content g.may_hold g.must_reopen old new batch (done result))
-
-  never_ok : (fault : StoreFault) → let told : Result ℕ StoreFault = Err fault in told ≡ Ok 0 → ⊥
-  never_ok fault e = cc (e)
-
-  ok_zero : (count : ℕ) → let told : Result ℕ StoreFault = Ok count in told ≡ Ok 0 → count ≡ 0
-  ok_zero count e = cc (e)
 
   kept_nothing : (held : StateView) (old new : S) (result : Result ℕ StoreFault) → result ≡ Ok 0 → new ≡ old → Kept held old → Kept (committed_by held result) new
   kept_nothing held old new (Err fault) none same kept = absurd (never_ok fault none)

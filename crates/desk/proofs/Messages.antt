@@ -1,5 +1,5 @@
--- The messages of the first records are the first of all messages, at the same keys.
-use Rattle.std.proofs.Common.{◌≡◌, ℕ, ◌<◌, ◌≤◌, Bool, false, ◌&&◌, not, List, [], ◌∷◌, ◌++◌, length, take, suc, zero, refl, sym, ap, ◌∙◌, arith, inl, inr, subst, Option, Some, None}
+-- The least key of a message that awaits its acknowledgement, among the messages of the first records.
+use Rattle.std.proofs.Common.{◌≡◌, ℕ, ◌<◌, ◌≤◌, Bool, false, ◌&&◌, not, List, [], ◌∷◌, ◌++◌, length, take, suc, zero, sym, ap, ◌∙◌, arith, inl, inr, subst, Option, Some, None}
 use Rattle.std.specs.List.{slice_get}
 use Rattle.std.specs.Option.{option_map_or}
 use Rattle.std.proofs.lemmas.Bool.{cases_lt}
@@ -13,11 +13,7 @@ use Rattle.protocol.specs.History.{sends}
 use Rattle.protocol.specs.Unacknowledged.{IsLeastFrom, awaits}
 use Rattle.protocol.specs.Verdict.{history}
 use Rattle.protocol.proofs.Histories.{sends_take}
-
-in_front : {X : Type 0} (front more : List X) (k : ℕ) → k < length front → slice_get (front ++ more) k ≡ slice_get front k
-in_front [] more k h = absurd (omega arith)
-in_front (x ∷ front) more zero h = refl
-in_front (x ∷ front) more (suc k) h = in_front front more k (omega arith)
+use Rattle.protocol.proofs.Replaying.{slice_get_front}
 
 no_place : {X : Type 0} (xs : List X) (k : ℕ) → k < length xs → slice_get xs k ≡ None → ⊥
 no_place [] k h e = absurd (omega arith)
@@ -33,14 +29,14 @@ least_in_front : (front more : List Message) (acknowledged : ℕ → Bool) (peer
     → IsLeastFrom (awaits front acknowledged peer) from (Some key)
 least_in_front front more acknowledged peer from key least below = (
   least.0,
-  ap (is_awaited peer (acknowledged key)) (sym (in_front front more key below)) ∙ least.1,
-  λ k after before. ap (is_awaited peer (acknowledged k)) (sym (in_front front more k (omega arith))) ∙ least.2 k after before,
+  ap (is_awaited peer (acknowledged key)) (sym (slice_get_front front more key below)) ∙ least.1,
+  λ k after before. ap (is_awaited peer (acknowledged k)) (sym (slice_get_front front more k (omega arith))) ∙ least.2 k after before,
 )
 
 none_before : (front more : List Message) (acknowledged : ℕ → Bool) (peer : Node) (k : ℕ) → (k < length front → awaits (front ++ more) acknowledged peer k ≡ false) → awaits front acknowledged peer k ≡ false
 none_before front more acknowledged peer k none =
     elim (cases_lt k (length front)) [
-      | inl below ↦ ap (is_awaited peer (acknowledged k)) (sym (in_front front more k below)) ∙ none below
+      | inl below ↦ ap (is_awaited peer (acknowledged k)) (sym (slice_get_front front more k below)) ∙ none below
       | inr past ↦ ap (is_awaited peer (acknowledged k)) (slice_get_past front k past)
     ]
 
@@ -53,13 +49,6 @@ none_in_front front more acknowledged peer from key least past k after = none_be
 none_at_all : (front more : List Message) (acknowledged : ℕ → Bool) (peer : Node) (from : ℕ) → IsLeastFrom (awaits (front ++ more) acknowledged peer) from None
     → IsLeastFrom (awaits front acknowledged peer) from None
 none_at_all front more acknowledged peer from none k after = none_before front more acknowledged peer k (λ below. none k after)
-
--- a key of the first records has the same message in the whole journal
-pub same_message : (scheme : Scheme) (n : Node) (journal : List Input) (count key : ℕ) → key < length (sends (history scheme n (take count journal)))
-    → slice_get (sends (history scheme n journal)) key ≡ slice_get (sends (history scheme n (take count journal))) key
-same_message scheme n journal count key below =
-    let r = sends_take scheme n count journal in
-    ap (λ (messages : List Message). slice_get messages key) r.1 ∙ in_front (sends (history scheme n (take count journal))) r.0 key below
 
 -- ---- the least key that awaits, among the messages of the first records
 

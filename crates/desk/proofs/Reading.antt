@@ -14,24 +14,21 @@ use Rattle.stores.specs.Records.{Places, AreRecords, IsDamagedAt, page_size}
 use Rattle.stores.specs.declared.fault.StoreFault.{StoreFault}
 use Rattle.stores.specs.declared.fault.StoreFault.TheVariants.{Reopen, Damaged, NoMemory}
 use Rattle.stores.specs.declared.node_store.NodeStore.{Ghosts}
+use Rattle.stores.proofs.Fronts.{none-damaged}
 use Rattle.desk.specs.Loading.{IsInPage, IsLoaded, IsReadTo, damage_of}
 
 -- ---- places
 
-none_damaged : (q : ℕ) → IsDamagedAt q [] → ⊥
-none_damaged zero h = h
-none_damaged (suc q) h = h
-
 damaged_front : (q m : ℕ) (places : Places) → IsDamagedAt q (take m places) → IsDamagedAt q places
-damaged_front q zero places h = absurd (none_damaged q h)
-damaged_front q (suc m) [] h = absurd (none_damaged q h)
+damaged_front q zero places h = absurd (none-damaged q h)
+damaged_front q (suc m) [] h = absurd (none-damaged q h)
 damaged_front zero (suc m) (place ∷ places) h = h
 damaged_front (suc q) (suc m) (None ∷ places) h = h
 damaged_front (suc q) (suc m) (Some text ∷ places) h = (h.0, damaged_front q m places h.1)
 
 damaged_within : (q m : ℕ) (places : Places) → IsDamagedAt q (take m places) → q < m
-damaged_within q zero places h = absurd (none_damaged q h)
-damaged_within q (suc m) [] h = absurd (none_damaged q h)
+damaged_within q zero places h = absurd (none-damaged q h)
+damaged_within q (suc m) [] h = absurd (none-damaged q h)
 damaged_within zero (suc m) (place ∷ places) h = omega arith
 damaged_within (suc q) (suc m) (None ∷ places) h = absurd h
 damaged_within (suc q) (suc m) (Some text ∷ places) h = let below = damaged_within q m places h.1 in omega (arith, below)

@@ -1,7 +1,7 @@
 -- Which rows the tables of a store can hold, regardless of the program that wrote them.
-use Rattle.std.proofs.Common.{◌≡◌, ◌<◌, arith, ◌⊎◌, inl, inr, ℕ, ℤ, pos, List, [], ◌∷◌, Bool, true, false, ◌&&◌, not, Some, ◌<ℤ◌, IsTrue, refl, sym, ap, subst, subst₂, ◌∙◌}
+use Rattle.std.proofs.Common.{◌≡◌, ◌<◌, arith, ◌⊎◌, inl, inr, ℕ, ℤ, pos, List, [], ◌∷◌, true, false, ◌&&◌, not, Some, ◌<ℤ◌, IsTrue, refl, sym, ap, subst, subst₂, ◌∙◌}
 use Rattle.std.specs.List.{AllByRecursion}
-use Rattle.std.proofs.lemmas.Bool.{and_parts}
+use Rattle.std.proofs.lemmas.Bool.{and_parts, not-true}
 use Rattle.sqlite.specs.declared.types.Value.{Value}
 use Rattle.sqlite.specs.declared.types.Value.TheVariants.{Null, Int, Real, Text, Blob}
 use Rattle.sqlite.specs.Order.{Row, value_cmp}
@@ -52,10 +52,6 @@ number_of (Real x) e full = absurd cc
 number_of (Text t) e full = absurd cc
 number_of (Blob b) e full = absurd cc
 
-full_of : (b : Bool) → not b ≡ true → b ≡ false
-full_of true e = absurd cc
-full_of false e = refl
-
 three : {x y z x' y' z' : Value} → x ≡ x' → y ≡ y' → z ≡ z' → ◌≡◌ {A = Row} (x ∷ y ∷ z ∷ []) (x' ∷ y' ∷ z' ∷ [])
 three a b c = cc
 
@@ -69,7 +65,7 @@ entry_of schema tree db (x ∷ y ∷ []) id typed full = absurd cc
 entry_of schema tree db (x ∷ y ∷ z ∷ []) id typed full =
     let place = int_of x id in
     let parts = and_parts (is_null y) (is_of kind.Text z && true) (and_parts (is_null y && (is_of kind.Text z && true)) true typed).0 in
-    let body = text_of z (and_parts (is_of kind.Text z) true parts.1).0 (full_of (is_null z) (and_parts (not (is_null z)) true full).0) in
+    let body = text_of z (and_parts (is_of kind.Text z) true parts.1).0 (not-true (is_null z) (and_parts (not (is_null z)) true full).0) in
     (place.0, body.0, three place.1 (null_of y parts.0) body.1)
 entry_of schema tree db (x ∷ y ∷ z ∷ w ∷ more) id typed full =
     let parts = and_parts (is_null y) (is_of kind.Text z && false) (and_parts (is_null y && (is_of kind.Text z && false)) true typed).0 in
@@ -98,8 +94,8 @@ owner_of schema tree db (x ∷ y ∷ z ∷ w ∷ []) id typed full ok =
     let parts = and_parts (is_null y) (is_of kind.Integer z && (is_of kind.Text w && true)) (and_parts (is_null y && (is_of kind.Integer z && (is_of kind.Text w && true))) true typed).0 in
     let more = and_parts (is_of kind.Integer z) (is_of kind.Text w && true) parts.1 in
     let there = and_parts (not (is_null z)) (not (is_null w) && true) full in
-    let format = number_of z more.0 (full_of (is_null z) there.0) in
-    let node = text_of w (and_parts (is_of kind.Text w) true more.1).0 (full_of (is_null w) (and_parts (not (is_null w)) true there.1).0) in
+    let format = number_of z more.0 (not-true (is_null z) there.0) in
+    let node = text_of w (and_parts (is_of kind.Text w) true more.1).0 (not-true (is_null w) (and_parts (not (is_null w)) true there.1).0) in
     let one = first_of schema tree place.0 y z w db (subst (λ v. passes Check schema db (about_table tree) (v ∷ y ∷ z ∷ w ∷ []) ≡ true) place.1 ok) in
     (format.0, node.0, four (place.1 ∙ ap Int one) (null_of y parts.0) format.1 node.1)
 owner_of schema tree db (x ∷ y ∷ z ∷ w ∷ u ∷ more) id typed full ok =

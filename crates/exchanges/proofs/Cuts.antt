@@ -5,6 +5,7 @@ use Rattle.units.specs.Limits.{longest_line}
 use Rattle.streams.specs.SplitterView.{SplitterView}
 use Rattle.streams.specs.Lines.{stream_of, IsWithin, Splits, IsOver}
 use Rattle.streams.specs.Calls.{GoesOn}
+use Rattle.streams.proofs.Streams.{stream_join}
 use Rattle.exchanges.specs.Given.{Given, lines_of}
 use Rattle.exchanges.specs.Pieces.{piece_end, open_with, IsSmall, ServesPiece, most_lines}
 use Rattle.exchanges.specs.Pieces.{ServesLines}
@@ -13,7 +14,7 @@ use Rattle.exchanges.specs.declared.pieces.PieceEnd.{PieceEnd}
 use Rattle.exchanges.specs.declared.pieces.PieceEnd.TheVariants as piece
 use Rattle.exchanges.specs.declared.replying.LinesEnd.{LinesEnd}
 use Rattle.exchanges.specs.declared.replying.LinesEnd.TheVariants.{AllReplied, Stopped, WriteFault, NoMemory}
-use Rattle.exchanges.proofs.Replies.{stream_join, lines_short, lines_length, each_front}
+use Rattle.exchanges.proofs.Replies.{lines_short, lines_length, each_front}
 use Rattle.exchanges.proofs.Served.{cut_short}
 
 whole_first : (bytes rest : List ℕ) (ls later : List (List ℕ)) (given : List Given) → bytes ≡ stream_of ls rest → ls ≡ lines_of given ++ later → bytes ≡ stream_of (lines_of given) (stream_of later rest)

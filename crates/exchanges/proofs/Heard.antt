@@ -1,12 +1,12 @@
 -- The lines that a session has read so far, and how it goes on and ends.
-use Rattle.std.proofs.Common.{◌≡◌, ℕ, ◌+◌, ◌*◌, List, [], ◌++◌, length, Option, refl, sym, ap, subst, ◌∙◌, arith, append_assoc, append-nil, length-append}
+use Rattle.std.proofs.Common.{◌≡◌, ℕ, ◌+◌, ◌*◌, List, [], ◌++◌, length, Option, refl, sym, ap, subst, ◌∙◌, arith, append-nil, length-append}
 use Rattle.std.proofs.KnownBytes.{Appends-nil, Consumes-nil, Consumes-trans, Consumes-kept}
 use Rattle.std.specs.Io.KnownBytes.{Consumes, Keeps}
 use Rattle.std.specs.List.{AllByRecursion}
 use Rattle.units.specs.Limits.{longest_line}
 use Rattle.streams.specs.SplitterView.{SplitterView}
 use Rattle.streams.specs.Lines.{stream_of, IsWithin}
-use Rattle.streams.proofs.Streams.{stream_append}
+use Rattle.streams.proofs.Streams.{stream_append, stream_join}
 use Rattle.streams.specs.Calls.{GoesOn, most_interruptions}
 use Rattle.exchanges.specs.Given.{Given, lines_of}
 use Rattle.exchanges.specs.Pieces.{ServesPiece, open_with}
@@ -16,7 +16,7 @@ use Rattle.exchanges.specs.declared.ends.SessionEnd.{SessionEnd}
 use Rattle.exchanges.specs.declared.ends.SessionEnd.TheVariants as session
 use Rattle.exchanges.specs.declared.pieces.PieceEnd.{PieceEnd}
 use Rattle.exchanges.specs.declared.pieces.PieceEnd.TheVariants.{Replied, TooLong, Stopped, WriteFault, NoMemory}
-use Rattle.exchanges.proofs.Replies.{stream_join, lines_append, each_append, replies_length, replied_more, stops_more, cut_more}
+use Rattle.exchanges.proofs.Replies.{lines_append, each_append, replies_length, replied_more, stops_more, cut_more, joined_more}
 
 -- bytes that were held, and more bytes after them
 bytes_more : (a b : List Given) (held piece rest : List ℕ) → held ++ piece ≡ stream_of (lines_of b) rest → stream_of (lines_of a) held ++ piece ≡ stream_of (lines_of (a ++ b)) rest
@@ -27,9 +27,6 @@ bytes_more a b held piece rest e =
 each_more : (a b : List Given) → AllByRecursion (IsWithin longest_line) (lines_of a) → AllByRecursion (IsWithin longest_line) (lines_of b) → AllByRecursion (IsWithin longest_line) (lines_of (a ++ b))
 each_more a b x y =
     subst (λ (l : List (List ℕ)). AllByRecursion (IsWithin longest_line) l) (sym (lines_append a b)) (each_append (IsWithin longest_line) (lines_of a) (lines_of b) x y)
-
-joined_more : (g0 g1 g2 a b : List Given) → g1 ≡ g0 ++ a → g2 ≡ g1 ++ b → g2 ≡ g0 ++ (a ++ b)
-joined_more g0 g1 g2 a b x y = y ∙ ap (λ (t : List Given). t ++ b) x ∙ append_assoc g0 a b
 
 module _ {R W : Type 0} (remaining : R → Option (List ℕ)) (contents : W → Option (List ℕ)) where
   -- lines were given and replied to, and these bytes followed them

@@ -1,12 +1,6 @@
--- Bytes of a line, one after another.
-use Rattle.std.proofs.Common.{◌≡◌, ◌≢◌, ℕ, ◌+◌, ◌<◌, List, [], ◌∷◌, ◌++◌, length, get_or, take, drop, sym, ap, ◌∙◌}
+-- The lines before and after one of them.
+use Rattle.std.proofs.Common.{◌≡◌, ℕ, ◌+◌, ◌<◌, List, [], ◌∷◌, ◌++◌, length, get_or, take, drop, sym, ap, ◌∙◌}
 use Rattle.std.proofs.lemmas.List.{take_more, drop_more, take-append-drop}
-use Rattle.streams.specs.Lines.{HasNoNewline}
-
--- a line of one byte more
-pub line_more : (line : List ℕ) (b : ℕ) → HasNoNewline line → b ≢ 10 → HasNoNewline (line ++ b ∷ [])
-line_more [] b free other = (other, tt)
-line_more (x ∷ line) b free other = (free.0, line_more line b free.1 other)
 
 -- lines around the one at i
 pub lines_around : (ls : List (List ℕ)) (i : ℕ) (l m : List ℕ) → i < length ls → l ≡ get_or ls i l → m ≡ l → ls ≡ take i ls ++ ((m ∷ []) ++ drop (i + 1) ls)

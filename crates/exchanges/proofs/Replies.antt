@@ -9,7 +9,7 @@ use Rattle.streams.specs.Lines.{stream_of}
 use Rattle.wire.specs.Replies.{reply_text}
 use Rattle.wire.specs.declared.reply.Reply.{Reply}
 use Rattle.wire.specs.declared.reply.Reply.TheVariants.{Received, Refused}
-use Rattle.streams.proofs.Streams.{stream_append}
+use Rattle.streams.proofs.Streams.{stream_append, stream_join}
 use Rattle.wire.proofs.ReplyTexts.{text_received, text_refused}
 use Rattle.streams.specs.Calls.{FailsAfter, GoesOn, next}
 use Rattle.streams.specs.declared.calls.Calls.{Calls}
@@ -18,10 +18,6 @@ use Rattle.exchanges.specs.Sessions.{RepliesToAll, RepliesToTheStop, RepliesCutS
 use Rattle.exchanges.specs.CountedView.{CountedView}
 
 -- ---- lists of lines
-
-pub stream_join : (ls ms : List (List ℕ)) (rest : List ℕ) → stream_of (ls ++ ms) rest ≡ stream_of ls (stream_of ms rest)
-stream_join [] ms rest = refl
-stream_join (l ∷ ls) ms rest = ap (λ t. l ++ 10 ∷ t) (stream_join ls ms rest)
 
 -- each line takes its newline at least
 pub lines_short : (ls : List (List ℕ)) (rest : List ℕ) → length ls ≤ length (stream_of ls rest)
@@ -37,6 +33,9 @@ each_front P [] ms a = tt
 each_front P (l ∷ ls) ms a = (a.0, each_front P ls ms a.1)
 
 -- ---- lists of given lines, with more after them
+
+pub joined_more : (g0 g1 g2 a b : List Given) → g1 ≡ g0 ++ a → g2 ≡ g1 ++ b → g2 ≡ g0 ++ (a ++ b)
+joined_more g0 g1 g2 a b x y = y ∙ ap (λ (t : List Given). t ++ b) x ∙ append_assoc g0 a b
 
 pub lines_append : (a b : List Given) → lines_of (a ++ b) ≡ lines_of a ++ lines_of b
 lines_append a b = map-append (λ (g : Given). g.line) a b

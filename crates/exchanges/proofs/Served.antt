@@ -6,7 +6,7 @@ use Rattle.exchanges.specs.Sessions.{RepliesToAll}
 use Rattle.exchanges.specs.Pieces.{ServesLines}
 use Rattle.exchanges.specs.CountedView.{CountedView}
 use Rattle.exchanges.specs.declared.replying.LinesEnd.TheVariants.{AllReplied, Stopped, WriteFault, NoMemory}
-use Rattle.exchanges.proofs.Replies.{lines_append, lines_length, replies_length, replied_more, stops_more, cut_more, cut_below}
+use Rattle.exchanges.proofs.Replies.{lines_append, lines_length, replies_length, replied_more, stops_more, cut_more, cut_below, joined_more}
 
 module _ {W : Type 0} (contents : W → Option (List ℕ)) where
   -- these lines were given and replied to
@@ -18,9 +18,6 @@ module _ {W : Type 0} (contents : W → Option (List ℕ)) where
 
   pub served_none : (w : CountedView W) (old : List Given) → RepliesToAll contents w w [] → Served w w old old []
   served_none w old start = record { given = []; joined = sym (append-nil old); exact = refl; replied = start }
-
-  joined_more : (g0 g1 g2 a b : List Given) → g1 ≡ g0 ++ a → g2 ≡ g1 ++ b → g2 ≡ g0 ++ (a ++ b)
-  joined_more g0 g1 g2 a b x y = y ∙ ap (λ (t : List Given). t ++ b) x ∙ append_assoc g0 a b
 
   exact_more : (a b : List Given) (ls ms later : List (List ℕ)) → ls ≡ lines_of a → ms ≡ lines_of b ++ later → ls ++ ms ≡ lines_of (a ++ b) ++ later
   exact_more a b ls ms later x y =

@@ -1,2 +1,4 @@
+mod Bare
 mod Names
 mod Tables
+mod Tried

@@ -104,9 +104,10 @@ What to do: sqlite3 DIR/NZ.db 'select * from about' shows the format and the nod
         "device: a fault of a store
 When: a call to the file system failed, or the file can't be opened
 Causes (store NZ: device): another program or command has the store open, such as its own node, and
-has locked it; no file handle is left (ulimit -n); the file or its log may not be written; the
-folder may not be entered, or a missing store can't be created in it; a folder has the store's name;
-another program left a file NZ.db-journal beside the store; the disk failed
+has locked it; no file handle is left (ulimit -n); a file has the size that a limit allows (ulimit
+-f); the file or its log may not be written; the folder may not be entered, or a missing store can't
+be created in it; a folder has the store's name; another program left a file NZ.db-journal beside
+the store; the disk failed
 What to do: close the other program, or have the node write a copy by export; ls -l DIR; open the
 file once with sqlite3, which undoes a journal that was left
 ",
@@ -124,6 +125,15 @@ What to do: free twice the size of the store, and repeat the command
         "reopen",
         "reopen: a fault of a store
 When: an earlier call failed, and the store has not been opened again since
+",
+    ),
+    (
+        "missing",
+        "missing: a fault of a store
+When: --existing is given, and the folder has no store of the node
+Causes (store NZ: missing): DIR is another folder; the store has another name, for example in small
+letters; the node has not run yet
+What to do: ls -l DIR; without --existing a missing store stands for no records, and is created
 ",
     ),
     (
@@ -193,8 +203,8 @@ What to do: SCHEME has the codes
 Causes (line 1: order of trace): ID is not a transaction identifier: a registry code in capitals and
 a number from 1 to 999999
 What to do: show writes the identifiers that a node has
-Causes (line 1: order of explain): there is no such topic
-What to do: kyoto-link explain --help lists the kinds of topics
+Causes (line 1: order of explain): the words name no topic
+What to do: kyoto-link explain lists all topics
 ",
     ),
     (
@@ -215,6 +225,16 @@ When: the file of an export exists already, or can't be written
 Causes (fault export of a line): the file exists; its folder doesn't exist or may not be written;
 the disk is full; a relative path begins where the node was started
 What to do: choose a new name, and remove an incomplete file that was left
+",
+    ),
+    (
+        "moment",
+        "moment: an outcome at a node (fault moment)
+When: the moment of a clean-up, at any node, is more than a day ahead of the node's clock; nothing
+changed
+Causes (fault moment of a line): a wrong year, month or day in the line; the clock of the node's
+machine is behind
+What to do: date -u shows the clock; the moment may be a day ahead of it
 ",
     ),
     (
@@ -264,6 +284,17 @@ When: of run and node: the threads of the node contradict one another, as no sin
 have got the same results. The first such node is named, the log before the registries
 Causes (unsettled NZ): a fault of this program, which no script, message or store can cause
 What to do: keep the stores, and report it
+",
+    ),
+    (
+        "not-carried",
+        "not-carried: a fault (kyoto-link: line 2: not carried out), with status 1
+When: of run with --strict: the order in this line was refused or is not possible, or the status
+that it waits for didn't come. The first such line is named, after everything was written
+Causes (line 2: not carried out of run): the line's outcome is refused, not possible, or another
+status than the one that it waits for
+What to do: the output has the outcome; kyoto-link explain refused 106 explains a code; give a line
+that waits more turns
 ",
     ),
     (
@@ -319,24 +350,32 @@ When: of node: the address of --listen or of a peer is outside the loopback inte
 no --keys
 keys: a fault (kyoto-link: --keys: read failed), with status 3
 When: of node: the file of keys could not be read
+keys: a fault (kyoto-link: --keys: not a regular file), with status 3
+When: of node: the path names a folder, a device or a pipe
+keys: a fault (kyoto-link: --keys: another user owns the file), with status 3
+When: of node: the file doesn't belong to the user who runs the node
 keys: a fault (kyoto-link: --keys: others than the owner have access), with status 3
 When: of node: the file's mode lets others read, write or execute it
 keys: a fault (kyoto-link: --keys: line 2: no further node with its key), with status 3
-When: of node: the line is not a node with a key, or names the node of an earlier line, or is the
-34th. The first such line is named, and line 1 if the file is empty
+When: of node: the line is not a node with a key, or has the node or the key of an earlier line, or
+is the 34th. The first such line is named, and line 1 if the file is empty
 keys: a fault (kyoto-link: --keys: ITL is missing), with status 3
 When: of node: the node sends to this one, and no line of the file names it. The first such node is
 named, the log before the registries
 Causes (--keys: an address beyond the loopback interface needs them): an address other than [::1]
 and those that begin with 127., for example 0.0.0.0
 What to do: give --keys FILE, or use addresses of the loopback interface
-Causes (--keys: read failed): the file doesn't exist, is a folder, or belongs to another user
-What to do: ls -l FILE; the user who runs the node must own it
+Causes (--keys: read failed): the file doesn't exist, or its owner may not read it
+What to do: ls -l FILE
+Causes (--keys: not a regular file): a folder, or <(..) of a shell, in place of the file
+What to do: give the path of a file
+Causes (--keys: another user owns the file): an administrator copied the file
+What to do: chown USER FILE
 Causes (--keys: others than the owner have access): the file was created with mode 0644
 What to do: chmod 600 FILE, and new keys if others may have read it
 Causes (--keys: line 2: no further node with its key, --keys: ITL is missing): two spaces, a
 comment, an empty line, a carriage return at the end; fewer or more than 64 digits; a node twice;
-the file of another node
+one key for two nodes, of which each could then forge the other's messages; the file of another node
 What to do: write the other end's name, never the node's own, a space and 64 hexadecimal digits
 ",
     ),

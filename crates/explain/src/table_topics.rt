@@ -35,7 +35,7 @@ not
     (
         "due",
         "due: a line of a table (due NZ1 NZ:1:1-100:AAU)
-Meaning: each block of each such transaction
+Meaning: each block of each transaction that the initiator completed and the acquirer did not
 ",
     ),
     (
@@ -72,8 +72,8 @@ records from there on
     (
         "waits",
         "waits: a line of a table (waits JP 1 Completed NZ1 from ITL)
-Meaning: that place, and the message that the record received, which by the records of that run its
-sender doesn't send
+Meaning: the place of the first record of the node that the run doesn't reach, and the message that
+this record received, which by the records of the run its sender doesn't send
 ",
     ),
 ];

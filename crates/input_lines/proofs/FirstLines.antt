@@ -1,7 +1,7 @@
 -- The first line of some bytes, by the first newline in a front of them.
 use Rattle.std.proofs.Common.{◌≡◌, ◌≢◌, ℕ, suc, zero, ◌+◌, ◌-◌, ◌<◌, ◌≤◌, List, [], ◌∷◌, ◌++◌, length, take, drop, get_or, refl, sym, ap, ◌∙◌, arith, subst, add-one, ◌⊎◌, inl, inr, Some, None}
 use Rattle.std.proofs.Math.Seq.{split_at}
-use Rattle.std.proofs.lemmas.List.{length-take, length-drop, get_or-take, take_all}
+use Rattle.std.proofs.lemmas.List.{length-take, get_or-take, take_all, take_rest}
 use Rattle.std.proofs.lemmas.Bool.{eqb-true, eq-eqb}
 use Rattle.std.proofs.lemmas.Bool.Decides.{eqb_tells}
 use Rattle.memchr.specs.Find.{IsFirstByte, is_byte}
@@ -12,16 +12,13 @@ use Rattle.input_lines.specs.Lines.{Begins, IsTooLong}
 front_length : (bytes : List ℕ) (w : ℕ) → w ≤ length bytes → length (take w bytes) ≡ w
 front_length bytes w most = omega (arith, length-take w bytes)
 
-rest_of : (bytes : List ℕ) (n : ℕ) → take (length bytes - n) (drop n bytes) ≡ drop n bytes
-rest_of bytes n = take_all (length bytes - n) (drop n bytes) (omega (arith, length-drop n bytes))
-
 -- the newline that was found in the first `w` bytes ends the first line
 begins : (bytes : List ℕ) (w at : ℕ) → at < w → at < length bytes → get_or (take w bytes) at 0 ≡ 10 → ((k : ℕ) → k < at → get_or (take w bytes) k 0 ≢ 10)
     → Begins bytes (take at bytes) (take (length bytes - (at + 1)) (drop (at + 1) bytes))
 begins bytes w at low inside here before =
     let byte : get_or bytes at 0 ≡ 10 = sym (get_or-take w bytes at 0 low) ∙ here in
     let cut : bytes ≡ take at bytes ++ get_or bytes at 0 ∷ drop (suc at) bytes = split_at bytes at 0 inside in
-    let rest : drop (suc at) bytes ≡ take (length bytes - (at + 1)) (drop (at + 1) bytes) = ap (λ n. drop n bytes) (sym (add-one at)) ∙ sym (rest_of bytes (at + 1)) in
+    let rest : drop (suc at) bytes ≡ take (length bytes - (at + 1)) (drop (at + 1) bytes) = ap (λ n. drop n bytes) (sym (add-one at)) ∙ sym (take_rest bytes (at + 1)) in
     let small : length (take at bytes) ≡ at = front_length bytes at (omega arith) in
     record {
       spelled = cut ∙ ap (λ b. take at bytes ++ b ∷ drop (suc at) bytes) byte ∙ ap (λ r. take at bytes ++ 10 ∷ r) rest;

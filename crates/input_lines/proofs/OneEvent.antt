@@ -1,7 +1,5 @@
 -- A line writes one event at most.
 use Rattle.std.proofs.Common.{◌≡◌, ℕ, ◌+◌, ◌*◌, ◌^◌, ◌<◌, Bool, true, false, List, [], ◌∷◌, get_or, map, codes, refl, sym, ap, ◌∙◌, arith, subst, Result, Ok, Err, IfOk}
-use Rattle.std.proofs.Math.Bridge.{le_prop}
-use mathlib.Core.HLevel.{is_prop→PathP}
 use Rattle.std.specs.Fmt.{decimal}
 use Rattle.std.specs.List.{AllByRecursion}
 use Rattle.std.specs.Str.{IsUtf8}
@@ -16,9 +14,8 @@ use Rattle.status.specs.Order.{Order, IsOrder}
 use Rattle.status.specs.declared.moment.Moment.{Moment}
 use Rattle.status.proofs.Ids.{id_text_same}
 use Rattle.wire.specs.declared.input.Input.TheVariants.{Propose, Request, OpenAccount, CloseAccount, Ack, CleanUp, Eligible, Received}
-use Rattle.wire.specs.declared.input.Number.{Number}
 use Rattle.wire.proofs.OneMessage.{node_same}
-use Rattle.wire.proofs.OneRecord.{moment_same}
+use Rattle.wire.proofs.OneRecord.{moment_same, number_same as exact_number}
 use Rattle.protocol.specs.declared.event.WorldEvent.{WorldEvent}
 use Rattle.protocol.specs.declared.event.WorldEvent.TheVariants.{Take, Commit, Post, Deliver, Crash, Restart}
 use Rattle.input_lines.specs.EventLines.{AreWords, IsEventLine, yes_text}
@@ -115,9 +112,6 @@ node_and_number_once : (words : List (List ℕ)) (v : List ℕ) (m n : Node) (j 
 node_and_number_once words v m n j k f g p q =
     let h = node_once words v m n (decimal j ∷ []) (decimal k ∷ []) p q in
     (h.0, number_same j k f g (same_head (decimal j ∷ []) (decimal j) (decimal k) [] [] refl h.1).0)
-
-exact_number : (m n : Number) → m.value ≡ n.value → m ≡ n
-exact_number m n e = λ i. record { value = e i; short = is_prop→PathP (λ j. e j < 10 ^ 18) (λ j. hlevel le_prop) m.short n.short i }
 
 yes_same : (a b : Bool) → yes_text a ≡ yes_text b → a ≡ b
 yes_same true true e = refl

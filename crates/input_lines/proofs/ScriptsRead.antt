@@ -1,7 +1,7 @@
 -- The first fault of a script, at its next line.
 use Rattle.std.proofs.Common.{◌≡◌, ◌<◌, ◌+◌, ◌∙◌, ℕ, List, length}
 use Rattle.command_faults.specs.declared.fault.OpFault.{OpFault}
-use Rattle.command_faults.specs.declared.fault.OpFault.TheVariants.{Input, Read, Write, Store, Stuck, Unsettled, Setup, NoMemory}
+use Rattle.command_faults.specs.declared.fault.OpFault.TheVariants.{Input, Read, Write, Store, Stuck, Unsettled, Setup, Undone, NoMemory}
 use Rattle.streams.specs.Inputs.{longest_input}
 use Rattle.input_lines.proofs.LinesRead.{HasReadTo, read_fault}
 use Rattle.input_lines.specs.ScriptLines.{IsScriptLine}
@@ -20,3 +20,4 @@ next_fault lines rest room number done (Store node fault) read some is wrong = a
 next_fault lines rest room number done (Stuck node place) read some is wrong = absurd wrong
 next_fault lines rest room number done (Unsettled node) read some is wrong = absurd wrong
 next_fault lines rest room number done (Setup fault) read some is wrong = absurd wrong
+next_fault lines rest room number done (Undone line) read some is wrong = absurd wrong

@@ -4,7 +4,7 @@
 
 use crate::scheme_hints::tell_scheme;
 use crate::shown_lines::{line_at, shown};
-use crate::store_hints::tell_store;
+use crate::store_hints::{tell_no_store, tell_store};
 use crate::system_files::SystemFiles;
 use commands::command_faults::{Cause, OpFault, SetupFault};
 use commands::operator::{Action, NodeWords};
@@ -69,6 +69,7 @@ fn named_by(action: &Action) -> Option<Named<'_>> {
             scheme,
             folder,
             script,
+            ..
         } => Some(Named {
             scheme: scheme.as_str(),
             folder: folder.as_str(),
@@ -111,14 +112,22 @@ fn tell_setup(rt: &HostRuntime, words: &NodeWords, fault: SetupFault) {
         SetupFault::KeysShared => eprintln!(rt;
             "kyoto-link: 'chmod 600 {keys}' leaves it to its owner"
         ),
+        SetupFault::KeysNoFile => eprintln!(rt;
+            "kyoto-link: {keys} is a folder, a device or a pipe"
+        ),
+        SetupFault::KeysOwner => eprintln!(rt;
+            "kyoto-link: the user who runs the node must own {keys}"
+        ),
         SetupFault::OtherScheme | SetupFault::SchemeSum => eprintln!(rt;
             "kyoto-link: {folder}/{node}.scheme has the sum of the scheme of {folder}/{node}.db"
         ),
         SetupFault::KeysUnread | SetupFault::KeysLine(_) | SetupFault::NoKey(_) => eprintln!(rt;
-            "kyoto-link: {keys} has a line for each peer: its name, a space, and 64 hexadecimal digits"
+            "kyoto-link: {keys} has a line for each peer: its name, a space, and the 64 hexadecimal digits of a key of its own"
         ),
         SetupFault::Twice(_) | SetupFault::Exposed | SetupFault::CleanUp | SetupFault::NotTheLog =>
             { eprintln!(rt; "kyoto-link: 'kyoto-link node --help' lists the options") }
+        // Of a command that reads a folder's stores.
+        SetupFault::NoStore(_) => Ok(()),
     };
 }
 
@@ -137,7 +146,7 @@ fn tell_unread(rt: &HostRuntime, named: &Named<'_>) {
             return;
         }
     }
-    if !(SystemFiles { rt }).has_folder(named.folder) {
+    if !SystemFiles::new(rt).has_folder(named.folder) {
         let _ = eprintln!(rt; "kyoto-link: {} is not a folder", named.folder);
         return;
     }
@@ -149,16 +158,23 @@ fn tell_unread(rt: &HostRuntime, named: &Named<'_>) {
     };
 }
 
+/// What the lines of a file or of standard input are.
+#[derive(Clone, Copy)]
+enum Lines {
+    Events,
+    Script,
+}
+
 /// The form of a line that has this fault, as a hint names it. `None` if the words of the fault say enough.
-fn expected(cause: Cause, of_script: bool) -> Option<&'static str> {
-    match cause {
-        Cause::Order if of_script => Some(
+fn expected(cause: Cause, lines: Lines) -> Option<&'static str> {
+    match (cause, lines) {
+        (Cause::Order, Lines::Script) => Some(
             "an order such as 'propose NZ 1 JP 7 NZ:1:1-100:AAU', or a question such as 'until JP NZ1 Completed 10000'",
         ),
-        Cause::Order => Some(
+        (Cause::Order, Lines::Events) => Some(
             "an event such as 'propose NZ 1 JP 7 NZ:1:1-100:AAU', 'commit NZ 1', 'post NZ 0' or 'deliver 0 2012-05-01T00:00:00Z'",
         ),
-        Cause::Truncated => Some("a newline at the end of the line"),
+        (Cause::Truncated, _) => Some("a newline at the end of the line"),
         _ => None,
     }
 }
@@ -172,14 +188,20 @@ fn tell_text_line(rt: &HostRuntime, place: &str, text: &[u8], line: u64, form: O
         let _ = eprintln!(rt; "kyoto-link: {place}:{line}: {}", found.as_str());
     }
     if let Some(form) = form {
-        let _ = eprintln!(rt; "kyoto-link: expected was {form}");
+        let _ = eprintln!(rt; "kyoto-link: expected {form}");
     }
 }
 
 /// Writes the line of the script at fault.
 fn tell_script_line(rt: &HostRuntime, script: &str, line: u64, cause: Cause) {
     if let Ok(text) = fs::read(rt, script) {
-        tell_text_line(rt, script, text.as_slice(), line, expected(cause, true));
+        tell_text_line(
+            rt,
+            script,
+            text.as_slice(),
+            line,
+            expected(cause, Lines::Script),
+        );
     }
 }
 
@@ -187,7 +209,13 @@ fn tell_script_line(rt: &HostRuntime, script: &str, line: u64, cause: Cause) {
 fn tell_input_line(rt: &HostRuntime, input: &[u8], line: u64, cause: Cause) {
     match cause {
         Cause::Order | Cause::Truncated | Cause::TooLong => {
-            tell_text_line(rt, STANDARD_INPUT, input, line, expected(cause, false));
+            tell_text_line(
+                rt,
+                STANDARD_INPUT,
+                input,
+                line,
+                expected(cause, Lines::Events),
+            );
         }
         _ => {
             if let Some(scheme) = line_at(input, 1) {
@@ -200,7 +228,7 @@ fn tell_input_line(rt: &HostRuntime, input: &[u8], line: u64, cause: Cause) {
 /// Names the file that has a fault in this line, or the node that isn't in the scheme, or the word that is no
 /// transaction's.
 fn tell_line(rt: &HostRuntime, named: &Named<'_>, line: u64, cause: Cause) {
-    if scheme_at(rt.alloc(), &SystemFiles { rt }, named.scheme).is_err() {
+    if scheme_at(rt.alloc(), &SystemFiles::new(rt), named.scheme).is_err() {
         if let Ok(text) = fs::read(rt, named.scheme) {
             tell_scheme(rt, named.scheme, text.as_slice());
         }
@@ -215,9 +243,9 @@ fn tell_line(rt: &HostRuntime, named: &Named<'_>, line: u64, cause: Cause) {
     }
 }
 
-/// Whether hints are wanted about faults of a command, which is a node or another one.
-pub(crate) fn are_wanted(rt: &HostRuntime, is_node: bool) -> bool {
-    if is_node || rt.stderr().is_terminal() {
+/// Whether hints are wanted about the faults of a command that isn't a node.
+pub(crate) fn are_wanted(rt: &HostRuntime) -> bool {
+    if rt.stderr().is_terminal() {
         return true;
     }
     match env::var(rt, HINTS) {
@@ -238,6 +266,14 @@ fn explain_named(rt: &HostRuntime, named: &Named<'_>, fault: OpFault) {
                 named.scheme, named.folder
             );
         }
+        OpFault::Setup(SetupFault::NoStore(node)) => tell_no_store(rt, named.folder, node),
+        OpFault::Undone(line) => {
+            if let Some(script) = named.script {
+                if let Ok(text) = fs::read(rt, script) {
+                    tell_text_line(rt, script, text.as_slice(), line, None);
+                }
+            }
+        }
         OpFault::Unsettled { .. } | OpFault::Setup(_) | OpFault::Write(_) | OpFault::NoMemory => {}
     }
 }
@@ -246,9 +282,9 @@ fn explain_named(rt: &HostRuntime, named: &Named<'_>, fault: OpFault) {
 /// standard input, if it was kept.
 pub(crate) fn explain(rt: &HostRuntime, action: &Action, fault: OpFault, input: Option<&[u8]>) {
     match (action, fault) {
-        (Action::Explain { topic }, OpFault::Input { .. }) => {
+        (Action::Explain { .. }, OpFault::Input { .. }) => {
             let _ = eprintln!(rt;
-                "kyoto-link: there is no topic {topic}; 'kyoto-link explain --help' lists the kinds"
+                "kyoto-link: these words name no topic; 'kyoto-link explain' lists all topics"
             );
         }
         (Action::Node(words), OpFault::Setup(fault)) => tell_setup(rt, words, fault),

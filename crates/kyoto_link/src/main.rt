@@ -5,6 +5,7 @@ ghost use Rattle.std.specs.Prelude.{◌≡◌};
 ghost use Rattle.std.specs.Process.{exit_status};
 ghost use Rattle.commands.specs.Obeying.{status_of};
 
+mod copies;
 mod hints;
 mod operator_input;
 mod scheme_hints;
@@ -66,7 +67,7 @@ fn report(rt: &HostRuntime, words: &[String], ended: &Ended, input: Option<&[u8]
         Ended::Done => {}
         Ended::Failed(action, fault) => {
             tell(rt, *fault);
-            if are_wanted(rt, is_node(words)) {
+            if is_node(words) || are_wanted(rt) {
                 explain(rt, action, *fault, input);
             }
         }
@@ -109,8 +110,10 @@ fn input_of<R: Net>(rt: &HostRuntime, net: &R, words: &[String]) -> io::Result<S
     if is_node(words) {
         return StandardInput::of_operator(rt, net);
     }
-    let is_kept = reader_of_input(words).is_some() && are_wanted(rt, false);
-    Ok(StandardInput::of_command(rt, is_kept))
+    if reader_of_input(words).is_some() && are_wanted(rt) {
+        return Ok(StandardInput::kept_for_hints(rt));
+    }
+    Ok(StandardInput::of_command(rt))
 }
 
 /// Does what the words ask for. `threads` is the same runtime, as one that may start threads, wait and open sockets.
@@ -125,7 +128,7 @@ where
     let ended = obey(
         threads,
         rt.alloc(),
-        &SystemFiles { rt },
+        &SystemFiles::new(rt),
         words,
         &mut input,
         &mut io::writer(rt),

@@ -99,16 +99,19 @@ impl StandardInput {
         Ok(StandardInput::Returning(reader))
     }
 
-    /// The input of any other command. What is read is kept if a hint may need it.
-    pub(crate) fn of_command(rt: &HostRuntime, is_kept: bool) -> StandardInput {
-        let kept = if is_kept {
-            Some(Vec::new(rt.alloc()))
-        } else {
-            None
-        };
+    /// The input of any other command.
+    pub(crate) fn of_command(rt: &HostRuntime) -> StandardInput {
         StandardInput::Waiting {
             stdin: rt.reader(),
-            kept,
+            kept: None,
+        }
+    }
+
+    /// The input of a command whose hints show a line of it: what is read is kept.
+    pub(crate) fn kept_for_hints(rt: &HostRuntime) -> StandardInput {
+        StandardInput::Waiting {
+            stdin: rt.reader(),
+            kept: Some(Vec::new(rt.alloc())),
         }
     }
 

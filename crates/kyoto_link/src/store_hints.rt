@@ -10,7 +10,7 @@ use stores::StoreFault;
 
 /// Why the file of a store can't be used, as far as the system tells.
 fn cause_of_device(rt: &HostRuntime, folder: &str, path: &str) -> &'static str {
-    if !(SystemFiles { rt }).has_folder(folder) {
+    if !SystemFiles::new(rt).has_folder(folder) {
         return "its folder doesn't exist";
     }
     match fs::metadata(rt, path) {
@@ -27,7 +27,14 @@ fn cause_of_device(rt: &HostRuntime, folder: &str, path: &str) -> &'static str {
     if OpenOptions::new().write(true).open(rt, path).is_err() {
         return "it may not be written";
     }
-    "another program has locked it, or the device failed"
+    "another program has locked it, a limit allows no larger file, or the device failed"
+}
+
+/// Names the file that a store would have.
+pub(crate) fn tell_no_store(rt: &HostRuntime, folder: &str, node: Node) {
+    if let Ok(path) = store_path(rt.alloc(), folder, node) {
+        let _ = eprintln!(rt; "kyoto-link: there is no file {}", path.as_str());
+    }
 }
 
 /// Names the file of a store, and why it can't be used.

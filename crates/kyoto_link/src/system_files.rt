@@ -1,22 +1,46 @@
 //! The files of the system, and the stores in its folders.
 
+use crate::copies::StoreCopy;
 use crate::watching::MigrationLine;
-use commands::Archive;
 use commands::command_faults::{OpFault, SetupFault};
+use commands::operator::Missing;
+use commands::{Archive, Unopened};
 use protocol::units::Node;
 use sqlite::File as StoreFile;
 use std::alloc::{AllocError, Global};
 use std::fs::File;
 use std::io::{ErrorKind, Read, Write};
-use std::os::unix::fs::PermissionsExt;
+use std::os::unix::fs::{MetadataExt, PermissionsExt};
 use std::{fs, io};
 use store_files::durable::SqlStore;
 use stores::StoreFault;
 
+/// How the store of a node is opened.
+#[derive(Clone, Copy)]
+enum Access {
+    /// In its place, and made if it isn't there.
+    Create,
+    /// In its place, if it is there.
+    Existing,
+    /// As a copy, if it is there. Its files stay as they are.
+    Copied,
+}
+
 /// The files of the system. No clause relates a path to the file that is opened, so the bodies here have to be read.
 #[derive(Clone, Copy)]
 pub(crate) struct SystemFiles<'a> {
-    pub(crate) rt: &'a HostRuntime,
+    rt: &'a HostRuntime,
+    access: Access,
+}
+
+impl<'a> SystemFiles<'a> {
+    /// The files of the system, in which a missing store is made.
+    pub(crate) fn new(rt: &'a HostRuntime) -> SystemFiles<'a> {
+        SystemFiles {
+            rt,
+            access: Access::Create,
+        }
+    }
 }
 
 /// The path of the node's store.
@@ -28,6 +52,9 @@ pub(crate) fn store_path(alloc: Global, folder: &str, node: Node) -> Result<Stri
 fn sum_path(alloc: Global, folder: &str, node: Node) -> Result<String, AllocError> {
     format!(in alloc; "{folder}/{node}.scheme")
 }
+
+/// The folder of this process.
+const OWN_PROCESS: &str = "/proc/self";
 
 /// The permissions that others than its owner have on a file.
 const OF_OTHERS: u32 = 0o077;
@@ -48,9 +75,23 @@ fn write_sum(rt: &HostRuntime, folder: &str, new: &str, path: &str, sum: &str) -
     fs::open(rt, folder)?.sync_all()
 }
 
+/// Whether that user runs this program. The system has a folder for each process, which belongs to the user who runs it.
+/// Where there is none, each user may.
+fn is_own(rt: &HostRuntime, user: u32) -> bool {
+    match fs::metadata(rt, OWN_PROCESS) {
+        Ok(process) => process.uid() == user,
+        Err(_) => true,
+    }
+}
+
+/// Whether there is no file at the path.
+fn is_missing(rt: &HostRuntime, path: &str) -> bool {
+    matches!(fs::exists(rt, path), Ok(false))
+}
+
 /// Writes that a store isn't there and is made: the store of another folder may be meant.
 fn tell_missing(rt: &HostRuntime, path: &str) {
-    if fs::metadata(rt, path).is_err() {
+    if is_missing(rt, path) {
         let _ = eprintln!(rt; "kyoto-link: {path} doesn't exist, and is created as an empty store");
     }
 }
@@ -66,7 +107,13 @@ impl<'a> Archive for SystemFiles<'a> {
 
     ghost lacks = { λ _ path. Unit {0} };
 
+    ghost reads_as = { λ _ missing archive. Unit {0} };
+
+    ghost appends_as = { λ _ missing archive. Unit {0} };
+
     ghost keeps = { λ _ folder n store. Unit {0} };
+
+    ghost misses = { λ _ folder n. Unit {0} };
 
     ghost fails = { λ _ folder n fault. Unit {0} };
 
@@ -91,16 +138,62 @@ impl<'a> Archive for SystemFiles<'a> {
         }
     }
 
-    /// Opens the store, makes it if there is none, and migrates it if it has format 1.
-    fn open_store(&self, folder: &str, node: Node) -> Result<SqlStore<StoreFile>, StoreFault> {
-        let Ok(path) = store_path(self.rt.alloc(), folder, node) else {
-            return Err(StoreFault::NoMemory);
+    fn to_read(&self, missing: Missing) -> SystemFiles<'a> {
+        let access = match missing {
+            Missing::Create => Access::Create,
+            Missing::Refuse => Access::Copied,
         };
-        tell_missing(self.rt, path.as_str());
+        SystemFiles {
+            rt: self.rt,
+            access,
+        }
+    }
+
+    fn to_append(&self, missing: Missing) -> SystemFiles<'a> {
+        let access = match missing {
+            Missing::Create => Access::Create,
+            Missing::Refuse => Access::Existing,
+        };
+        SystemFiles {
+            rt: self.rt,
+            access,
+        }
+    }
+
+    fn open_store(&self, folder: &str, node: Node) -> Result<SqlStore<StoreFile>, Unopened> {
+        let Ok(path) = store_path(self.rt.alloc(), folder, node) else {
+            return Err(Unopened::Fault(StoreFault::NoMemory));
+        };
+        let path = path.as_str();
+        match self.access {
+            Access::Create => tell_missing(self.rt, path),
+            Access::Existing | Access::Copied => {
+                if is_missing(self.rt, path) {
+                    return Err(Unopened::Missing);
+                }
+            }
+        }
+        let copy = match self.access {
+            Access::Create | Access::Existing => None,
+            Access::Copied => match StoreCopy::make(self.rt, path) {
+                Ok(copy) => Some(copy),
+                Err(fault) => return Err(Unopened::Fault(fault)),
+            },
+        };
+        let place = match &copy {
+            Some(copy) => copy.path(),
+            None => path,
+        };
         let mut line = MigrationLine::new(self.rt, node);
-        let opened = store_files::open_path_watched(self.rt, path.as_str(), node, &mut line);
+        let opened = store_files::open_path_watched(self.rt, place, node, &mut line);
         line.finished();
-        opened
+        if let Some(copy) = copy {
+            copy.remove(self.rt);
+        }
+        match opened {
+            Ok(store) => Ok(store),
+            Err(fault) => Err(Unopened::Fault(fault)),
+        }
     }
 
     /// Copies the store's log into its database file, which then has all its records by itself, and closes it.
@@ -123,9 +216,12 @@ impl<'a> Archive for SystemFiles<'a> {
         let Ok(metadata) = file.metadata() else {
             return Err(unread);
         };
-        // A pipe or a device may have no end.
+        // A folder can't be read, and a pipe or a device may have no end.
         if !metadata.is_file() {
-            return Err(unread);
+            return Err(OpFault::Setup(SetupFault::KeysNoFile));
+        }
+        if !is_own(self.rt, metadata.uid()) {
+            return Err(OpFault::Setup(SetupFault::KeysOwner));
         }
         if metadata.permissions().mode() & OF_OTHERS != 0 {
             return Err(OpFault::Setup(SetupFault::KeysShared));

@@ -7,8 +7,3 @@ mod tagged;
 
 pub use tagged::Tagged;
 pub use tagged_lines::{CheckingReader, MessageWriter, OpeningReader, ReplyWriter};
-
-#[cfg(test)]
-mod test_lines;
-#[cfg(test)]
-mod tests;

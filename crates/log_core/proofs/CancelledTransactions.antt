@@ -1,6 +1,7 @@
 -- Several transactions cancelled one after another.
 use Rattle.std.proofs.Common.{◌≡◌, ◌&&◌, ◌||◌, ◌+◌, ◌<◌, ◌++◌, ◌∷◌, [], ℕ, List, Bool, true, false, not, cond, take, get_or, length, Option, Some, None, inl, inr, refl, sym, ap, subst, ◌∙◌}
 use Rattle.std.specs.Prelude.{option_map}
+use Rattle.std.proofs.Math.Bool.{or-false}
 use Rattle.std.proofs.lemmas.Bool.{cases_Bool, false_from_ne_true}
 use Rattle.std.proofs.lemmas.List.{take_more}
 use Rattle.std.proofs.lemmas.List.Folds.{list_any-append}
@@ -16,14 +17,10 @@ use Rattle.log_core.specs.Effects.{is_among}
 use Rattle.log_core.specs.Transfers.{came_at}
 use Rattle.log_core.specs.declared.transfer.LoggedTransfer.{LoggedTransfer}
 
-or_false : (b : Bool) → (b || false) ≡ b
-or_false true = refl
-or_false false = refl
-
 -- one more of them
 among_more : (ids : List TransactionId) (i : ℕ) (id t : TransactionId) → i < length ids → id ≡ get_or ids i id → is_among (take (i + 1) ids) t ≡ (is_among (take i ids) t || same_id id t)
 among_more ids i id t lt is =
-    ap (λ l. is_among l t) (take_more ids i id lt ∙ ap (λ x. take i ids ++ x ∷ []) (sym is)) ∙ list_any-append (λ u. same_id u t) (take i ids) (id ∷ []) ∙ ap (λ b. is_among (take i ids) t || b) (or_false (same_id id t))
+    ap (λ l. is_among l t) (take_more ids i id lt ∙ ap (λ x. take i ids ++ x ∷ []) (sym is)) ∙ list_any-append (λ u. same_id u t) (take i ids) (id ∷ []) ∙ ap (λ b. is_among (take i ids) t || b) (or-false (same_id id t))
 
 -- ---- a table after one more
 
@@ -49,7 +46,7 @@ not_more true false there = refl
 not_more false true there = refl
 not_more false false there = refl
 
-same_id_sym : (a b : TransactionId) → same_id a b ≡ same_id b a
+pub same_id_sym : (a b : TransactionId) → same_id a b ≡ same_id b a
 same_id_sym a b =
     elim (cases_Bool (same_id a b)) [
       | inl y ↦ subst (λ c. same_id a c ≡ same_id c a) (id_of_same a b y) refl

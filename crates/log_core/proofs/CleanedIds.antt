@@ -6,10 +6,10 @@ use Rattle.std.specs.BTreeSet.{IsOrdered}
 use Rattle.std.specs.Cmp.{IsTotalOrder}
 use Rattle.std.specs.List.{AllByRecursion, IsDistinct, list_any}
 use Rattle.std.specs.List.Sorted.{IsSorted, IsStrictlySortedBy}
-use Rattle.std.specs.Ordering.{is_eq, nat_cmp, ordering_reverse}
+use Rattle.std.specs.Ordering.{nat_cmp, ordering_reverse}
 use Rattle.std.specs.Prelude.{IsPermutation}
-use Rattle.std.specs.declared.cmp.Ordering.TheVariants.{Equal, Greater, Less}
-use Rattle.std.proofs.lemmas.Bool.{cases_Bool, false_from_ne_true}
+use Rattle.std.specs.declared.cmp.Ordering.TheVariants.{Greater, Less}
+use Rattle.std.proofs.lemmas.Bool.{false_from_ne_true}
 use Rattle.std.proofs.lemmas.List.Sorted.{Contains-permutation, IsPermutation-sym}
 use Rattle.std.proofs.lemmas.Map.Keys.{IsDistinct-IsPermutation, apart_from_distinct}
 use Rattle.std.proofs.lemmas.Map.Lookups.{CmpEqualImpliesEq, exact_pairs, exact_unsigned}
@@ -33,6 +33,7 @@ use Rattle.units.proofs.Lists.Membership.{In, In_cases, In_left, In_map, map_In}
 use Rattle.units.proofs.Lists.OneValue.{clash, one_some}
 use Rattle.units.proofs.Lists.Positions.{In_contains, contains_in}
 use Rattle.units.proofs.Lists.SomePass.{list_any_in, list_any_some}
+use Rattle.units.proofs.UnitLines.{own_reverse, eq_true}
 use Rattle.safety.proofs.MovesAndHistories.LongerHistories.{made_history}
 use Rattle.safety.proofs.MovesAndHistories.NewestTransitions.{Made, newest_id}
 use Rattle.safety.proofs.MovesAndHistories.TableMoves.{LogMove, cancels, checks, forestalls, passes}
@@ -43,6 +44,7 @@ use Rattle.log_core.specs.contracts.waiting.WaitingOrd.TheImpl.Laws.{total-law a
 use Rattle.log_core.specs.declared.tables.Tables.{Tables}
 use Rattle.log_core.specs.declared.waiting.Waiting.{Waiting}
 use Rattle.safety.proofs.OneLog.CleanedInOrder.{ids_turned}
+use Rattle.log_core.proofs.CancelledTransactions.{same_id_sym}
 use Rattle.log_core.proofs.CleanedUp.{HasExpired, checked_newest, expired_so}
 use Rattle.log_core.proofs.KnownEffects.{all_in}
 
@@ -67,26 +69,16 @@ earlier : (a b : Waiting) → waiting_cmp a b ≡ Less → a.since.seconds ≤ b
 earlier a b =
     compared_then (λ r. r ≡ Less → a.since.seconds ≤ b.since.seconds) a.since.seconds b.since.seconds (id_cmp a.id b.id) (λ l h. omega arith) (λ e h. omega arith) (λ g h. absurd (cc (h)))
 
-itself : (o : Ordering) → o ≡ ordering_reverse o → is_eq o ≡ true
-itself Less h = absurd (cc (h))
-itself Equal h = refl
-itself Greater h = absurd (cc (h))
-
-equal_is : (o : Ordering) → is_eq o ≡ true → o ≡ Equal
-equal_is Less h = absurd (cc (h))
-equal_is Equal h = refl
-equal_is Greater h = absurd (cc (h))
-
 not_before_itself : (a : Waiting) → waiting_cmp a a ≡ Less → ⊥
 not_before_itself a h = let turned : Less ≡ Greater = sym h ∙ waiting_total.antisymm a a ∙ ap ordering_reverse h in cc (turned)
 
 in_contains : (keys : List Waiting) (w : Waiting) → In w keys → list_any (is_at (waiting_cmp w)) keys ≡ true
-in_contains keys w i = list_any_in (is_at (waiting_cmp w)) keys w i (itself (waiting_cmp w w) (waiting_total.antisymm w w))
+in_contains keys w i = list_any_in (is_at (waiting_cmp w)) keys w i (own_reverse (waiting_cmp w w) (waiting_total.antisymm w w))
 
 contains_is_in : (keys : List Waiting) (w : Waiting) → list_any (is_at (waiting_cmp w)) keys ≡ true → In w keys
 contains_is_in keys w h =
     let k = list_any_some (is_at (waiting_cmp w)) keys h in
-    subst (λ z. In z keys) (sym (exact_waiting w k.0 (equal_is (waiting_cmp w k.0) k.2))) k.1
+    subst (λ z. In z keys) (sym (exact_waiting w k.0 (eq_true (waiting_cmp w k.0) k.2))) k.1
 
 -- ---- lists in order, in two parts
 
@@ -114,12 +106,6 @@ module _ {K : Type 0} (cmp : K → K → Ordering) where
   sorted_tail x xs h = h.1
 
 -- ---- identifiers without repeats
-
-flips : (a b : TransactionId) → same_id a b ≡ same_id b a
-flips a b = elim (cases_Bool (same_id a b)) [
-  | inl y ↦ y ∙ sym (subst (λ u. same_id u a ≡ true) (id_of_same a b y) (same_id-refl a))
-  | inr n ↦ n ∙ sym (false_from_ne_true (same_id b a) (λ y. clash (same_id a b) (subst (λ u. same_id a u ≡ true) (sym (id_of_same b a y)) (same_id-refl a)) n))
-]
 
 -- sorted without repeats, each is below all after it
 pub ids_ascending : (ids : List TransactionId) → IsSorted id_cmp ids → IsDistinct same_id ids → Pairwise (λ a b. id_cmp a b ≡ Less) ids
@@ -217,7 +203,7 @@ module _ (scheme : Scheme) (tables : Tables) (kept : IsKept scheme tables) where
     pub expired_ids : (ids : List TransactionId) → IsPermutation (map (λ w. w.id) front) ids → IsSorted id_cmp ids → map (λ x. x.id) (log.expired (transitions_of (history scheme Itl tables.records.inputs)) moment) ≡ ids
     expired_ids ids moves sorted =
         let held = map (λ (w : Waiting). w.id) front in
-        let distinct = IsDistinct-IsPermutation same_id flips held ids moves (distinct_ids front (sorted_left waiting_cmp front rest (subst (IsStrictlySortedBy waiting_cmp) parts ordered)) in_front) in
+        let distinct = IsDistinct-IsPermutation same_id same_id_sym held ids moves (distinct_ids front (sorted_left waiting_cmp front rest (subst (IsStrictlySortedBy waiting_cmp) parts ordered)) in_front) in
         expired_so scheme (history scheme Itl tables.records.inputs) made_so moment ids (ids_ascending ids sorted distinct)
         (λ t. (
           (λ has. front_expired t (In_contains held t (Contains-permutation ids held t (IsPermutation-sym held ids moves) has))),

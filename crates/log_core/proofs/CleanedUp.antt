@@ -32,12 +32,12 @@ use Rattle.units.proofs.Lists.Membership.{In, In_filter, In_flat_map, In_map, fi
 use Rattle.units.proofs.Lists.Positions.{In_contains, contains_in}
 use Rattle.safety.proofs.ListLemmas.TestsOfSameness.{status_of_same}
 use Rattle.safety.proofs.MovesAndHistories.NewestTransitions.{Made, newest_id}
-use Rattle.safety.proofs.MovesAndHistories.TableMoves.{cleaned_made, In_by_id}
+use Rattle.safety.proofs.MovesAndHistories.TableMoves.{cleaned_made, In_by_id, In_newest}
 use Rattle.safety.proofs.MovesAndHistories.TableRows.{known_status}
 use Rattle.safety.proofs.OneRegistry.TransactionEnds.{proposer}
 use Rattle.log_core.specs.Effects.{IsCancelledAt}
 use Rattle.log_core.specs.Readings.{is_checked_since}
-use Rattle.safety.proofs.OneLog.CleanedInOrder.{Ascend, all_from_in, ascend_by_id, ascend_ids, by_id_In, differ_filter, differ_newest, each_newest, ids_irreflexive, newest_each}
+use Rattle.safety.proofs.OneLog.CleanedInOrder.{Ascend, all_from_in, ascend_by_id, ascend_ids, by_id_In, differ_filter, differ_newest, ids_irreflexive, newest_each}
 
 -- the transactions that have stood Checked for a day at that moment
 abbrev pub HasExpired : List Transition → ℕ → TransactionId → Type 0
@@ -128,7 +128,7 @@ module _ (scheme : Scheme) (es : List Entry) (made : Made scheme Itl es) (moment
   expired_of y i =
       let c = In_flat_map (cleaned moment) y (by_id old) i in
       let j = In_filter (is_old moment) (newest_of_each xs) c.0 (In_by_id c.0 old c.1) in
-      (c.0, each_newest c.0 xs j.0, leb-true (c.0.moment + clean_up_age) moment j.1, c.2)
+      (c.0, In_newest c.0 xs j.0, leb-true (c.0.moment + clean_up_age) moment j.1, c.2)
 
   pub has_expired : (y : Transition) → In y (expired xs moment) → HasExpired xs moment y.id
   has_expired y i =

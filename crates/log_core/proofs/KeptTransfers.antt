@@ -2,6 +2,7 @@
 use Rattle.std.proofs.Common.{Bool, List, None, Option, Some, ap, cond, false, inl, inr, not, refl, sym, true, ℕ, ◌&&◌, ◌++◌, ◌==◌, ◌||◌, ◌∙◌, ◌∷◌, ◌≡◌}
 use Rattle.std.specs.Prelude.{if◌then◌else◌, option_map}
 use Rattle.std.specs.Option.{option_map_or}
+use Rattle.std.proofs.Math.Bool.{or-false}
 use Rattle.std.proofs.lemmas.Bool.{and_left, and_right, cases_Bool, cond-false, cond-true}
 use Rattle.status.proofs.Ids.{id_of_same}
 use Rattle.status.specs.Id.{same_id}
@@ -23,10 +24,6 @@ pub record AreOf (front : List Transition) (among : TransactionId → Bool) : Ty
 -- it stands Checked since that second, as its newest transition says
 abbrev checked_at : ℕ → Option Transition → Bool
 checked_at since o = option_map_or (λ (x : Transition). same_status x.new Checked && (x.moment == since)) o false
-
-or_false : (b : Bool) → (b || false) ≡ b
-or_false true = refl
-or_false false = refl
 
 -- ---- transactions that were known
 
@@ -96,7 +93,7 @@ module _ (x : Transition) (xs : List Transition) (none : newest xs x.id ≡ None
         | inl y ↦
             let fresh : old ≡ false = ap (checked_at since) (ap (newest xs) (sym (id_of_same x.id t y)) ∙ none) in
             (λ i. (now && (y i && fits)) || fresh i)
-            ∙ or_false (now && fits)
+            ∙ or-false (now && fits)
             ∙ ap (checked_at since) (sym (cond-true (same_id x.id t) (Some x) (newest xs t) y))
         | inr n ↦
             (λ i. (now && (n i && fits)) || old)

@@ -1,7 +1,7 @@
 -- Which transfer a unit is in, and who owns it, after the transitions of one more record.
 use Rattle.std.proofs.Common.{Bool, List, None, Option, Some, [], ap, cond, false, inl, inr, not, refl, subst, sym, true, ◌&&◌, ◌++◌, ◌∙◌, ◌∷◌, ◌≡◌}
 use Rattle.std.specs.Prelude.{if◌then◌else◌, option_map}
-use Rattle.std.proofs.lemmas.Bool.{and_from, and_left, and_parts, cases_Bool, cond-false, cond-true}
+use Rattle.std.proofs.lemmas.Bool.{and_from, and_left, and_parts, cases_Bool, cond-false, cond-true, not-true}
 use Rattle.units.specs.Intervals.{labels_that}
 use Rattle.units.specs.declared.block.Unit.{Unit as Serial}
 use Rattle.units.specs.declared.code.Code.{Code}
@@ -74,10 +74,6 @@ labels_left {M} passes (Some n) m h = go (passes n) refl h
     go true e g = (g, subst (λ (z : M). passes z ≡ true) (one_some n m g) e)
     go false e g = absurd (cc (g))
 
-not_true : (b : Bool) → not b ≡ true → b ≡ false
-not_true true h = absurd (cc (h))
-not_true false h = refl
-
 checked_or_accepted : (s : Status) → IsBusy s → same_status s Accepted ≡ false → same_status s Checked ≡ true
 checked_or_accepted Checked b h = refl
 checked_or_accepted Accepted b h = absurd (cc (h))
@@ -109,7 +105,7 @@ module _ (scheme : Scheme) (es : List Entry) (s : Serial) (input : Input) where
       (λ u h.
       let m = labels_left left (under_way xs s) u h in
       let b = under_way_busy scheme es made.1 s u m.0 in
-      record { last = b.last; is = newest_other front xs among of u.id (not_true (among u.id) m.1) ∙ b.is; new = b.new; has = b.has }))
+      record { last = b.last; is = newest_other front xs among of u.id (not-true (among u.id) m.1) ∙ b.is; new = b.new; has = b.has }))
 
   module _ (x : Transition) (made : Made scheme Itl (entry input (x ∷ []) ∷ es)) where
     -- a transfer that was under way still is

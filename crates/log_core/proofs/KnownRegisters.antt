@@ -30,7 +30,7 @@ use Rattle.log_core.specs.Readings.{is_under_way_with, last_order}
 use Rattle.log_core.specs.declared.tables.Tables.{Tables}
 use Rattle.safety.proofs.OneLog.KnownContents.{move_keeps}
 use Rattle.log_core.proofs.KnownEffects.{advanced_known}
-use Rattle.safety.proofs.ListLemmas.FirstFound.{any_found}
+use Rattle.safety.proofs.ListLemmas.FirstFound.{any_found, mapped_some}
 
 -- ---- a unit has an owner exactly where it is allotted
 
@@ -78,13 +78,9 @@ module _ (scheme : Scheme) (s : Serial) where
 
   pub owned_so : (es : List Entry) → Made scheme Itl es → is_some (book_owner scheme (transitions_of es) s) ≡ is_some (allotted scheme s)
   owned_so =
-      each_log_move scheme IsOwned (start (allotted scheme s)) owned_move
+      each_log_move scheme IsOwned (mapped_some (λ (h : Holder). h.registry) (allotted scheme s)) owned_move
       (λ es input x front made move gone all old new.
       still_owned x (front ++ transitions_of es) (and_left (same_status x.new Completed) (carries x s) (subst (λ z. same_status z Completed ≡ false) (sym gone) refl)) new)
-    where
-      start : (o : Option Holder) → is_some (option_map (λ (h : Holder). h.registry) o) ≡ is_some o
-      start None = refl
-      start (Some h) = refl
 
 -- ---- a registry is eligible as the last order for it says, else as at the start
 

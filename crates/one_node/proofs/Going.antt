@@ -1,12 +1,10 @@
 -- How a node's journal goes on in a shift, and in one shift after another.
-use Rattle.std.proofs.Common.{◌≡◌, ◌∙◌, ◌+◌, ◌-◌, ◌<◌, ◌≤◌, ℕ, zero, suc, Bool, true, false, cond, List, [], ◌∷◌, ◌++◌, length, take, drop, All, Some, refl, sym, ap, subst, inl, arith, append-nil, append_assoc, length-append, get_or}
+use Rattle.std.proofs.Common.{◌≡◌, ◌∙◌, ◌+◌, ◌-◌, ◌<◌, ◌≤◌, ℕ, zero, suc, Bool, true, false, cond, List, [], ◌∷◌, ◌++◌, length, take, drop, All, Some, refl, sym, ap, subst, arith, append-nil, append_assoc, length-append, get_or}
 use Rattle.std.proofs.lemmas.List.{take-append-drop, length-take-le}
-use Rattle.std.proofs.lemmas.List.Elements.{All-append, All-head, All-tail, All-weaker}
+use Rattle.std.proofs.lemmas.List.Elements.{All-append, All-head, All-tail, All-weaker, Contains-push}
 use Rattle.std.proofs.lemmas.Option.{slice_get-get_or, slice_get_within}
-use Rattle.std.specs.Prelude.{Contains, slice_get}
-use Rattle.units.proofs.Lists.Membership.{In_right}
+use Rattle.std.specs.Prelude.{slice_get}
 use Rattle.units.proofs.Lists.OneValue.{one_some}
-use Rattle.units.proofs.Lists.Positions.{contains_in}
 use Rattle.units.specs.declared.code.Node.{Node}
 use Rattle.units.specs.declared.code.Node.TheVariants.{Itl}
 use Rattle.protocol.specs.Input.{Input}
@@ -33,7 +31,7 @@ use Rattle.run.specs.Runs.{ordered_from, orders_of, since}
 use Rattle.run.specs.declared.answer.ScriptAnswer.{ScriptAnswer}
 use Rattle.run.specs.declared.answer.ScriptAnswer.TheVariants.{NotPossible, Told as Answered}
 use Rattle.run.proofs.Borne.{all_of, borne, borne_more, front_of_front}
-use Rattle.run.proofs.Ordered.{committed_orders, orders_in_turn, others_taken, taken_at}
+use Rattle.run.proofs.Ordered.{committed_orders, orders_in_turn, others_taken, taken_at, get_after}
 use Rattle.one_node.specs.Lives.{GoesOn, IsCarried}
 use Rattle.one_node.specs.Shifts.{HasTurns, never}
 use Rattle.one_node.specs.Turns.{IsTurn, Turn, Line, Unread, Exported, Timed, answers_of, lines_of}
@@ -92,9 +90,6 @@ module _ (scheme : Scheme) (n : Node) (tells : Moment → Type 0) (Takes : Input
 
   -- ---- one shift
 
-  last_is : {X : Type 0} (xs : List X) (x : X) → Contains (xs ++ x ∷ []) x
-  last_is xs x = contains_in (xs ++ x ∷ []) x (In_right x xs (x ∷ []) (inl refl))
-
   heard_at : (seat : SeatView) (ts : List Turn) (k : ℕ) (l : ScriptLine) (told : Told) → All (IsTurn scheme n (HasHeard seat) tells never) ts → slice_get (lines_of ts) k ≡ Some l → slice_get (answers_of ts) k ≡ Some (Answered told) → HasHeard seat (asked_by l) told
   heard_at seat [] k l told all at_line at_answer = absurd (cc (at_line))
   heard_at seat (Line raw m a ∷ ts) zero l told all at_line at_answer =
@@ -121,12 +116,12 @@ module _ (scheme : Scheme) (n : Node) (tells : Moment → Type 0) (Takes : Input
     heard = threads ++ seat ∷ []
 
     grew : seat.lengths ≡ Grew
-    grew = all_of (λ (s : SeatView). s.lengths ≡ Grew) heard seat settled.stood (last_is threads seat)
+    grew = all_of (λ (s : SeatView). s.lengths ≡ Grew) heard seat settled.stood (Contains-push threads seat)
 
     borne_by : (journal more : List Input) → journal ≡ committed_records held ++ more → All (IsTurn scheme n (IsBorne scheme n journal) tells (IsCarried Holds journal)) turns
     borne_by journal more is =
         turns_as scheme n tells (HasHeard seat) (IsBorne scheme n journal)
-        (λ asked told h. subst (λ (j : List Input). IsBorne scheme n j asked told) (sym is) (borne_more scheme n (committed_records held) more asked told (borne scheme n held heard seat settled (last_is threads seat) asked told h)))
+        (λ asked told h. subst (λ (j : List Input). IsBorne scheme n j asked told) (sym is) (borne_more scheme n (committed_records held) more asked told (borne scheme n held heard seat settled (Contains-push threads seat) asked told h)))
         never (IsCarried Holds journal) (λ raw count none. absurd none) turns has.heard
 
     first_long : (journal : List Input) → held.opening ≤ length journal → length (take held.opening journal) ≡ held.opening
@@ -146,22 +141,13 @@ module _ (scheme : Scheme) (n : Node) (tells : Moment → Type 0) (Takes : Input
               taken_at held heard threads seat settled.covers refl Takes took has.orders.ordered (held.opening + k) (get_or (drop held.opening held.journal) k d) (omega arith)
               (sym (get_after held.opening held.journal k) ∙ slice_get-get_or (drop held.opening held.journal) k d below) other;
         }
-      where
-        get_after : {X : Type 0} (p : ℕ) (xs : List X) (k : ℕ) → slice_get (drop p xs) k ≡ slice_get xs (p + k)
-        get_after zero xs k =
-            let same : k ≡ zero + k = omega arith in
-            ap (λ (i : ℕ). slice_get xs i) same
-        get_after (suc p) [] k = refl
-        get_after (suc p) (x ∷ xs) k =
-            let same : suc (p + k) ≡ suc p + k = omega arith in
-            get_after p xs k ∙ ap (λ (i : ℕ). slice_get (x ∷ xs) i) same
 
     -- to the committed ones
     pub goes_to_committed : GoesOn scheme n tells Takes Holds (take held.opening held.journal) (committed_records held) turns
     goes_to_committed =
         let low = first_long held.journal (omega (arith, early, within)) in
         let first : take held.opening (committed_records held) ≡ take held.opening held.journal = front_of_front held.committed held.opening held.journal early in
-        let confirmed : seat.confirmed ≤ held.committed = all_of (λ (s : SeatView). s.confirmed ≤ held.committed) heard seat settled.within (last_is threads seat) in
+        let confirmed : seat.confirmed ≤ held.committed = all_of (λ (s : SeatView). s.confirmed ≤ held.committed) heard seat settled.within (Contains-push threads seat) in
         let orders : AreOrders n (lines_of turns) (answers_of turns) (orders_of held) =
         committed_orders n held heard threads seat (lines_of turns) (answers_of turns) settled.covers grew refl none has.orders
         (λ k l input place at_line at_answer here asked.

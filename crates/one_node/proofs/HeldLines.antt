@@ -24,7 +24,7 @@ short_front n [] low = omega arith
 short_front zero (x ∷ xs) low = absurd (omega (arith, low))
 short_front (suc n) (x ∷ xs) low = let rest = short_front n xs (omega (arith, low)) in omega (arith, rest)
 
-long_front : (n : ℕ) (xs : List ℕ) → length (take n xs) ≤ length xs
+pub long_front : (n : ℕ) (xs : List ℕ) → length (take n xs) ≤ length xs
 long_front zero xs = omega arith
 long_front (suc n) [] = omega arith
 long_front (suc n) (x ∷ xs) = omega (arith, long_front n xs)

@@ -3,6 +3,7 @@ use Rattle.std.proofs.Common.{◌≡◌, ◌∙◌, ◌+◌, ◌≤◌, ℕ, tru
 use Rattle.std.proofs.KnownBytes.{Appends-nil, Appends-trans, Consumes-nil}
 use Rattle.std.proofs.lemmas.List.{take_all}
 use Rattle.std.proofs.lemmas.List.Elements.{All-cons, All-nil, All-weaker}
+use Rattle.std.proofs.lemmas.Option.{IfSome_then}
 use Rattle.std.specs.Io.KnownBytes.{Appends}
 use Rattle.units.specs.declared.code.Node.{Node}
 use Rattle.protocol.specs.Input.{Input}
@@ -25,7 +26,7 @@ use Rattle.run.specs.declared.answer.ScriptAnswer.{ScriptAnswer}
 use Rattle.run.proofs.Ordering.{has_none}
 use Rattle.one_node.specs.Lives.{AnswersExport, EndsShift, GoesOn, IsCarried, IsLife, IsShift, begins_with, held_nowhere, opens_with, records_line}
 use Rattle.one_node.specs.Shifts.{AsksToEnd, HasTurns, IsAnswered, Talks, empty_seat, never}
-use Rattle.one_node.specs.Turns.{AsksExport, IsTurn, Turn, Exported, Line, Timed, Unread, answers_of, answers_text, lines_of, raw_lines}
+use Rattle.one_node.specs.Turns.{AsksExport, IsTurn, Turn, Exported, Line, Timed, Unread, answers_of, answers_text, clean_up_moment, lines_of, raw_lines}
 use Rattle.one_node.specs.declared.answering.LineFault.TheVariants as faults
 use Rattle.one_node.proofs.Going.{goes_on, goes_to_committed, goes_to_journal}
 use Rattle.one_node.proofs.Turning.{answered_on, read_on, turns_as}
@@ -179,10 +180,11 @@ shift_as scheme n tells Takes Holds first last begun r s v w count counted left 
 -- the same with more moments that the clock gave and more inputs that were taken
 module _ (scheme : Scheme) (n : Node) (tells also_tells : Moment → Type 0) (more : (m : Moment) → tells m → also_tells m) where
   told_turn : (Backs : Asked → Told → Type 0) (Carries : List ℕ → ℕ → Type 0) (t : Turn) → IsTurn scheme n Backs tells Carries t → IsTurn scheme n Backs also_tells Carries t
-  told_turn Backs Carries (Line raw l a) is = is
+  told_turn Backs Carries (Line raw l a) is = (is.0, is.1, IfSome_then (clean_up_moment l) is.2 (λ moment timely. (timely.0, more timely.0 timely.1, timely.2)))
   told_turn Backs Carries (Unread raw faults.Order) is = is
   told_turn Backs Carries (Unread raw faults.TooLong) is = is
   told_turn Backs Carries (Unread raw faults.Export) is = is
+  told_turn Backs Carries (Unread raw faults.Moment) is = (is.0, is.1, (is.2.0, is.2.1, is.2.2, more is.2.1 is.2.3, is.2.4))
   told_turn Backs Carries (Exported raw count) is = is
   told_turn Backs Carries (Timed m told) is = (is.0, more m is.1, is.2)
 

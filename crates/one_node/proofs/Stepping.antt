@@ -1,10 +1,11 @@
 -- The result of one step of an operator.
-use Rattle.std.proofs.Common.{◌≡◌, ◌∙◌, ◌<◌, ◌≤◌, ◌+◌, ℕ, List, [], ◌∷◌, ◌++◌, Option, Some, None, codes, length, Result, Ok, Err, IfOk, OnOk, refl, sym, ap, subst, inl, inr, arith, append-nil, append_assoc, length-append, zero, suc, take}
+use Rattle.std.proofs.Common.{◌≡◌, ◌∙◌, ◌<◌, ◌≤◌, ◌+◌, ℕ, List, [], ◌∷◌, ◌++◌, Option, Some, None, codes, length, Result, Ok, Err, IfOk, OnOk, refl, sym, ap, subst, inl, inr, arith, append-nil, append_assoc, length-append}
 use Rattle.std.proofs.KnownBytes.{Appends-nil, Consumes-nil}
 use Rattle.std.specs.Io.KnownBytes.{Appends, Consumes, IsAtEnd, Keeps}
 use Rattle.units.specs.Limits.{longest_line}
-use Rattle.streams.specs.Lines.{HasNoNewline, stream_of}
+use Rattle.streams.specs.Lines.{stream_of}
 use Rattle.units.specs.declared.code.Node.{Node}
+use Rattle.streams.proofs.Streams.{free_join}
 use Rattle.protocol.specs.Moment.{Moment}
 use Rattle.protocol.specs.Scheme.{Scheme}
 use Rattle.desk.specs.Views.{SeatView}
@@ -18,12 +19,12 @@ use Rattle.one_node.specs.Asking.{Asks}
 use Rattle.one_node.specs.Reading.{ReadsLine, ReadsOn, held_of}
 use Rattle.command_faults.specs.declared.fault.OpFault.{OpFault}
 use Rattle.one_node.specs.Shifts.{AnswersLine, AwaitsExport, EndsThere, Hears, IsBegun, IsNext, TakesLine, Talks, never}
-use Rattle.one_node.specs.Turns.{AsksExport, IsAnswer, IsTurn, Turn, Line, Unread, Timed, answers_text, fault_line, raw_lines}
+use Rattle.one_node.specs.Turns.{AsksExport, IsAhead, IsAnswer, IsTimely, IsTurn, Turn, Line, Unread, Timed, answers_text, fault_line, raw_lines}
 use Rattle.one_node.specs.declared.answering.LineFault.{LineFault}
 use Rattle.one_node.specs.declared.answering.LineFault.TheVariants as faults
 use Rattle.one_node.specs.declared.operator.Next.{Next}
 use Rattle.one_node.specs.declared.operator.Next.TheVariants.{On, Export, End}
-use Rattle.one_node.proofs.HeldLines.{held_again, held_short, held_whole}
+use Rattle.one_node.proofs.HeldLines.{held_again, held_short, held_whole, long_front}
 use Rattle.one_node.proofs.Turning.{hears_none, hears_one}
 
 -- what follows for a result from two properties of it
@@ -34,10 +35,6 @@ ok_both P Q R (Err e) follows p q = tt
 pub on_both : {X E P Q R : Type 0} (r : Result X E) → OnOk r P → OnOk r Q → (P → Q → R) → OnOk r R
 on_both (Ok x) p q follows = follows p q
 on_both (Err e) p q follows = tt
-
-none_both : (xs ys : List ℕ) → HasNoNewline xs → HasNoNewline ys → HasNoNewline (xs ++ ys)
-none_both [] ys a b = b
-none_both (x ∷ xs) ys a b = (a.0, none_both xs ys a.1 b)
 
 kept_bytes : (v w : Option (List ℕ)) → Keeps v w → Appends v w []
 kept_bytes None w keeps = tt
@@ -59,14 +56,14 @@ module _ (scheme : Scheme) (n : Node) (tells : Moment → Type 0) where
   -- ---- the result of a line
 
   pub line_answered : (held after text : List ℕ) (v w : Option (List ℕ)) (count counted : ℕ) (old new : SeatView) (l : ScriptLine) (a : ScriptAnswer)
-      → Asks n held l → IsAnswer scheme n (HasHeard new) l a → Grows old new
+      → Asks n held l → IsAnswer scheme n (HasHeard new) l a → IsTimely tells l → Grows old new
       → ((ls : List ScriptLine) (given : List ScriptAnswer) → length given ≡ length ls → HasOrders n ls given old → HasOrders n (ls ++ l ∷ []) (given ++ a ∷ []) new)
       → Appends v w text → text ≡ answer_line (count + 1) a → counted ≡ count + 1 → after ≡ [] → AnswersLine scheme n tells held v w count counted old new after
-  line_answered held after text v w count counted old new l a asks is grows step written text_is one begun = record {
+  line_answered held after text v w count counted old new l a asks is timely grows step written text_is one begun = record {
     turn = Line held l a;
     raw = refl;
     answered = record { written = subst (Appends v w) (text_is ∙ sym (append-nil (answer_line (count + 1) a))) written; counts = one };
-    hears = hears_one scheme n tells old new (Line held l a) (λ asked told h. heard_on old new asked told grows h) (asks, is) step;
+    hears = hears_one scheme n tells old new (Line held l a) (λ asked told h. heard_on old new asked told grows h) (asks, is, timely) step;
     begins = begun;
   }
 
@@ -84,6 +81,10 @@ module _ (scheme : Scheme) (n : Node) (tells : Moment → Type 0) where
   pub line_refused : (held after : List ℕ) (v w : Option (List ℕ)) (count counted : ℕ) (seat : SeatView) → ((l : ScriptLine) → Asks n held l → ⊥)
       → Appends v w (fault_line (count + 1) faults.Order) → counted ≡ count + 1 → after ≡ [] → AnswersLine scheme n tells held v w count counted seat seat after
   line_refused held after v w count counted seat none written one begun = unread held faults.Order v w count counted seat after none written one begun
+
+  pub line_ahead : (held after : List ℕ) (v w : Option (List ℕ)) (count counted : ℕ) (seat : SeatView) (l : ScriptLine) → Asks n held l → IsAhead tells l
+      → Appends v w (fault_line (count + 1) faults.Moment) → counted ≡ count + 1 → after ≡ [] → AnswersLine scheme n tells held v w count counted seat seat after
+  line_ahead held after v w count counted seat l asks ahead written one begun = unread held faults.Moment v w count counted seat after (l, asks, ahead) written one begun
 
   -- ---- a step
 
@@ -159,12 +160,7 @@ module _ (scheme : Scheme) (n : Node) (tells : Moment → Type 0) where
       )
     where
       front_length : (xs : List ℕ) → length (held_of xs) ≤ length xs
-      front_length xs = take_length (longest_line + 1) xs
-        where
-          take_length : (k : ℕ) (ys : List ℕ) → length (take k ys) ≤ length ys
-          take_length zero ys = omega arith
-          take_length (suc k) [] = omega arith
-          take_length (suc k) (y ∷ ys) = omega (arith, take_length k ys)
+      front_length xs = long_front (longest_line + 1) xs
 
   -- nothing was asked, and more of a line was read
   pub quiet_talks : (begun held mid bytes : List ℕ) (r s v : Option (List ℕ)) (count : ℕ) (seat : SeatView) → IsBegun held begun → ReadsOn held mid r s bytes
@@ -178,7 +174,7 @@ module _ (scheme : Scheme) (n : Node) (tells : Moment → Type 0) where
     },
     record {
       held_is = reads.held ∙ (ap (λ (xs : List ℕ). held_of (xs ++ bytes)) is.held_is ∙ held_again begun bytes);
-      none = none_both begun bytes is.none reads.none;
+      none = free_join begun bytes is.none reads.none;
     },
   )
 

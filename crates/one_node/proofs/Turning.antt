@@ -103,10 +103,11 @@ module _ (scheme : Scheme) (n : Node) (tells : Moment → Type 0) where
   -- the same with more known behind each turn
   module _ (F G : Asked → Told → Type 0) (more : (asked : Asked) (told : Told) → F asked told → G asked told) (C D : List ℕ → ℕ → Type 0) (carry : (raw : List ℕ) (count : ℕ) → C raw count → D raw count) where
     turn_as : (t : Turn) → IsTurn scheme n F tells C t → IsTurn scheme n G tells D t
-    turn_as (Line raw l a) is = (is.0, answer_as F G more l a is.1)
+    turn_as (Line raw l a) is = (is.0, answer_as F G more l a is.1, is.2)
     turn_as (Unread raw faults.Order) is = is
     turn_as (Unread raw faults.TooLong) is = is
     turn_as (Unread raw faults.Export) is = is
+    turn_as (Unread raw faults.Moment) is = is
     turn_as (Exported raw count) is = carry raw count is
     turn_as (Timed m told) is = (is.0, is.1, more _ told is.2)
 

@@ -1,5 +1,5 @@
 -- The questions of a node's operator and of its clock, one after another, each with its result.
-use Rattle.std.specs.Prelude.{◌≡◌, ◌≢◌, ◌⊎◌, ◌<◌, ◌+◌, ℕ, Bool, true, false, All, List, [], ◌∷◌, ◌++◌, codes, decimal, length}
+use Rattle.std.specs.Prelude.{◌≡◌, ◌≢◌, ◌⊎◌, ◌<◌, ◌≤◌, ◌+◌, ℕ, Bool, true, false, All, List, [], ◌∷◌, ◌++◌, Option, Some, None, IfSome, codes, decimal, length}
 use Rattle.units.specs.Limits.{longest_line}
 use Rattle.units.specs.declared.code.Node.{Node}
 use Rattle.units.specs.declared.code.Node.TheVariants.{Itl}
@@ -21,7 +21,7 @@ use Rattle.one_node.specs.declared.answering.LineFault.TheVariants as faults
 pub data Turn : Type 0 where
   -- a line, the order or question that it writes, and its result
   Line : List ℕ → ScriptLine → ScriptAnswer → Turn
-  -- a line that asks for nothing, or for an export that failed, and why
+  -- a line that asks for nothing, for an export that failed or for a clean-up that is refused, and why
   Unread : List ℕ → LineFault → Turn
   -- a line that asks for an export, and how many records were exported
   Exported : List ℕ → ℕ → Turn
@@ -42,8 +42,9 @@ abbrev pub fault_word : LineFault → List ℕ
 fault_word faults.Order = codes "order"
 fault_word faults.TooLong = codes "too-long"
 fault_word faults.Export = codes "export"
+fault_word faults.Moment = codes "moment"
 
--- the result of the line with that number, which asks for nothing, or for an export that failed
+-- the result of the line with that number, which has that fault
 abbrev pub fault_line : ℕ → LineFault → List ℕ
 fault_line number fault = decimal number ++ codes " fault " ++ fault_word fault ++ codes "\n"
 
@@ -84,6 +85,27 @@ IsExportLine line path = line ≡ codes "export " ++ path
 abbrev pub AsksExport : List ℕ → Type 0
 AsksExport line = (path : List ℕ) × IsExportLine line path
 
+-- ---- clean-ups and the clock
+
+-- the moment of the clean-up that the line orders
+abbrev pub clean_up_moment : ScriptLine → Option Moment
+clean_up_moment (Order n (CleanUp moment)) = Some moment
+clean_up_moment _ = None
+
+-- how many seconds ahead of the clock this moment may be: a day
+abbrev pub most_ahead : ℕ
+most_ahead = 86_400
+
+-- the moments that the node's clock gave
+module _ (tells : Moment → Type 0) where
+  -- if the line orders a clean-up, its moment is at most a day ahead of the clock
+  abbrev pub IsTimely : ScriptLine → Type 0
+  IsTimely l = IfSome (clean_up_moment l) (λ moment. (now : Moment) × tells now × (moment.seconds ≤ now.seconds + most_ahead))
+
+  -- the line orders a clean-up at a moment that is more than a day ahead of the clock
+  abbrev pub IsAhead : ScriptLine → Type 0
+  IsAhead l = (moment : Moment) × (now : Moment) × (clean_up_moment l ≡ Some moment) × tells now × (now.seconds + most_ahead < moment.seconds)
+
 -- the node under the scheme, and what holds for each question and its result
 module _ (scheme : Scheme) (n : Node) (Backs : Asked → Told → Type 0) where
   -- the node takes no such order, or it was asked
@@ -94,10 +116,11 @@ module _ (scheme : Scheme) (n : Node) (Backs : Asked → Told → Type 0) where
   -- the same; the moments that the node's clock gave; and what holds for an export
   module _ (tells : Moment → Type 0) (Carries : List ℕ → ℕ → Type 0) where
     abbrev pub IsTurn : Turn → Type 0
-    IsTurn (Line raw l answer) = Asks n raw l × IsAnswer l answer
+    IsTurn (Line raw l answer) = Asks n raw l × IsAnswer l answer × IsTimely tells l
     IsTurn (Unread raw faults.Order) = (l : ScriptLine) → Asks n raw l → ⊥
     IsTurn (Unread raw faults.TooLong) = longest_line < length raw
     IsTurn (Unread raw faults.Export) = AsksExport raw
+    IsTurn (Unread raw faults.Moment) = (l : ScriptLine) × Asks n raw l × IsAhead tells l
     IsTurn (Exported raw count) = Carries raw count
     IsTurn (Timed moment told) = (n ≡ Itl) × tells moment × Backs (Take (CleanUp moment)) told
 

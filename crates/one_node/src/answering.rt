@@ -6,7 +6,7 @@ use std::alloc::Global;
 use std::fmt::Write;
 use units::NoMemory;
 
-/// Why a line asks for nothing, or for an export that failed.
+/// Why the node did nothing for a line.
 #[derive(Clone, Copy, Debug, PartialEq, Eq)]
 pub enum LineFault {
     /// It is no order and no question.
@@ -15,6 +15,8 @@ pub enum LineFault {
     TooLong,
     /// It asks for an export, and the records weren't exported.
     Export,
+    /// It orders a clean-up at a moment that is more than a day ahead of the node's clock.
+    Moment,
 }
 
 impl LineFault {
@@ -26,6 +28,7 @@ impl LineFault {
             LineFault::Order => "order",
             LineFault::TooLong => "too-long",
             LineFault::Export => "export",
+            LineFault::Moment => "moment",
         }
     }
 }

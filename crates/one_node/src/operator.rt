@@ -1,5 +1,5 @@
 //! The operator of a node, who writes lines and reads the result of each.
-ghost use Rattle.std.specs.Prelude.{◌≡◌, ◌<◌, ◌+◌, ◌++◌, ◌∷◌, [], true, List, ℕ, IfOk, OnOk, length};
+ghost use Rattle.std.specs.Prelude.{◌≡◌, ◌<◌, ◌+◌, ◌++◌, ◌∷◌, [], false, true, List, ℕ, IfOk, OnOk, length};
 ghost use Rattle.std.specs.Io.KnownBytes.{Appends};
 ghost use Rattle.units.specs.declared.code.Node.{Node as ANode};
 ghost use Rattle.protocol.specs.Registries.{is_node};
@@ -9,7 +9,7 @@ ghost use Rattle.run.specs.Heard.{Grows, HasHeard};
 ghost use Rattle.run.specs.Orders.{HasOrders};
 ghost use Rattle.run.specs.declared.answer.ScriptAnswer.{ScriptAnswer as AnAnswer};
 ghost use Rattle.one_node.specs.Shifts.{IsBegun, IsNext, IsTimed, Operates, TakesLine, Talks};
-ghost use Rattle.one_node.specs.Turns.{IsAnswer, IsPossible, fault_line};
+ghost use Rattle.one_node.specs.Turns.{IsAhead, IsAnswer, IsPossible, IsTimely, clean_up_moment, fault_line};
 
 use crate::answering::{LineFault, push_fault};
 use crate::asking::asked_by;
@@ -22,6 +22,7 @@ use input_lines::{ScriptLine, WordsFault};
 use protocol::scheme::Scheme;
 use run::{Nobody, ScriptAnswer, ask, push_answer, takes};
 use sessions::{Network, NodeTypes, Station};
+use status::Moment;
 use std::alloc::Global;
 use std::io::{Read, Write};
 use std::rt::Clock as SystemClock;
@@ -42,6 +43,10 @@ const LEAST_NOTES: usize = 512;
 /// Settling goes through the journal once, so more notes are kept if the journal is long: one for this number of
 /// records.
 const RECORDS_A_NOTE: usize = 64;
+
+/// How many seconds the moment of an operator's clean-up may be ahead of the node's clock: a day. A wrong year would
+/// cancel all transfers with status Checked.
+const MOST_AHEAD: u64 = 86_400;
 
 /// How many bytes the result of a line has at most.
 const LONGEST_ANSWER: usize = 64;
@@ -78,7 +83,32 @@ fn is_possible(node: Node, line: &ScriptLine) -> bool
     }
 }
 
+/// The moment of the clean-up that the line orders, if it orders one.
+fn clean_up_moment(line: &ScriptLine) -> Option<Moment>
+    ensures { result ≡ clean_up_moment line.now }
+{
+    match line {
+        ScriptLine::Order {
+            input: Input::CleanUp(moment),
+            ..
+        } => Some(*moment),
+        _ => None,
+    }
+}
+
 impl<'a, O: Opening, N: NodeTypes> Counter<'a, O, N> {
+    /// Whether the line orders a clean-up at a moment that is more than a day ahead of the clock.
+    fn is_ahead(&self, line: &ScriptLine) -> bool
+        ensures ahead { result ≡ true → IsAhead (N.Clock.tells self.now.network.now.clock) line.now }
+        ensures timely { result ≡ false → IsTimely (N.Clock.tells self.now.network.now.clock) line.now }
+    {
+        let Some(moment) = clean_up_moment(line) else {
+            return false;
+        };
+        let now = self.network.clock.now();
+        moment.seconds.saturating_sub(now.seconds) > MOST_AHEAD
+    }
+
     /// The node's result for an order or a question, if the line is possible.
     fn answer<R: Wait + SystemClock>(
         &self,
@@ -212,8 +242,9 @@ impl Operator {
         self.write_answer(writer, text.as_str(), number)
     }
 
-    /// Asks the node for what the held line says, and writes the result. Returns `Export` if the line asks for an
-    /// export, whose result isn't written yet, and `End` if it asks for the node's end.
+    /// Asks the node for what the held line says, and writes the result. A clean-up more than a day ahead of the clock
+    /// is refused. Returns `Export` if the line asks for an export, whose result isn't written yet, and `End` if it
+    /// asks for the node's end.
     fn take_line<O: Opening, N: NodeTypes, W: Write, R: Wait + SystemClock>(
         &mut self,
         rt: &R,
@@ -240,6 +271,10 @@ impl Operator {
         };
         match asked_by(self.alloc, counter.node, self.line.held()) {
             Ok(line) => {
+                if counter.is_ahead(&line) {
+                    self.refuse(writer, LineFault::Moment)?;
+                    return Ok(Next::On);
+                }
                 let answer = counter.answer(rt, seat, &line);
                 push_answer(&mut text, number, answer)?;
                 self.write_answer(writer, text.as_str(), number)?;

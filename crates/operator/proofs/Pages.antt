@@ -9,7 +9,7 @@ use Rattle.stores.specs.Faults.{count_after, IsReadFault}
 use Rattle.stores.specs.Records.{Places, AreRecords, IsDamagedAt}
 use Rattle.stores.specs.declared.fault.StoreFault.{StoreFault}
 use Rattle.stores.specs.declared.fault.StoreFault.TheVariants.{Damaged}
-use Rattle.stores.proofs.Fronts.{records-append, records-take, records-drop}
+use Rattle.stores.proofs.Fronts.{records-append, records-take, records-drop, none-damaged}
 use Rattle.stores.specs.declared.node_store.NodeStore.{Ghosts}
 use Rattle.operator.specs.Pages.{Reads, Stops}
 
@@ -21,10 +21,6 @@ records-length [] (i ∷ inputs) are = absurd are
 records-length (None ∷ places) inputs are = absurd are
 records-length (Some t ∷ places) [] are = absurd are
 records-length (Some t ∷ places) (i ∷ inputs) are = ap suc (records-length places inputs are.1)
-
-none-damaged : (p : ℕ) → IsDamagedAt p [] → ⊥
-none-damaged zero h = h
-none-damaged (suc p) h = h
 
 -- a damaged place among the first ones
 damaged-take : (n p : ℕ) (places : Places) → IsDamagedAt p (take n places) → IsDamagedAt p places

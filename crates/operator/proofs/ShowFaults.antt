@@ -26,6 +26,7 @@ fails-writing form op_fault.Read node records written honest places text v x w f
 fails-writing form (op_fault.Stuck at place) node records written honest places text v x w f more here = f
 fails-writing form (op_fault.Unsettled at) node records written honest places text v x w f more here = f
 fails-writing form (op_fault.Setup told) node records written honest places text v x w f more here = f
+fails-writing form (op_fault.Undone line) node records written honest places text v x w f more here = f
 
 -- a fault of the second reading, where the first one found a record at each place
 again : (form : Form) (count : ℕ) (honest : Type 0) (mid places : Places) (v w : Option (List ℕ)) → (honest → mid ≡ places) → IsBegun form count honest mid v w → IsBegun form count honest places v w
@@ -46,6 +47,7 @@ fails-second form op_fault.Read node records honest mid places v w all f same ar
 fails-second form (op_fault.Stuck at place) node records honest mid places v w all f same are many = f
 fails-second form (op_fault.Unsettled at) node records honest mid places v w all f same are many = f
 fails-second form (op_fault.Setup told) node records honest mid places v w all f same are many = f
+fails-second form (op_fault.Undone line) node records honest mid places v w all f same are many = f
 
 -- the last line was not written, or only in part
 pub fails-last : (form : Form) (e : OpFault) (node : Node) (written : ℕ) (honest : Type 0) (places : Places) (v x w : Option (List ℕ)) (all : List Input) → FailsWithin e written (end_line form) x w
@@ -60,6 +62,7 @@ fails-last form op_fault.Read node written honest places v x w all f are size li
 fails-last form (op_fault.Stuck at place) node written honest places v x w all f are size lines = f
 fails-last form (op_fault.Unsettled at) node written honest places v x w all f are size lines = f
 fails-last form (op_fault.Setup told) node written honest places v x w all f are size lines = f
+fails-last form (op_fault.Undone line) node written honest places v x w all f are size lines = f
 
 pub none-told : (e : OpFault) (node : Node) (fault f : StoreFault) (written : ℕ) (text : List ℕ) (x w : Option (List ℕ)) → FailsWithin e written text x w → e ≡ op_fault.Store node f → f ≡ fault
 none-told e node fault f written text x w fails same = absurd (subst (λ t. FailsWithin t written text x w) same fails)

@@ -7,7 +7,7 @@ use Rattle.clap.specs.declared.builder.arg.Arg.{Arg}
 use Rattle.clap.specs.declared.builder.command.Command.{Command}
 use Rattle.clap.specs.declared.builder.command.Command.TheViews.{out-Command}
 use Rattle.operator.specs.Subcommands.{described, rule_in, rules_of, with_all}
-use Rattle.operator.specs.Words.{IsCommand, kyoto_link, program}
+use Rattle.operator.specs.Words.{IsCommand}
 use Rattle.operator.specs.declared.command_line.Argument.{Argument}
 use Rattle.operator.specs.declared.command_line.Subcommand.{Subcommand}
 
@@ -24,17 +24,17 @@ argument_added name arguments i d old new arg lt rule local is adds = (
   adds.globals ∙ ap (λ b. b || arg.global) is.1 ∙ local,
 )
 
--- the command has no global argument, and with these subcommands it is the whole program
-pub record IsWholeWith (subcommands : List Subcommand) (command : Command) : Type 0 where
-  pub whole : with_all (app_of command) subcommands ≡ kyoto_link
+-- the command has no global argument, and with these subcommands it is that program
+pub record IsWholeWith (target : App) (subcommands : List Subcommand) (command : Command) : Type 0 where
+  pub whole : with_all (app_of command) subcommands ≡ target
   pub local : (out-Command command).has_globals ≡ false
 
-pub before_all : (subcommands : List Subcommand) (command : Command) → IsCommand program command → with_all program subcommands ≡ kyoto_link → IsWholeWith subcommands command
-before_all subcommands command is whole = record { whole = ap (λ a. with_all a subcommands) is.0 ∙ whole; local = is.1 }
+pub before_all : (begun target : App) (subcommands : List Subcommand) (command : Command) → IsCommand begun command → with_all begun subcommands ≡ target → IsWholeWith target subcommands command
+before_all begun target subcommands command is whole = record { whole = ap (λ a. with_all a subcommands) is.0 ∙ whole; local = is.1 }
 
-pub one_more : (subcommands : List Subcommand) (i : ℕ) (d : Subcommand) (old new : Command) → i < length subcommands → IsWholeWith (drop i subcommands) old
-    → IsCommand (with_subcommand (app_of old) (described (get_or subcommands i d))) new → IsWholeWith (drop (i + 1) subcommands) new
-one_more subcommands i d old new lt has is = record {
+pub one_more : (target : App) (subcommands : List Subcommand) (i : ℕ) (d : Subcommand) (old new : Command) → i < length subcommands → IsWholeWith target (drop i subcommands) old
+    → IsCommand (with_subcommand (app_of old) (described (get_or subcommands i d))) new → IsWholeWith target (drop (i + 1) subcommands) new
+one_more target subcommands i d old new lt has is = record {
   whole = ap (λ a. with_all a (drop (i + 1) subcommands)) is.0 ∙ sym (ap (with_all (app_of old)) (drop_more subcommands i d lt)) ∙ has.whole;
   local = is.1;
 }

@@ -106,6 +106,14 @@ pub both_flags : option_and_then (λ p. first_of (codes "json") p.1) (subcommand
 unfolding clap_on_literals
 both_flags = refl
 
+pub existing : option_and_then (λ p. first_of (codes "existing") p.1) (subcommand_of kyoto_link (codes "kyoto-link" ∷ codes "audit" ∷ codes "--existing" ∷ codes "s.json" ∷ codes "d" ∷ [])) ≡ Some (codes "true")
+unfolding clap_on_literals
+existing = refl
+
+pub not_existing : option_and_then (λ p. first_of (codes "existing") p.1) (subcommand_of kyoto_link audit_words) ≡ Some (codes "false")
+unfolding clap_on_literals
+not_existing = refl
+
 pub no_folder : faults_in (codes "kyoto-link" ∷ codes "audit" ∷ codes "s.json" ∷ []) ≡ MissingRequiredArgument ∷ []
 unfolding clap_on_literals
 no_folder = refl
@@ -123,6 +131,14 @@ pub run_script : option_and_then (λ p. first_of (codes "SCRIPT") p.1) (subcomma
 unfolding clap_on_literals
 run_script = refl
 
+pub not_strict : option_and_then (λ p. first_of (codes "strict") p.1) (subcommand_of kyoto_link run_words) ≡ Some (codes "false")
+unfolding clap_on_literals
+not_strict = refl
+
+pub strict : option_and_then (λ p. first_of (codes "strict") p.1) (subcommand_of kyoto_link (run_words ++ codes "--strict" ∷ codes "--existing" ∷ [])) ≡ Some (codes "true")
+unfolding clap_on_literals
+strict = refl
+
 pub no_script : faults_in (codes "kyoto-link" ∷ codes "run" ∷ codes "s.json" ∷ codes "d" ∷ []) ≡ MissingRequiredArgument ∷ []
 unfolding clap_on_literals
 no_script = refl
@@ -133,9 +149,21 @@ pub traced_id : option_and_then (λ p. first_of (codes "ID") p.1) (subcommand_of
 unfolding clap_on_literals
 traced_id = refl
 
-pub topic : option_and_then (λ p. first_of (codes "TOPIC") p.1) (subcommand_of kyoto_link (codes "kyoto-link" ∷ codes "explain" ∷ codes "106" ∷ [])) ≡ Some (codes "106")
+abbrev asked_of : List (List ℕ) → Option (List (List ℕ))
+asked_of about = option_and_then (λ p. all_of (codes "WORDS") p.1) (subcommand_of kyoto_link (codes "kyoto-link" ∷ codes "explain" ∷ about))
+
+pub one_word : asked_of (codes "106" ∷ []) ≡ Some (codes "106" ∷ [])
 unfolding clap_on_literals
-topic = refl
+one_word = refl
+
+-- after the first word, one that begins with a hyphen is a word as any other
+pub pasted_words : asked_of (codes "kyoto-link:" ∷ codes "--keys:" ∷ codes "read" ∷ []) ≡ Some (codes "kyoto-link:" ∷ codes "--keys:" ∷ codes "read" ∷ [])
+unfolding clap_on_literals
+pasted_words = refl
+
+pub no_word : (asked_of [] ≡ None) × (takes kyoto_link (codes "kyoto-link" ∷ codes "explain" ∷ []) ≡ true)
+unfolding clap_on_literals
+no_word = (refl, refl)
 
 -- ---- words that run one node
 

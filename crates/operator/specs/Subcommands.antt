@@ -3,10 +3,10 @@ use Rattle.std.specs.Prelude.{ℕ, List, [], ◌∷◌, false, map, true}
 use Rattle.clap.specs.declared.builder.action.ArgAction.TheVariants.{Append, Set}
 use Rattle.clap.specs.Words.{App, Rule, Shape, with_subcommand}
 use Rattle.clap.specs.Simple.{new_shape}
-use Rattle.operator.specs.Words.{flag, option, positional}
+use Rattle.operator.specs.Words.{flag, option, positional, words_rule}
 use Rattle.operator.specs.declared.command_line.Argument.{Argument}
 use Rattle.operator.specs.declared.command_line.ArgumentKind.{ArgumentKind}
-use Rattle.operator.specs.declared.command_line.ArgumentKind.TheVariants.{Flag, Optional, Positional, Repeated, Required}
+use Rattle.operator.specs.declared.command_line.ArgumentKind.TheVariants.{Flag, Optional, Positional, Repeated, Required, Words}
 use Rattle.operator.specs.declared.command_line.Subcommand.{Subcommand}
 
 abbrev pub rule_with : ArgumentKind → List ℕ → Rule
@@ -15,6 +15,7 @@ rule_with Flag name = flag name
 rule_with (Required value) name = option name Set true
 rule_with (Repeated value) name = option name Append true
 rule_with (Optional value) name = option name Set false
+rule_with Words name = words_rule name
 
 abbrev pub rule_in : Argument → Rule
 rule_in a = rule_with a.kind a.name.now

@@ -1,7 +1,7 @@
 //! The actions that the words of the command line name, and how they are read from the matches of `clap`.
 ghost use Rattle.std.specs.Prelude.{◌≡◌, Some, IfOk, IfSome, codes, map, option_map, string_bytes};
 ghost use Rattle.clap.specs.Words.{first_value, found_of};
-ghost use Rattle.operator.specs.Words.{IsOf, NamesAction, extent_word, form_word};
+ghost use Rattle.operator.specs.Words.{AreWordsOf, IsOf, NamesAction, all_values, extent_word, form_word, missing_word, strictness_word};
 
 use clap::ArgMatches;
 use report::Form;
@@ -14,6 +14,24 @@ pub enum Extent {
     Whole,
     /// The first records, as far as a run explains them.
     Furthest,
+}
+
+/// What becomes of a store that isn't there.
+#[derive(Clone, Copy, Debug, PartialEq, Eq)]
+pub enum Missing {
+    /// It stands for no records, and is created.
+    Create,
+    /// The command fails.
+    Refuse,
+}
+
+/// Which results of a script's lines make a run fail.
+#[derive(Clone, Copy, Debug, PartialEq, Eq)]
+pub enum Strictness {
+    /// None: they are written, and that is all.
+    Lenient,
+    /// A line that was not carried out.
+    Strict,
 }
 
 /// The action that the words ask for.
@@ -30,6 +48,7 @@ pub enum Action {
         folder: String,
         node: String,
         form: Form,
+        missing: Missing,
     },
     /// Write the table of a run that leads to the records of the stores in the folder `folder`: to all of them, or to
     /// the first ones, as far as a run explains them. The file `scheme` has the scheme.
@@ -38,6 +57,7 @@ pub enum Action {
         folder: String,
         extent: Extent,
         form: Form,
+        missing: Missing,
     },
     /// Write the scheme and the events of a run that leads to the records of the stores in the folder `folder`. The
     /// file `scheme` has the scheme.
@@ -45,6 +65,7 @@ pub enum Action {
         scheme: String,
         folder: String,
         form: Form,
+        missing: Missing,
     },
     /// Write the records of the transaction `id` in the stores in the folder `folder`, in the order of a run that leads
     /// to all records. The file `scheme` has the scheme.
@@ -53,10 +74,12 @@ pub enum Action {
         folder: String,
         id: String,
         form: Form,
+        missing: Missing,
     },
-    /// Write the text of the documents about the topic `topic`.
+    /// Write the text of the documents about the topic for which the words `words` ask, or without words the names of
+    /// all topics.
     Explain {
-        topic: String,
+        words: Vec<String>,
     },
     /// Run the nodes of the scheme in threads, with their stores in the folder `folder`, while the lines of the file
     /// `script` give orders and ask questions, and report. The file `scheme` has the scheme.
@@ -64,6 +87,8 @@ pub enum Action {
         scheme: String,
         folder: String,
         script: String,
+        missing: Missing,
+        strictness: Strictness,
     },
     /// Run one node of the scheme by itself, while standard input gives orders and asks questions.
     Node(NodeWords),
@@ -135,6 +160,34 @@ fn form_of(matches: &ArgMatches) -> Option<Form>
     None
 }
 
+/// What becomes of a missing store, by the flag `existing`.
+fn missing_of(matches: &ArgMatches) -> Option<Missing>
+    ensures { IfSome result (λ m. first_value (found_of matches.now) (codes "existing") ≡ Some (missing_word m)) }
+{
+    let value = matches.get_str("existing")?;
+    if value == "true" {
+        return Some(Missing::Refuse);
+    }
+    if value == "false" {
+        return Some(Missing::Create);
+    }
+    None
+}
+
+/// Which results make a run fail, by the flag `strict`.
+fn strictness_of(matches: &ArgMatches) -> Option<Strictness>
+    ensures { IfSome result (λ s. first_value (found_of matches.now) (codes "strict") ≡ Some (strictness_word s)) }
+{
+    let value = matches.get_str("strict")?;
+    if value == "true" {
+        return Some(Strictness::Strict);
+    }
+    if value == "false" {
+        return Some(Strictness::Lenient);
+    }
+    None
+}
+
 fn show_action(alloc: Global, matches: &ArgMatches) -> Option<Action>
     ensures { IfSome result (IsOf (codes "show") (found_of matches.now)) }
 {
@@ -142,11 +195,13 @@ fn show_action(alloc: Global, matches: &ArgMatches) -> Option<Action>
     let folder = value_of(alloc, matches, "DIR")?;
     let node = value_of(alloc, matches, "NODE")?;
     let form = form_of(matches)?;
+    let missing = missing_of(matches)?;
     Some(Action::Show {
         scheme,
         folder,
         node,
         form,
+        missing,
     })
 }
 
@@ -171,11 +226,13 @@ fn audit_action(alloc: Global, matches: &ArgMatches) -> Option<Action>
     let folder = value_of(alloc, matches, "DIR")?;
     let extent = extent_of(matches)?;
     let form = form_of(matches)?;
+    let missing = missing_of(matches)?;
     Some(Action::Audit {
         scheme,
         folder,
         extent,
         form,
+        missing,
     })
 }
 
@@ -185,10 +242,12 @@ fn events_action(alloc: Global, matches: &ArgMatches) -> Option<Action>
     let scheme = value_of(alloc, matches, "SCHEME")?;
     let folder = value_of(alloc, matches, "DIR")?;
     let form = form_of(matches)?;
+    let missing = missing_of(matches)?;
     Some(Action::Events {
         scheme,
         folder,
         form,
+        missing,
     })
 }
 
@@ -199,19 +258,32 @@ fn trace_action(alloc: Global, matches: &ArgMatches) -> Option<Action>
     let folder = value_of(alloc, matches, "DIR")?;
     let id = value_of(alloc, matches, "ID")?;
     let form = form_of(matches)?;
+    let missing = missing_of(matches)?;
     Some(Action::Trace {
         scheme,
         folder,
         id,
         form,
+        missing,
     })
+}
+
+/// The values of an argument that takes any number of words.
+fn words_of(alloc: Global, matches: &ArgMatches, name: &str) -> Result<Vec<String>, AllocError>
+    ensures { IfOk result (λ words. AreWordsOf (all_values (found_of matches.now) name.now)
+        (map string_bytes words.items)) }
+{
+    match matches.get_strs(name) {
+        Some(words) => copies_of(alloc, words),
+        None => Ok(Vec::new(alloc)),
+    }
 }
 
 fn explain_action(alloc: Global, matches: &ArgMatches) -> Option<Action>
     ensures { IfSome result (IsOf (codes "explain") (found_of matches.now)) }
 {
-    let topic = value_of(alloc, matches, "TOPIC")?;
-    Some(Action::Explain { topic })
+    let words = words_of(alloc, matches, "WORDS").ok()?;
+    Some(Action::Explain { words })
 }
 
 fn run_action(alloc: Global, matches: &ArgMatches) -> Option<Action>
@@ -220,10 +292,14 @@ fn run_action(alloc: Global, matches: &ArgMatches) -> Option<Action>
     let scheme = value_of(alloc, matches, "SCHEME")?;
     let folder = value_of(alloc, matches, "DIR")?;
     let script = value_of(alloc, matches, "SCRIPT")?;
+    let missing = missing_of(matches)?;
+    let strictness = strictness_of(matches)?;
     Some(Action::Run {
         scheme,
         folder,
         script,
+        missing,
+        strictness,
     })
 }
 

@@ -5,7 +5,7 @@ ghost use Rattle.clap.specs.Values.{kind_of};
 ghost use Rattle.clap.specs.Words.{App, HasMatchesOf, rule_of, with_subcommand};
 ghost use Rattle.clap.specs.declared.error.kind.ErrorKind.TheVariants.{OutOfMemory};
 ghost use Rattle.clap.specs.declared.parser.matches.ArgMatches.{ArgMatches};
-ghost use Rattle.operator.specs.Words.{NamesAction, IsCommand, IsFaultOf, IsSubcommand, IsUsageFault, faults_in, flag, kyoto_link, option, positional, program};
+ghost use Rattle.operator.specs.Words.{NamesAction, IsCommand, IsFaultOf, IsSubcommand, IsUsageFault, faults_in, flag, kyoto_link, option, positional, program, with_auditors, words_rule};
 ghost use Rattle.operator.specs.Subcommands.{described, rule_in};
 
 use crate::actions::{Action, action_of};
@@ -45,6 +45,8 @@ enum ArgumentKind {
     Repeated { value: &'static str },
     /// As an option, once or not at all.
     Optional { value: &'static str },
+    /// As words, any number of them. From the first on, what begins with `-` is such a word too.
+    Words,
 }
 
 /// An argument of a subcommand.
@@ -92,10 +94,10 @@ const ID: Argument = Argument {
     kind: ArgumentKind::Positional,
 };
 
-const TOPIC: Argument = Argument {
-    name: "TOPIC",
-    help: "A code, a status, an outcome, or a word of a fault line",
-    kind: ArgumentKind::Positional,
+const WORDS: Argument = Argument {
+    name: "WORDS",
+    help: "A code, a status, an outcome, a word of a fault line, or a whole line; without it, all topics are listed",
+    kind: ArgumentKind::Words,
 };
 
 const CUT: Argument = Argument {
@@ -107,6 +109,24 @@ const CUT: Argument = Argument {
 const JSON: Argument = Argument {
     name: "json",
     help: "Write a JSON object per line",
+    kind: ArgumentKind::Flag,
+};
+
+const EXISTING: Argument = Argument {
+    name: "existing",
+    help: "Fail if a store is missing, and change no file",
+    kind: ArgumentKind::Flag,
+};
+
+const EXISTING_OF_RUN: Argument = Argument {
+    name: "existing",
+    help: "Fail if a store is missing",
+    kind: ArgumentKind::Flag,
+};
+
+const STRICT: Argument = Argument {
+    name: "strict",
+    help: "Fail if a line was refused, or if a status that a line waits for didn't come",
     kind: ArgumentKind::Flag,
 };
 
@@ -136,8 +156,8 @@ const CLEAN_UP: Argument = Argument {
     kind: ArgumentKind::Optional { value: "SECONDS" },
 };
 
-/// The subcommands, in the order of the program's help.
-const SUBCOMMANDS: &[Subcommand] = &[
+/// The subcommands that only read events or stores. They come first in the program's help.
+const READERS: &[Subcommand] = &[
     Subcommand {
         name: "rehearse",
         about: "Run a scheme and its events, read from standard input, and write the outcome of each event and the table after the last one",
@@ -154,37 +174,42 @@ const SUBCOMMANDS: &[Subcommand] = &[
         name: "show",
         about: "Write the records of a node's store, each with its place",
         notes: SHOW_NOTES,
-        arguments: &[SCHEME, DIR, NODE, JSON],
+        arguments: &[SCHEME, DIR, NODE, JSON, EXISTING],
     },
     Subcommand {
         name: "audit",
         about: "Find a run that leads to the records of all stores, and write its table",
         notes: AUDIT_NOTES,
-        arguments: &[SCHEME, DIR, CUT, JSON],
+        arguments: &[SCHEME, DIR, CUT, JSON, EXISTING],
     },
     Subcommand {
         name: "events",
         about: "Find a run that leads to the records of all stores, and write its scheme and its events as rehearse reads them",
         notes: EVENTS_NOTES,
-        arguments: &[SCHEME, DIR, JSON],
+        arguments: &[SCHEME, DIR, JSON, EXISTING],
     },
     Subcommand {
         name: "trace",
         about: "Write the records of one transaction, in the order of a run that leads to the records of all stores",
         notes: TRACE_NOTES,
-        arguments: &[SCHEME, DIR, ID, JSON],
+        arguments: &[SCHEME, DIR, ID, JSON, EXISTING],
     },
+];
+
+/// The other subcommands, in the order of the program's help. The prover looks at a whole table at once, and there is a
+/// limit to it.
+const OTHERS: &[Subcommand] = &[
     Subcommand {
         name: "explain",
-        about: "Write the meaning of a code, a status, an outcome or a fault",
+        about: "Write the meaning of a code, a status, an outcome or a fault, or list what has one",
         notes: EXPLAIN_NOTES,
-        arguments: &[TOPIC],
+        arguments: &[WORDS],
     },
     Subcommand {
         name: "run",
         about: "Run all nodes with threads, sockets and stores, carry out the lines of a script, and write the outcome of each line and the table after the last one",
         notes: RUN_NOTES,
-        arguments: &[SCHEME, DIR, SCRIPT],
+        arguments: &[SCHEME, DIR, SCRIPT, EXISTING_OF_RUN, STRICT],
     },
     Subcommand {
         name: "node",
@@ -231,6 +256,18 @@ fn option<'a>(
         .help(help)
 }
 
+/// Any number of words.
+fn words<'a>(alloc: Global, name: &'a str, help: &'a str) -> Arg<'a>
+    ensures rule { rule_of result ≡ words_rule name.now }
+    ensures global { result.global ≡ false }
+{
+    Arg::new(alloc, name)
+        .action(ArgAction::Append)
+        .num_args(..)
+        .trailing_var_arg(true)
+        .help(help)
+}
+
 impl Argument {
     fn arg<'a>(&self, alloc: Global) -> Arg<'a>
         ensures rule { rule_of result ≡ rule_in self.now }
@@ -249,6 +286,7 @@ impl Argument {
             ArgumentKind::Optional { value } => {
                 option(alloc, name, value, help, ArgAction::Set, false)
             }
+            ArgumentKind::Words => words(alloc, name, help),
         }
     }
 }
@@ -289,12 +327,23 @@ fn bare_command<'a>(alloc: Global) -> Command<'a>
         .subcommand_required(true)
 }
 
+/// The program with the subcommands that only read.
+fn readers<'a>(alloc: Global) -> Result<Command<'a>, AllocError>
+    ensures { IfOk result (IsCommand with_auditors) }
+{
+    let mut program = bare_command(alloc);
+    for subcommand in READERS {
+        program = subcommand.added_to(alloc, program)?;
+    }
+    Ok(program)
+}
+
 /// The program, with all its subcommands.
 fn command<'a>(alloc: Global) -> Result<Command<'a>, AllocError>
     ensures { IfOk result (IsCommand kyoto_link) }
 {
-    let mut program = bare_command(alloc);
-    for subcommand in SUBCOMMANDS {
+    let mut program = readers(alloc)?;
+    for subcommand in OTHERS {
         program = subcommand.added_to(alloc, program)?;
     }
     Ok(program)

@@ -6,7 +6,7 @@ mod command_line;
 mod notes;
 mod showing;
 
-pub use actions::{Action, Extent, NodeWords};
+pub use actions::{Action, Extent, Missing, NodeWords, Strictness};
 pub use command_line::{UsageFault, parse_words};
 pub use report::Form;
 pub use showing::show;

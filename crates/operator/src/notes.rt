@@ -6,7 +6,8 @@ pub(crate) const NOTES: &str = "Example:
 
 Exit status:
   0  success
-  1  no run leads to the records of the stores, or the threads of a node contradict one another
+  1  no run leads to the records of the stores, the threads of a node contradict one another, or a line of a strict
+     run was not carried out
   2  wrong words on the command line
   3  the input has a fault, or could not be read, or the output could not be written
   4  a node's store has a fault
@@ -49,7 +50,9 @@ docs/FORMATS.md describes schemes, events and charts.";
 /// The end of the help of `show`.
 pub(crate) const SHOW_NOTES: &str =
     "The store of a node is the file DIR/NODE.db. A missing store is created empty. A store of format 1 is migrated
-to format 2, which needs free space of twice its size. With --json each line is an object, the last one too:
+to format 2, which needs free space of twice its size. With --existing a missing store is a fault, and no file
+changes: a copy is read, which takes as much space in the folder for temporary files (TMPDIR, or /tmp).
+With --json each line is an object, the last one too:
 
   {\"place\":0,\"record\":{\"account\":8,\"input\":\"open\",\"v\":2}}
   {\"line\":\"end\"}
@@ -69,7 +72,9 @@ docs/FORMATS.md describes schemes, records and stores.";
 pub(crate) const AUDIT_NOTES: &str =
     "The store of a node is the file DIR/NODE.db: one for the log, and one for each registry of the scheme. A missing
 store is created empty. A store of format 1 is migrated to format 2, which needs free space of twice its size.
-The table is that of a run which leads to exactly the records of all stores.
+With --existing a missing store is a fault, and no file changes: copies are read, which take as much space in the
+folder for temporary files (TMPDIR, or /tmp). The table is that of a run which leads to exactly the records of all
+stores.
 
 With --cut the stores may be copies that were not taken at one moment. The table is that of the run with the most
 records at every node whose journals are first records of the stores. For each node with records left, one line has
@@ -97,6 +102,7 @@ docs/FORMATS.md describes schemes, records, stores and the table.";
 pub(crate) const EVENTS_NOTES: &str =
     "The store of a node is the file DIR/NODE.db: one for the log, and one for each registry of the scheme. A missing
 store is created empty. A store of format 1 is migrated to format 2, which needs free space of twice its size.
+With --existing a missing store is a fault, and no file changes, as for audit.
 The scheme is written as one line, and then a line for each event of a run which leads to exactly the records of all
 stores. rehearse reads these lines, and its table is the one that audit writes. With --json each event is an object.
 
@@ -116,7 +122,8 @@ docs/FORMATS.md describes schemes, records, stores and events, and how long an i
 pub(crate) const TRACE_NOTES: &str =
     "The store of a node is the file DIR/NODE.db, as for audit. A line is written for each record of the transaction, in
 the order of a run which leads to the records of all stores: node, place, moment, the status of the transaction at
-that node after the record, and the record. The last line is end. With --json each line is an object.
+that node after the record, and the record. The last line is end. With --json each line is an object. With --existing
+a missing store is a fault, and no file changes, as for audit.
 
 Example:
   kyoto-link trace scheme.json stores NZ1
@@ -132,15 +139,17 @@ docs/FORMATS.md describes schemes, records, stores and the lines.";
 
 /// The end of the help of `explain`.
 pub(crate) const EXPLAIN_NOTES: &str =
-    "TOPIC is a code (106), a finding (203), a status (Accepted), an outcome (late), or a word of a fault line (stuck,
-damaged, device).
+    "WORDS are a code (106), a finding (203), a status (Accepted), an outcome (not possible), a word of a fault line
+(damaged), or a whole line as it was written. Without words the topics are listed.
 
-Example:
+Examples:
   kyoto-link explain 106
+  kyoto-link explain store NZ: device
 
 Exit status:
   0  success
-  3  there is no such topic (kyoto-link: line 1: order), or the output could not be written
+  3  no topic is named (kyoto-link: line 1: order), or the output could not be written
+  5  out of memory
 
 The texts are those of docs/PROTOCOL.md and docs/FORMATS.md.";
 
@@ -148,22 +157,23 @@ The texts are those of docs/PROTOCOL.md and docs/FORMATS.md.";
 pub(crate) const RUN_NOTES: &str =
     "Each node runs in threads of its own, and nodes exchange messages over sockets at free ports of 127.0.0.1. The
 store of a node is the file DIR/NODE.db: one for the log, and one for each registry of the scheme. A missing store is
-created empty; a store of format 1 is migrated to format 2, which needs free space of twice its size. A run
-goes on from the records that a store has. SCRIPT has a line for each order and each question:
+created empty, or with --existing a fault; a store of format 1 is migrated to format 2, which needs free space of
+twice its size. A run goes on from the records that a store has. SCRIPT has a line for each order and each question:
 
   propose NZ 1 JP 7 NZ:1:1-100:AAU
   until JP NZ1 Completed 10000
 
 After the last line all nodes stop. The outcome of each line is written, and then the table of a run that leads to
-exactly the records of all nodes.
+exactly the records of all nodes. With --strict a line that was refused, or not possible, and a status that didn't
+come are a fault, after everything was written.
 
 Example:
   kyoto-link run scheme.json stores script
 
 Exit status:
   0  success
-  1  no run leads to these records (kyoto-link: stuck at NZ 2), or the threads of a node contradict one another
-     (kyoto-link: unsettled NZ)
+  1  no run leads to these records (kyoto-link: stuck at NZ 2), the threads of a node contradict one another
+     (kyoto-link: unsettled NZ), or with --strict a line was not carried out (kyoto-link: line 2: not carried out)
   3  SCHEME or SCRIPT has a fault, one of them or DIR could not be read, no port is free, or the output could not
      be written
   4  a store has a fault (kyoto-link: store NZ: device)

@@ -26,7 +26,7 @@ is_at s p = same_unit p.unit s
 abbrev tally : Serial → List Piece → ℕ
 tally s ps = count_by (is_at s) ps
 
-repeats_tally : (ps : List Piece) → repeats ps ≡ false → (s : Serial) → tally s ps ≤ 1
+pub repeats_tally : (ps : List Piece) → repeats ps ≡ false → (s : Serial) → tally s ps ≤ 1
 repeats_tally [] h s = omega arith
 repeats_tally (p ∷ ps) h s =
     let a = or_parts (list_any (λ q. same_unit p.unit q.unit) ps) (repeats ps) h in

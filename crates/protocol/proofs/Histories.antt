@@ -1,6 +1,7 @@
 -- Histories of journals that get longer: one record more, many more, and the first records.
-use Rattle.std.proofs.Common.{◌≡◌, ℕ, ◌+◌, Bool, true, false, ◌||◌, List, [], ◌∷◌, ◌++◌, take, drop, length, refl, sym, ap, ◌∙◌, arith, append_assoc, append-nil, take-append-drop}
-use Rattle.std.specs.List.{list_any}
+use Rattle.std.proofs.Common.{◌≡◌, ℕ, ◌+◌, ◌<◌, Bool, true, false, ◌||◌, List, [], ◌∷◌, ◌++◌, take, drop, length, refl, sym, ap, ◌∙◌, arith, append_assoc, append-nil, take-append-drop}
+use Rattle.std.specs.List.{list_any, slice_get}
+use Rattle.std.proofs.Math.Bool.{or-false}
 use Rattle.std.proofs.lemmas.List.Sums.{fold-append}
 use Rattle.units.specs.declared.code.Node.{Node}
 use Rattle.wire.specs.declared.input.Input.{Input}
@@ -9,6 +10,7 @@ use Rattle.scheme.specs.declared.registries.Scheme.{Scheme}
 use Rattle.protocol.specs.Deciding.{Verdict, IsRecorded}
 use Rattle.protocol.specs.History.{Transition, Entry, messages_of, sends, acknowledges, is_acknowledged}
 use Rattle.protocol.specs.Verdict.{verdict, transitions_made, extend, history_from, history}
+use Rattle.protocol.proofs.Replaying.{slice_get_front}
 
 -- ---- more records
 
@@ -23,7 +25,7 @@ pub history_recorded : (scheme : Scheme) (n : Node) (xs : List Input) (i : Input
     → history scheme n (xs ++ i ∷ []) ≡ record { input = i; transitions = ts } ∷ history scheme n xs
 history_recorded scheme n xs i ts enters = history_snoc scheme n xs i ∙ ap (λ (v : Verdict). record { input = i; transitions = transitions_made v } ∷ history scheme n xs) enters
 
-length_from : (scheme : Scheme) (n : Node) (es : List Entry) (xs : List Input) → length (history_from scheme n es xs) ≡ length es + length xs
+pub length_from : (scheme : Scheme) (n : Node) (es : List Entry) (xs : List Input) → length (history_from scheme n es xs) ≡ length es + length xs
 length_from scheme n es [] = omega arith
 length_from scheme n es (x ∷ xs) = let rest = length_from scheme n (extend scheme n es x) xs in omega arith
 
@@ -59,6 +61,13 @@ sends_take scheme n count xs =
     let r = sends_append scheme n (take count xs) (drop count xs) in
     (r.0, ap (λ (l : List Input). sends (history scheme n l)) (sym (take-append-drop count xs)) ∙ r.1)
 
+-- a key of the first records has the same message in the whole journal
+pub sent_so : (scheme : Scheme) (n : Node) (journal : List Input) (count key : ℕ) → key < length (sends (history scheme n (take count journal)))
+    → slice_get (sends (history scheme n journal)) key ≡ slice_get (sends (history scheme n (take count journal))) key
+sent_so scheme n journal count key below =
+    let more = sends_take scheme n count journal in
+    ap (λ (ms : List Message). slice_get ms key) more.1 ∙ slice_get_front (sends (history scheme n (take count journal))) more.0 key below
+
 -- ---- the messages that are acknowledged
 
 moved_behind : (a b c : Bool) → a || (b || c) ≡ (b || a) || c
@@ -72,10 +81,6 @@ acknowledged_from scheme n es [] key = refl
 acknowledged_from scheme n es (x ∷ xs) key =
     acknowledged_from scheme n (extend scheme n es x) xs key ∙ moved_behind (list_any (acknowledges key) xs) (acknowledges key x) (is_acknowledged es key)
 
-or_false : (b : Bool) → (b || false) ≡ b
-or_false true = refl
-or_false false = refl
-
 -- a message is acknowledged where a record of the journal says so
 pub acknowledged_in : (scheme : Scheme) (n : Node) (xs : List Input) (key : ℕ) → is_acknowledged (history scheme n xs) key ≡ list_any (acknowledges key) xs
-acknowledged_in scheme n xs key = acknowledged_from scheme n [] xs key ∙ or_false (list_any (acknowledges key) xs)
+acknowledged_in scheme n xs key = acknowledged_from scheme n [] xs key ∙ or-false (list_any (acknowledges key) xs)

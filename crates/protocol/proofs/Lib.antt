@@ -12,9 +12,3 @@ pub mod UnitsOfBlocks
 pub mod CanonicalBlocks
 pub mod RepeatedUnits
 pub mod WorkedScheme
-pub mod WorkedRows
-pub mod WorkedCleanUps
-pub mod WorkedRefusals
-pub mod WorkedAnswers
-pub mod WorkedTurns
-pub mod WorkedRequests

@@ -3,7 +3,7 @@ use Rattle.std.proofs.Common.{◌≡◌, ◌≢◌, ℕ, zero, suc, ◌+◌, ◌
 use Rattle.std.specs.Prelude.{get_or, is_some, slice_get}
 use Rattle.std.specs.List.{AllByRecursion, position_from}
 use Rattle.std.specs.declared.cmp.Ordering.TheVariants.{Less}
-use Rattle.std.proofs.lemmas.Bool.{cases_Bool, cond-false}
+use Rattle.std.proofs.lemmas.Bool.{cases_Bool, cond-false, true≢false}
 use Rattle.std.proofs.lemmas.List.{map-append, take_more}
 use Rattle.std.proofs.lemmas.Option.{slice_get-get_or, slice_get-map}
 use Rattle.units.specs.Apart.{Pairwise}
@@ -12,7 +12,7 @@ use Rattle.units.specs.Keys.{code_cmp}
 use Rattle.units.specs.declared.code.Code.{Code}
 use Rattle.units.specs.declared.code.Node.{Node}
 use Rattle.units.specs.declared.code.Node.TheVariants.{Itl, Registry}
-use Rattle.units.proofs.Same.{code_of_same, node_of_same}
+use Rattle.units.proofs.Same.{code_of_same, node_of_same, same_node-refl}
 use Rattle.units.proofs.UnitOrder.{code_below}
 use Rattle.scheme.specs.Order.{member}
 use Rattle.scheme.specs.declared.members.SchemeRegistry.{SchemeRegistry}
@@ -85,6 +85,14 @@ nodes_more ns ms i m h is old =
 
 abbrev pub Differ : Node → Node → Type 0
 Differ a b = same_node a b ≡ false
+
+-- neither is the other
+pub other_way : (a b : Node) → same_node a b ≡ false → same_node b a ≡ false
+other_way a b other =
+    elim (cases_Bool (same_node b a)) [
+      | inl same ↦ absurd (true≢false (sym (ap (same_node a) (node_of_same b a same) ∙ same_node-refl a) ∙ other))
+      | inr apart ↦ apart
+    ]
 
 -- one code isn't below itself
 not_below : (a b : Code) → code_cmp a b ≡ Less → same_code a b ≡ true → ⊥

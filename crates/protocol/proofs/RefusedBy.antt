@@ -2,7 +2,7 @@
 use Rattle.std.proofs.Common.{◌≡◌, ℕ, List, [], ◌∷◌, length, Bool, true, false, not, cond, ◌&&◌, Option, Some, None, ◌==◌, refl, subst}
 use Rattle.std.specs.Prelude.{nat_le, Contains}
 use Rattle.std.specs.List.{list_all, list_any}
-use Rattle.std.proofs.lemmas.Bool.{eqb-true}
+use Rattle.std.proofs.lemmas.Bool.{eqb-true, false≢true, and_parts}
 use Rattle.std.proofs.lemmas.Map.Views.{Contains-from_any}
 use Rattle.units.specs.Code.{same_code}
 use Rattle.units.specs.RefusalCodes.{no_row, journal_full, node_stopped, out_of_memory, transactions_used_up}
@@ -34,7 +34,7 @@ use Rattle.protocol.specs.Verdict.{verdict}
 abbrev pub Only : (ℕ → Bool) → Verdict → Type 0
 Only passes v = (code : ℕ) → v ≡ IsRefused code → passes code ≡ true
 
-refused_same : (a b : ℕ) → IsRefused a ≡ IsRefused b → a ≡ b
+pub refused_same : (a b : ℕ) → IsRefused a ≡ IsRefused b → a ≡ b
 refused_same a b e = cc (e)
 
 pub only_refused : (passes : ℕ → Bool) (code : ℕ) → passes code ≡ true → Only passes (IsRefused code)
@@ -56,21 +56,12 @@ only_cond passes false u v p q = q
 pub only_enters : (passes : ℕ → Bool) → passes journal_full ≡ true → (scheme : Scheme) (es : List Entry) (xs : List Transition) → Only passes (recorded_if_room scheme es xs)
 only_enters passes full scheme es xs = only_cond passes (nat_le scheme.records (length es)) (IsRefused journal_full) (IsRecorded xs) (only_refused passes journal_full full) (only_entered passes xs)
 
-left : (a b : Bool) → (a && b) ≡ true → a ≡ true
-left true b e = refl
-left false b e = e
-
-right : (a b : Bool) → (a && b) ≡ true → b ≡ true
-right true b e = e
-right false true e = refl
-right false false e = e
-
 pub only_refuse : (passes : ℕ → Bool) (cs : Causes) (v : Verdict) → list_all (λ c. passes c.1) cs ≡ true → Only passes v → Only passes (refuse cs v)
 only_refuse passes [] v p w = w
 only_refuse passes (c ∷ cs) v p w =
     only_cond passes c.0 (IsRefused c.1) (refuse cs v)
-    (only_refused passes c.1 (left (passes c.1) (list_all (λ d. passes d.1) cs) p))
-    (only_refuse passes cs v (right (passes c.1) (list_all (λ d. passes d.1) cs) p) w)
+    (only_refused passes c.1 (and_parts (passes c.1) (list_all (λ d. passes d.1) cs) p).0)
+    (only_refuse passes cs v (and_parts (passes c.1) (list_all (λ d. passes d.1) cs) p).1 w)
 
 -- codes of refusals by tables, or for lack of room
 pub record Rows (passes : ℕ → Bool) : Type 0 where
@@ -186,13 +177,7 @@ verdict_only scheme (Registry c) es (CleanUp t) = refused_row
 verdict_only scheme (Registry c) es (Eligible d may) = refused_row
 
 pub never_stopped : (scheme : Scheme) (n : Node) (es : List Entry) (input : Input) → verdict scheme n es input ≡ IsRefused node_stopped → ⊥
-never_stopped scheme n es input e = false_true (verdict_only scheme n es input node_stopped e)
-  where
-    false_true : false ≡ true → ⊥
-    false_true e = cc (e)
+never_stopped scheme n es input e = false≢true (verdict_only scheme n es input node_stopped e)
 
 pub never_memory : (scheme : Scheme) (n : Node) (es : List Entry) (input : Input) → verdict scheme n es input ≡ IsRefused out_of_memory → ⊥
-never_memory scheme n es input e = false_true (verdict_only scheme n es input out_of_memory e)
-  where
-    false_true : false ≡ true → ⊥
-    false_true e = cc (e)
+never_memory scheme n es input e = false≢true (verdict_only scheme n es input out_of_memory e)

@@ -31,6 +31,12 @@ slice_get_append_left [] ys k x e = absurd cc
 slice_get_append_left (a ∷ xs) ys zero x e = e
 slice_get_append_left (a ∷ xs) ys (suc k) x e = slice_get_append_left xs ys k x e
 
+-- an element of the first of two lists
+pub slice_get_front : {X : Type 0} (xs ys : List X) (k : ℕ) → k < length xs → slice_get (xs ++ ys) k ≡ slice_get xs k
+slice_get_front [] ys k below = absurd (omega arith)
+slice_get_front (x ∷ xs) ys zero below = refl
+slice_get_front (x ∷ xs) ys (suc k) below = slice_get_front xs ys k (omega arith)
+
 -- the element right after a list
 pub slice_get_seam : {X : Type 0} (xs : List X) (y : X) (ys : List X) → slice_get (xs ++ y ∷ ys) (length xs) ≡ Some y
 slice_get_seam [] y ys = refl

@@ -103,7 +103,7 @@ members = jp_member ∷ nz_member ∷ []
 few : AreFew members
 few = record { registries = lit≤ tt; accounts = (lit≤ tt, (lit≤ tt, tt)); blocks = lit≤ tt }
 
-codes_differ : jp ≡ nz → ⊥
+pub codes_differ : jp ≡ nz → ⊥
 codes_differ e = let same : ◌≡◌ {A = ℕ} 74 78 = ap (λ (c : Code). c.first) e in omega arith
 
 jp_accounts_differ : ◌≡◌ {A = ℕ} 7 8 → ⊥

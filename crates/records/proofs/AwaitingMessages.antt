@@ -5,6 +5,7 @@ use Rattle.std.specs.List.{slice_get}
 use Rattle.std.specs.Option.{option_map_or}
 use Rattle.std.specs.Prelude.{Result, Ok, Err, is_err, OnOk, OnErr}
 use Rattle.std.specs.Ordering.{is_eq, is_gt}
+use Rattle.std.proofs.Math.Bool.{or-false, and-false, and-true}
 use Rattle.std.proofs.lemmas.Bool.{cases_lt, true≢false}
 use Rattle.std.proofs.lemmas.Bool.Decides.{nat_tests}
 use Rattle.std.proofs.lemmas.List.{length-take-le}
@@ -46,16 +47,8 @@ among_append start (x ∷ xs) ys q =
     ∙ ap (λ (n : ℕ). is_at start x q || (among (suc start) xs q || among n ys q)) (omega arith)
     ∙ or_assoc (is_at start x q) (among (suc start) xs q) (among (start + length (x ∷ xs)) ys q)
 
-or_false : (b : Bool) → (b || false) ≡ b
-or_false true = refl
-or_false false = refl
-
 pub among_snoc : (start : ℕ) (xs : List Message) (m : Message) (q : Unacknowledged) → among start (xs ++ m ∷ []) q ≡ (among start xs q || is_at (start + length xs) m q)
-among_snoc start xs m q = among_append start xs (m ∷ []) q ∙ ap (λ (b : Bool). among start xs q || b) (or_false (is_at (start + length xs) m q))
-
-and_false : (b : Bool) → (b && false) ≡ false
-and_false true = refl
-and_false false = refl
+among_snoc start xs m q = among_append start xs (m ∷ []) q ∙ ap (λ (b : Bool). among start xs q || b) (or-false (is_at (start + length xs) m q))
 
 other : (a b : ℕ) → (a ≡ b → ⊥) → (a == b) ≡ false
 other a b h = grind (arith, nat_tests)
@@ -64,24 +57,20 @@ alike : (a b : ℕ) → a ≡ b → (a == b) ≡ true
 alike a b h = grind (arith, nat_tests)
 
 not_at : (key : ℕ) (m : Message) (q : Unacknowledged) → (key ≡ q.key → ⊥) → is_at key m q ≡ false
-not_at key m q h = ap (λ (b : Bool). same_node m.to (peer_of q.registry) && b) (other key q.key h) ∙ and_false (same_node m.to (peer_of q.registry))
+not_at key m q h = ap (λ (b : Bool). same_node m.to (peer_of q.registry) && b) (other key q.key h) ∙ and-false (same_node m.to (peer_of q.registry))
 
 pub among_below : (start : ℕ) (ms : List Message) (q : Unacknowledged) → q.key < start → among start ms q ≡ false
 among_below start [] q h = refl
 among_below start (m ∷ ms) q h = ap (λ (b : Bool). b || among (suc start) ms q) (not_at start m q (λ e. absurd (omega arith))) ∙ among_below (suc start) ms q (omega arith)
-
-and_true : (b : Bool) → (b && true) ≡ b
-and_true true = refl
-and_true false = refl
 
 -- the message at the key, by counting on
 pub among_at : (start : ℕ) (ms : List Message) (q : Unacknowledged) (j : ℕ) → q.key ≡ start + j → option_map_or (λ m. same_node m.to (peer_of q.registry)) (slice_get ms j) false ≡ among start ms q
 among_at start [] q j e = refl
 among_at start (m ∷ ms) q zero e =
     let here : is_at start m q ≡ same_node m.to (peer_of q.registry) =
-    ap (λ (b : Bool). same_node m.to (peer_of q.registry) && b) (alike start q.key (omega arith)) ∙ and_true (same_node m.to (peer_of q.registry)) in
+    ap (λ (b : Bool). same_node m.to (peer_of q.registry) && b) (alike start q.key (omega arith)) ∙ and-true (same_node m.to (peer_of q.registry)) in
     let later : among (suc start) ms q ≡ false = among_below (suc start) ms q (omega arith) in
-    sym (ap (λ (b : Bool). is_at start m q || b) later ∙ or_false (is_at start m q) ∙ here)
+    sym (ap (λ (b : Bool). is_at start m q || b) later ∙ or-false (is_at start m q) ∙ here)
 among_at start (m ∷ ms) q (suc j) e =
     among_at (suc start) ms q j (omega arith) ∙ sym (ap (λ (b : Bool). b || among (suc start) ms q) (not_at start m q (λ h. absurd (omega arith))))
 

@@ -4,7 +4,8 @@ use Rattle.std.specs.BTreeSet.{BTreeSet, contains}
 use Rattle.std.specs.List.{slice_get}
 use Rattle.std.specs.Option.{option_map_or, option_to_list}
 use Rattle.std.specs.Ordering.{is_eq}
-use Rattle.std.proofs.lemmas.Bool.{cases_lt, true≢false, eqb-true}
+use Rattle.std.proofs.Math.Bool.{or-false, not-not}
+use Rattle.std.proofs.lemmas.Bool.{cases_lt, true≢false, eqb-true, false_from_ne_true}
 use Rattle.std.proofs.lemmas.List.{length-take-le}
 use Rattle.std.proofs.lemmas.List.Folds.{list_any-append}
 use Rattle.std.proofs.lemmas.Option.{slice_get_within, slice_get_past}
@@ -25,20 +26,11 @@ use Rattle.records.proofs.Sendings.{acknowledged_below, counts_snoc, counts_fron
 
 -- ---- what is acknowledged
 
-or_false : (b : Bool) → (b || false) ≡ b
-or_false true = refl
-or_false false = refl
-
 pub acknowledged_more : (S : List Sent) (x : Sent) (key : ℕ) → is_key_acknowledged (S ++ x ∷ []) key ≡ (is_key_acknowledged S key || acknowledges_key key x)
-acknowledged_more S x key = list_any-append (acknowledges_key key) S (x ∷ []) ∙ ap (λ (b : Bool). is_key_acknowledged S key || b) (or_false (acknowledges_key key x))
+acknowledged_more S x key = list_any-append (acknowledges_key key) S (x ∷ []) ∙ ap (λ (b : Bool). is_key_acknowledged S key || b) (or-false (acknowledges_key key x))
 
 acknowledged_sends : (S : List Sent) (ms : List Message) (key : ℕ) → is_key_acknowledged (S ++ Sends ms ∷ []) key ≡ is_key_acknowledged S key
-acknowledged_sends S ms key = acknowledged_more S (Sends ms) key ∙ or_false (is_key_acknowledged S key)
-
--- what isn't so is false
-pub not_true : (b : Bool) → (b ≡ true → ⊥) → b ≡ false
-not_true true h = absurd (h refl)
-not_true false h = refl
+acknowledged_sends S ms key = acknowledged_more S (Sends ms) key ∙ or-false (is_key_acknowledged S key)
 
 -- whether a set has a message to a node
 pub at_unacknowledged : (ps : BTreeSet Unacknowledged) (ms : List Message) (acked : ℕ → Bool) (n : Node) (key : ℕ) → ((q : Unacknowledged) → contains unacknowledged_cmp ps q ≡ awaits ms acked (peer_of q.registry) q.key)
@@ -85,7 +77,7 @@ sends_kept rs r ms new ps qs kept none count added =
     let view : sent_in 0 (rs ++ r ∷ []) (ms ++ new) ≡ S ++ Sends new ∷ [] =
     sent_in_snoc 0 rs r ms new (from_zero rs ms kept.counted) (omega arith) ∙ ap (λ (a : Option ℕ). S ++ act a new ∷ []) none in
     let later : (q : Unacknowledged) → among (length ms) new q ≡ true → is_key_acknowledged S q.key ≡ false =
-    λ q h. let from : length ms ≤ q.key = among_from (length ms) new q h in not_true (is_key_acknowledged S q.key) (λ e. let before : q.key < length ms = acknowledged_below 0 rs ms (length ms) q.key kept.counted e in absurd (omega arith)) in
+    λ q h. let from : length ms ≤ q.key = among_from (length ms) new q h in false_from_ne_true (is_key_acknowledged S q.key) (λ e. let before : q.key < length ms = acknowledged_below 0 rs ms (length ms) q.key kept.counted e in absurd (omega arith)) in
     record {
       view = view;
       kept = subst (λ (l : List Sent). IsKept l (rs ++ r ∷ []) (ms ++ new) qs) (sym view) (record {
@@ -258,13 +250,9 @@ acknowledged_at rs ms ps key m kept at =
     ap not (at_unacknowledged ps ms (is_key_acknowledged (sent_in 0 rs ms)) m.to key kept.awaited
     ∙ ap (λ (o : Option Message). option_map_or (λ x. same_node x.to m.to) o false && not acked) at
     ∙ ap (λ (b : Bool). b && not acked) (same_node-refl m.to))
-    ∙ not_not acked
-  where
-    not_not : (b : Bool) → not (not b) ≡ b
-    not_not true = refl
-    not_not false = refl
+    ∙ not-not acked
 
 pub unacknowledged_past : (rs : List Record) (ms : List Message) (key : ℕ) → AreCounts 0 rs (length ms) → slice_get ms key ≡ None → false ≡ is_key_acknowledged (sent_in 0 rs ms) key
 unacknowledged_past rs ms key counted at =
     let past : length ms ≤ key = none_past ms key at in
-    sym (not_true (is_key_acknowledged (sent_in 0 rs ms) key) (λ e. let below : key < length ms = acknowledged_below 0 rs ms (length ms) key counted e in absurd (omega arith)))
+    sym (false_from_ne_true (is_key_acknowledged (sent_in 0 rs ms) key) (λ e. let below : key < length ms = acknowledged_below 0 rs ms (length ms) key counted e in absurd (omega arith)))

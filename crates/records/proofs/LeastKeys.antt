@@ -3,7 +3,7 @@ use Rattle.std.proofs.Common.{◌≡◌, ℕ, ◌≤◌, Bool, true, false, List
 use Rattle.std.specs.BTreeSet.{BTreeSet, contains, IsKeyRangeOf}
 use Rattle.std.specs.Ordering.{is_gt}
 use Rattle.std.specs.declared.ops.Bound.TheVariants.{Included, Unbounded}
-use Rattle.std.proofs.lemmas.Bool.{true≢false}
+use Rattle.std.proofs.lemmas.Bool.{true≢false, false_from_ne_true}
 use Rattle.units.specs.declared.code.Code.{Code}
 use Rattle.units.specs.declared.code.Node.{Node}
 use Rattle.units.specs.declared.code.Node.TheVariants.{Itl, Registry}
@@ -14,7 +14,7 @@ use Rattle.records.specs.declared.unacknowledged.Unacknowledged.{Unacknowledged}
 use Rattle.records.specs.Kept.{AreCounts, IsKept, sent_in}
 use Rattle.records.specs.Sending.{Sent, messages, is_key_acknowledged}
 use Rattle.records.specs.declared.record.Record.{Record}
-use Rattle.records.proofs.KeptTables.{at_unacknowledged, not_true}
+use Rattle.records.proofs.KeptTables.{at_unacknowledged}
 use Rattle.records.proofs.Sendings.{all_messages}
 use Rattle.units.proofs.Same.{code_of_same, same_code-refl}
 use Rattle.units.specs.Code.{same_code}
@@ -42,13 +42,13 @@ module _ (ps : BTreeSet Unacknowledged) (ms : List Message) (acked : ℕ → Boo
   above first rest k range h waits = range.2 (unacknowledged_of n k) (unacknowledged_go_up n from k h, tt) (at_unacknowledged ps ms acked n k kept ∙ waits)
 
   pub least_other : (first : Unacknowledged) (rest : List Unacknowledged) → IsRange n from ps (first ∷ rest) → (first.registry ≡ (unacknowledged_of n from).registry → ⊥) → IsLeastFrom (awaits ms acked n) from None
-  least_other first rest range other = λ k h. not_true (awaits ms acked n k) (λ waits. other (between_unacknowledged n first from k range.1.0.0 (above first rest k range h waits)))
+  least_other first rest range other = λ k h. false_from_ne_true (awaits ms acked n k) (λ waits. other (between_unacknowledged n first from k range.1.0.0 (above first rest k range h waits)))
 
   pub least_some : (first : Unacknowledged) (rest : List Unacknowledged) → IsRange n from ps (first ∷ rest) → first.registry ≡ (unacknowledged_of n from).registry → IsLeastFrom (awaits ms acked n) from (Some first.key)
   least_some first rest range same = (
     keys_go_up n first from same range.1.0.0,
     subst (λ (m : Node). awaits ms acked m first.key ≡ true) (ap peer_of same ∙ peer_is n from) (sym (kept first) ∙ range.1.1),
-    λ k h below. not_true (awaits ms acked n k) (λ waits. let up : first.key ≤ k = key_below n first from k same (above first rest k range h waits) in omega arith),
+    λ k h below. false_from_ne_true (awaits ms acked n k) (λ waits. let up : first.key ≤ k = key_below n first from k same (above first rest k range h waits) in omega arith),
   )
 
 -- by the effect of each record

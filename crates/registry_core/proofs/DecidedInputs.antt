@@ -31,6 +31,7 @@ use Rattle.protocol.specs.History.{Entry, Transition, newest, transitions_of}
 use Rattle.protocol.specs.Verdict.{history}
 use Rattle.checks.specs.Knowing.{Knows}
 use Rattle.checks.specs.Refusing.{first_of}
+use Rattle.safety.proofs.MovesAndHistories.RefusalCauses.{refuse_none}
 use Rattle.safety.proofs.MovesAndHistories.TableRows.{acquirer_from, acquirer_notified, unless_moves}
 use Rattle.safety.proofs.ListLemmas.TestsOfSameness.{status_of_same}
 use Rattle.registry_core.specs.Effects.{IsEffect, ending}
@@ -39,7 +40,7 @@ use Rattle.registry_core.specs.Readings.{is_foreign}
 use Rattle.registry_core.specs.Taking.{verdict_by_rules}
 use Rattle.registry_core.specs.declared.tables.Tables.{Tables}
 use Rattle.checks.proofs.FirstCauses.{refuse_first}
-use Rattle.registry_core.proofs.FirstRefusals.{first_none, refuse_none}
+use Rattle.registry_core.proofs.FirstRefusals.{first_none}
 use Rattle.registry_core.proofs.KnownHoldings.{knows}
 use Rattle.safety.proofs.OneRegistry.RecordedEntries.{entered_made, replays_entered}
 use Rattle.registry_core.proofs.TablesSayHistory.{foreign_there_so}

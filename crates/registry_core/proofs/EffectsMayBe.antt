@@ -3,7 +3,7 @@
 use Rattle.std.specs.FinMap as map
 use Rattle.std.proofs.Common.{Bool, List, None, Option, Some, [], ap, cond, false, inl, not, refl, subst, sym, true, ◌∙◌, ◌∷◌, ◌≡◌}
 use Rattle.std.specs.Prelude.{option_map}
-use Rattle.std.proofs.lemmas.Bool.{cond-true}
+use Rattle.std.proofs.lemmas.Bool.{cond-true, not-true}
 use Rattle.units.specs.Code.{same_code}
 use Rattle.units.specs.declared.code.Code.{Code}
 use Rattle.units.specs.declared.code.Node.TheVariants.{Registry}
@@ -22,6 +22,7 @@ use Rattle.protocol.specs.History.{Entry, Transition, messages_of, newest, trans
 use Rattle.protocol.specs.Verdict.{history, transitions_made, verdict}
 use Rattle.acquirer.specs.Crediting.{MayCredit}
 use Rattle.acquirer.specs.Transfers as acquirer
+use Rattle.units.proofs.Lists.FirstIndices.{none_from_test}
 use Rattle.units.proofs.Lists.Membership.{In}
 use Rattle.units.proofs.Lists.OneValue.{clash}
 use Rattle.safety.proofs.MovesAndHistories.TableMoves.{RegistryMove, arrives, asks, bares, finishes, proposes, registry_moves, concludes}
@@ -39,7 +40,6 @@ use Rattle.registry_core.specs.declared.effect.RegistryEffect.TheVariants.{Arriv
 use Rattle.registry_core.specs.declared.tables.Tables.{Tables}
 use Rattle.safety.proofs.OneRegistry.ApartContents.{awaited_apart}
 use Rattle.safety.proofs.OneRegistry.UnitHoldingsAfterMoves.{units_absent}
-use Rattle.safety.proofs.ListLemmas.FirstFound.{none_is}
 use Rattle.registry_core.proofs.OpenReceivers.{receivers_open}
 use Rattle.safety.proofs.OneRegistry.RecordedEntries.{Entered, entered_made, replays_entered}
 
@@ -58,11 +58,7 @@ row_none {R} keep row xs t e = ap (λ (o : Option Transition). cond (keep t) (op
 
 -- the transaction is of another registry
 pub foreign_of : (c : Code) (t : TransactionId) → is_foreign c t ≡ true → same_code t.code c ≡ false
-foreign_of c t h = go (same_code t.code c) h
-  where
-    go : (b : Bool) → not b ≡ true → b ≡ false
-    go true e = absurd (cc (e))
-    go false e = refl
+foreign_of c t h = not-true (same_code t.code c) h
 
 module _ (scheme : Scheme) (c : Code) (es : List Entry) (tables : Tables) (kept : AreKept scheme c es tables) (entered : Entered scheme c es) where
   new_own : (t : TransactionId) → newest (transitions_of es) t ≡ None → map.get tables.initiator.transfers t ≡ None
@@ -96,9 +92,9 @@ module _ (scheme : Scheme) (c : Code) (es : List Entry) (tables : Tables) (kept 
   arrive_may input x id told content (finishes n moment q new f was foreign move none) h = absurd h
 
   forestall_may : (input : Input) (x : Transition) (id : TransactionId) → RegistryMove scheme c es input x → IsEffect c es input x (Forestall id) → map.get tables.acquirer.transfers id ≡ None
-  forestall_may input x id (bares n moment f cancelled none foreign) h = new_foreign id (none_is (newest (transitions_of es) id) h.1)
-  forestall_may input x id (concludes n moment q new f was own move) h = new_foreign id (none_is (newest (transitions_of es) id) h.1)
-  forestall_may input x id (finishes n moment q new f was foreign move none) h = new_foreign id (none_is (newest (transitions_of es) id) h.1)
+  forestall_may input x id (bares n moment f cancelled none foreign) h = new_foreign id (none_from_test (newest (transitions_of es) id) h.1)
+  forestall_may input x id (concludes n moment q new f was own move) h = new_foreign id (none_from_test (newest (transitions_of es) id) h.1)
+  forestall_may input x id (finishes n moment q new f was foreign move none) h = new_foreign id (none_from_test (newest (transitions_of es) id) h.1)
   forestall_may input x id (proposes o t none is fresh) h = absurd h
   forestall_may input x id (asks t q was own stood) h = absurd h
   forestall_may input x id (arrives p moment found f s is none foreign mine) h = absurd h

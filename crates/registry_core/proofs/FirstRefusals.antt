@@ -8,6 +8,7 @@ use Rattle.units.specs.declared.code.Code.{Code}
 use Rattle.protocol.specs.History.{Entry, Transition, proposals}
 use Rattle.protocol.specs.Deciding.{IsRefused, IsRepeat, Verdict, by_row, recorded_if_room, refuse}
 use Rattle.safety.proofs.MovesAndHistories.NewestTransitions.{Made}
+use Rattle.safety.proofs.MovesAndHistories.RefusalCauses.{refuse_none}
 use Rattle.safety.proofs.MovesAndHistories.TableMoves.{NoneStands}
 use Rattle.status.specs.Order.{Order}
 use Rattle.wire.specs.declared.input.Input.TheVariants.{Propose}
@@ -37,10 +38,6 @@ first_none (c ∷ cs) h = go c.0 c.1 h (first_none cs)
 pub none_first : (cs : Causes) → NoneStands cs → first_of cs ≡ None
 none_first [] h = refl
 none_first (c ∷ cs) h = cond-false c.0 (Some c.1) (first_of cs) h.0 ∙ none_first cs h.1
-
-pub refuse_none : (cs : Causes) (v : Verdict) → NoneStands cs → refuse cs v ≡ v
-refuse_none [] v h = refl
-refuse_none (c ∷ cs) v h = cond-false c.0 (IsRefused c.1) (refuse cs v) h.0 ∙ refuse_none cs v h.1
 
 -- causes in two parts
 none_parts : (xs ys : Causes) → NoneStands (xs ++ ys) → NoneStands xs × NoneStands ys

@@ -30,13 +30,14 @@ use Rattle.protocol.specs.History.{Entry, is_known, newest, proposals, stands_at
 use Rattle.protocol.specs.Pieces.{pieces}
 use Rattle.protocol.specs.Verdict.{history}
 use Rattle.status.specs.declared.status.Status.TheVariants.{Proposed}
+use Rattle.safety.proofs.MovesAndHistories.RefusalCauses.{refuse_none}
 use Rattle.checks.specs.Refusing.{first_of, order_refusals}
 use Rattle.initiator.specs.Transfers as initiator
 use Rattle.acquirer.specs.Transfers as acquirer
 use Rattle.registry_core.specs.Kept.{IsKept}
 use Rattle.registry_core.specs.Taking.{verdict_by_rules}
 use Rattle.registry_core.specs.declared.tables.Tables.{Tables}
-use Rattle.registry_core.proofs.FirstRefusals.{first_none, order_causes, refuse_none}
+use Rattle.registry_core.proofs.FirstRefusals.{first_none, order_causes}
 use Rattle.registry_core.proofs.TablesSayHistory.{foreign_content_so, foreign_known_so, own_column_so, own_known_so, own_stands_so, own_there_so}
 use Rattle.registry_core.proofs.TakenInputs.{verdict_so}
 

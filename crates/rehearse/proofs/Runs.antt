@@ -8,7 +8,7 @@ use Rattle.protocol.specs.declared.event.Outcome.{Outcome}
 use Rattle.protocol.specs.declared.event.WorldEvent.{WorldEvent}
 use Rattle.protocol.specs.World.{World, opening, step, run, outcomes}
 use Rattle.command_faults.specs.declared.fault.OpFault.{OpFault}
-use Rattle.command_faults.specs.declared.fault.OpFault.TheVariants.{Input, Read, Write, Store, Stuck, Unsettled, Setup, NoMemory}
+use Rattle.command_faults.specs.declared.fault.OpFault.TheVariants.{Input, Read, Write, Store, Stuck, Unsettled, Setup, Undone, NoMemory}
 use Rattle.input_lines.specs.EventLines.{IsEventLine}
 use Rattle.input_lines.specs.Lines.{IsLine, IsNextFault, room_after}
 use Rattle.command_faults.specs.SchemeFile.{IsSchemeLineFault}
@@ -90,6 +90,7 @@ next_fault Was lines all rest room number (Store node fault) told some wrong = a
 next_fault Was lines all rest room number (Stuck node place) told some wrong = absurd wrong
 next_fault Was lines all rest room number (Unsettled node) told some wrong = absurd wrong
 next_fault Was lines all rest room number (Setup fault) told some wrong = absurd wrong
+next_fault Was lines all rest room number (Undone line) told some wrong = absurd wrong
 
 pub told_all : (Was : List WorldEvent → Type 0) (lines : List ℕ) (all : ℕ) (rest : List ℕ) (room number : ℕ) → Told Was lines all rest room number → length rest ≡ 0
     → (events : List WorldEvent) × AreEvents lines all events × Was events
@@ -109,6 +110,7 @@ early input first lines scheme (Store node fault) begins is wrong = absurd wrong
 early input first lines scheme (Stuck node place) begins is wrong = absurd wrong
 early input first lines scheme (Unsettled node) begins is wrong = absurd wrong
 early input first lines scheme (Setup fault) begins is wrong = absurd wrong
+early input first lines scheme (Undone line) begins is wrong = absurd wrong
 
 pub early_too : {T : Type 0} (input first lines : List ℕ) (scheme : Scheme) (r : Result T OpFault) → IsLine input longest_input first lines → IsSchemeText first scheme
     → IfErr r (IsLinesFault lines (room_after longest_input first)) → IfErr r (IsEarlyFault input)
@@ -124,6 +126,7 @@ scheme_early input first lines (Store node fault) begins wrong = absurd wrong
 scheme_early input first lines (Stuck node place) begins wrong = absurd wrong
 scheme_early input first lines (Unsettled node) begins wrong = absurd wrong
 scheme_early input first lines (Setup fault) begins wrong = absurd wrong
+scheme_early input first lines (Undone line) begins wrong = absurd wrong
 
 pub scheme_too : {T : Type 0} (input first lines : List ℕ) (f : OpFault) (r : Result T OpFault) → IsErrAnd r (λ e. e ≡ f) → IsLine input longest_input first lines → IsSchemeLineFault first f → IfErr r (IsEarlyFault input)
 scheme_too input first lines f (Ok t) same begins wrong = tt

@@ -15,19 +15,19 @@ use scheme::Scheme;
 use std::alloc::Global;
 use std::io::{Read, Write};
 use units::NoMemory;
-use world::World;
+use world::ReachedWorld;
 
 /// The world that the events so far lead to, and the lines of their outcomes.
 #[derive(Drop)]
 struct Rehearsal {
     alloc: Global,
-    world: World,
+    world: ReachedWorld,
     lines: String,
 }
 
 /// Applies an event, and adds the line of its outcome.
 fn run_event(
-    world: &mut World,
+    world: &mut ReachedWorld,
     text: &mut String,
     number: u64,
     event: &WorldEvent,
@@ -53,7 +53,7 @@ impl Reporter for Rehearsal {
     fn new(alloc: Global, scheme: &Scheme) -> Result<Rehearsal, NoMemory> {
         Ok(Rehearsal {
             alloc,
-            world: World::new(alloc, scheme)?,
+            world: ReachedWorld::new(alloc, scheme)?,
             lines: String::new(alloc),
         })
     }
@@ -65,7 +65,7 @@ impl Reporter for Rehearsal {
 
     fn text(self) -> Result<String, NoMemory> {
         let mut text = self.lines;
-        push_table(self.alloc, &mut text, &self.world, Form::Lines)?;
+        push_table(self.alloc, &mut text, self.world.as_world(), Form::Lines)?;
         Ok(text)
     }
 }

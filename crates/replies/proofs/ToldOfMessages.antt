@@ -3,6 +3,7 @@ use Rattle.std.proofs.Common.{◌≡◌, ℕ, zero, suc, ◌<◌, ◌≤◌, ◌
 use Rattle.std.specs.Prelude.{Contains, slice_index_or}
 use Rattle.units.specs.RefusalCodes.{not_a_message, node_stopped, out_of_memory}
 use Rattle.units.specs.declared.refusal.Refusal.{Refusal}
+use Rattle.units.proofs.Lists.OneValue.{clash}
 use Rattle.protocol.specs.Moment.{Moment}
 use Rattle.protocol.specs.Status.{Status}
 use Rattle.wire.specs.declared.input.Input.TheVariants.{Received}
@@ -53,23 +54,20 @@ judged_verdict codes place (IsRefused code) only = codes code (only code refl)
 message_code : (code : ℕ) → Contains message_codes code → IsReplyCode code
 message_code code h = code_at h.0 code h.2 h.1
 
-not_false : (b : Bool) → b ≡ true → b ≡ false → ⊥
-not_false b t f = cc (sym t ∙ f)
-
 judged_result :
     MessagesRefusedBy message_codes → (m : Message) (moment : Moment) (old new : StateView) (result : Result Stepped Refusal) → Takes old (Received m moment) result new
     → (runs : Bool) → old.runs ≡ runs → is_without_journal (told_of result) ≡ false → IsJudged (told_of result)
 judged_result messages m moment old new result takes false e f =
     let stops : result ≡ Err stopped = (takes.0 e).0 in
-    absurd (not_false _ (ap (λ (r : Result Stepped Refusal). is_without_journal (told_of r)) stops) f)
+    absurd (clash _ (ap (λ (r : Result Stepped Refusal). is_without_journal (told_of r)) stops) f)
 judged_result messages m moment old new result takes true e f =
     elim ((takes.1 e).0) [
       | inl expected ↦ subst (λ (r : Result Stepped Refusal). IsJudged (told_of r)) (sym expected) (judged_verdict message_code (length old.journal) _ (λ code. messages old.scheme old.node (history old.scheme old.node old.journal) m moment code))
-      | inr lacks ↦ absurd (not_false _ (ap (λ (r : Result Stepped Refusal). is_without_journal (told_of r)) lacks) f)
+      | inr lacks ↦ absurd (clash _ (ap (λ (r : Result Stepped Refusal). is_without_journal (told_of r)) lacks) f)
     ]
 
 judged : MessagesRefusedBy message_codes → (m : Message) (moment : Moment) (note : Note) → IsTakeOf (Received m moment) note → is_without_journal note.told ≡ false → IsJudged note.told
-judged messages m moment note (inl lacks) f = absurd (not_false _ (ap is_without_journal lacks) f)
+judged messages m moment note (inl lacks) f = absurd (clash _ (ap is_without_journal lacks) f)
 judged messages m moment note (inr h) f =
     let tells = h.2 in
     let same : note.told ≡ told_of tells.0 = tells.1 in
@@ -93,7 +91,7 @@ backs_from line reply note receipt source gives same = subst (λ (n : Note). Bac
 pub ended_at_once : (old new : SeatView) (note : Note) (answer : AnswerView) → is_without_journal note.told ≡ true → new ≡ kept old note → answer.receipt ≡ None → Gives note.told answer.reply → EndsBy old new note answer
 ended_at_once old new note answer t seat receipt gives = record {
   at_once = λ _. (seat, receipt, gives);
-  later = λ f. absurd (not_false _ t f);
+  later = λ f. absurd (clash _ t f);
 }
 
 pub ended_later :
@@ -101,11 +99,11 @@ pub ended_later :
     → ((new ≡ confirmed between note) × (answer.receipt ≡ Some note) × Gives note.told answer.reply) ⊎ ((new ≡ between) × (answer.receipt ≡ None) × IsRefusedBy node_stopped answer.reply)
     → EndsBy old new note answer
 ended_later old between new note answer f seat (inl h) = record {
-  at_once = λ t. absurd (not_false _ t f);
+  at_once = λ t. absurd (clash _ t f);
   later = λ _. inl (h.0 ∙ ap (λ (s : SeatView). confirmed s note) seat, h.1, h.2);
 }
 ended_later old between new note answer f seat (inr h) = record {
-  at_once = λ t. absurd (not_false _ t f);
+  at_once = λ t. absurd (clash _ t f);
   later = λ _. inr (h.0 ∙ seat, h.1, h.2);
 }
 

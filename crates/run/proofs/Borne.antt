@@ -6,6 +6,7 @@ use Rattle.units.specs.declared.code.Node.{Node}
 use Rattle.protocol.specs.Input.{Input}
 use Rattle.protocol.specs.Scheme.{Scheme}
 use Rattle.protocol.specs.declared.node_core.Stepped.TheVariants.{Recorded, Repeat, Late}
+use Rattle.protocol.proofs.Replaying.{slice_get_append_left}
 use Rattle.desk.specs.Covering.{Fits}
 use Rattle.desk.specs.Expected.{expected}
 use Rattle.desk.specs.Settling.{Bears, IsSettled}
@@ -75,18 +76,13 @@ module _ (scheme : Scheme) (n : Node) (held : StateView) (heard : List SeatView)
 
 -- ---- a journal that goes on
 
-get_more : {X : Type 0} (xs ys : List X) (k : ℕ) (x : X) → slice_get xs k ≡ Some x → slice_get (xs ++ ys) k ≡ Some x
-get_more [] ys k x is = absurd (cc (is))
-get_more (z ∷ xs) ys zero x is = is
-get_more (z ∷ xs) ys (suc k) x is = get_more xs ys k x is
-
 expected_more : (scheme : Scheme) (n : Node) (journal more : List Input) (asked : Asked) (told : Told) → IsExpectedWithin scheme n journal asked told → IsExpectedWithin scheme n (journal ++ more) asked told
 expected_more scheme n journal more asked told h =
     (h.0, (omega (arith, h.1.0, length-append journal more), ap (λ (j : List Input). expected scheme n j asked) (take-append-le h.0 journal more h.1.0) ∙ h.1.1))
 
 -- a journal that goes on still bears out all that it bore out before
 pub borne_more : (scheme : Scheme) (n : Node) (journal more : List Input) (asked : Asked) (told : Told) → IsBorne scheme n journal asked told → IsBorne scheme n (journal ++ more) asked told
-borne_more scheme n journal more (Take input) (Step (Recorded place)) h = get_more journal more place input h
+borne_more scheme n journal more (Take input) (Step (Recorded place)) h = slice_get_append_left journal more place input h
 borne_more scheme n journal more (Query id) (Step (Recorded place)) h = absurd h
 borne_more scheme n journal more asked (Step Repeat) h = expected_more scheme n journal more asked (Step Repeat) h
 borne_more scheme n journal more asked (Step Late) h = expected_more scheme n journal more asked (Step Late) h

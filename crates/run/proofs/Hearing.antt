@@ -1,11 +1,10 @@
 -- What a seat has kept of the results that it got at a desk.
 use Rattle.std.proofs.Common.{◌≡◌, ◌∙◌, ◌+◌, ◌<◌, ◌≤◌, ℕ, Bool, true, false, true≢false, List, [], ◌∷◌, ◌++◌, length, Option, Result, Ok, Err, inl, inr, refl, sym, ap, subst, arith, max, if◌then◌else◌, length-append}
+use Rattle.std.proofs.lemmas.List.Elements.{Contains-append_left, Contains-push}
 use Rattle.std.specs.Prelude.{Contains}
 use Rattle.units.specs.declared.refusal.Refusal.{Refusal}
 use Rattle.status.specs.declared.id.TransactionId.{TransactionId}
 use Rattle.protocol.specs.Input.{Input}
-use Rattle.units.proofs.Lists.Membership.{In_left, In_right}
-use Rattle.units.proofs.Lists.Positions.{In_contains, contains_in}
 use Rattle.protocol.specs.Cores.{after, answer_of}
 use Rattle.protocol.specs.Deciding.{Verdict, IsRecorded, IsRepeat, IsLate, IsRefused}
 use Rattle.protocol.specs.declared.node_core.Stepped.{Stepped}
@@ -27,12 +26,6 @@ use Rattle.run.specs.Heard.{Grows, HasHeard, HasNoted, IsConfirmed}
 
 -- ---- lists
 
-in_front : {X : Type 0} (xs ys : List X) (x : X) → Contains xs x → Contains (xs ++ ys) x
-in_front xs ys x is = contains_in (xs ++ ys) x (In_left x xs ys (In_contains xs x is))
-
-at_end : {X : Type 0} (xs : List X) (x : X) → Contains (xs ++ x ∷ []) x
-at_end xs x = contains_in (xs ++ x ∷ []) x (In_right x xs (x ∷ []) (inl refl))
-
 max_left : (a b : ℕ) → a ≤ max a b
 max_left a b = omega arith
 
@@ -48,7 +41,7 @@ pub grows_on : (a b c : SeatView) → Grows a b → Grows b c → Grows a c
 grows_on a b c f g = record { tickets = λ t is. g.tickets t (f.tickets t is); notes = λ n is. g.notes n (f.notes n is); confirmed = omega (arith, f.confirmed, g.confirmed) }
 
 more_tickets : (ts : List Ticket) (told : Told) (asked : Asked) (t : Ticket) → Contains ts t → Contains (tickets_after ts told asked) t
-more_tickets ts (Step (Recorded place)) (Take input) t is = in_front ts (record { place = place; input = input } ∷ []) t is
+more_tickets ts (Step (Recorded place)) (Take input) t is = Contains-append_left ts (record { place = place; input = input } ∷ []) t is
 more_tickets ts (Step (Recorded place)) (Query id) t is = is
 more_tickets ts (Step Repeat) asked t is = is
 more_tickets ts (Step Late) asked t is = is
@@ -57,13 +50,13 @@ more_tickets ts (Refused refusal) asked t is = is
 
 either_way : (b : Bool) (ns : List Note) (note n : Note) → Contains ns n → Contains (if b then ns else ns ++ note ∷ []) n
 either_way true ns note n is = is
-either_way false ns note n is = in_front ns (note ∷ []) n is
+either_way false ns note n is = Contains-append_left ns (note ∷ []) n is
 
 more_notes : (ns : List Note) (told : Told) (note n : Note) → Contains ns n → Contains (notes_after ns told note) n
 more_notes ns (Step (Recorded place)) note n is = is
-more_notes ns (Step Repeat) note n is = in_front ns (note ∷ []) n is
-more_notes ns (Step Late) note n is = in_front ns (note ∷ []) n is
-more_notes ns (Status status) note n is = in_front ns (note ∷ []) n is
+more_notes ns (Step Repeat) note n is = Contains-append_left ns (note ∷ []) n is
+more_notes ns (Step Late) note n is = Contains-append_left ns (note ∷ []) n is
+more_notes ns (Status status) note n is = Contains-append_left ns (note ∷ []) n is
 more_notes ns (Refused refusal) note n is = either_way (is_unjudged refusal.code) ns note n is
 
 kept_grows : (seat : SeatView) (note : Note) → Grows seat (kept seat note)
@@ -153,7 +146,7 @@ noted_last : (old : SeatView) (asked : Asked) (told : Told) (len : ℕ) → note
     → HasNoted (confirmed (kept old (record { asked = asked; told = told; length = len })) (record { asked = asked; told = told; length = len })) asked told
 noted_last old asked told len added =
     let note : Note = record { asked = asked; told = told; length = len } in
-    (len, subst (λ ns. Contains ns note) (sym added) (at_end old.notes note), max_right old.confirmed len)
+    (len, subst (λ ns. Contains ns note) (sym added) (Contains-push old.notes note), max_right old.confirmed len)
 
 judged_last : (old : SeatView) (asked : Asked) (refusal : Refusal) (len : ℕ) → is_unjudged refusal.code ≡ false
     → notes_after old.notes (Refused refusal) (record { asked = asked; told = Refused refusal; length = len }) ≡ old.notes ++ record { asked = asked; told = Refused refusal; length = len } ∷ []
@@ -174,7 +167,7 @@ order_last : (old : SeatView) (input : Input) (told : Told) (len : ℕ) → IsTa
     → HasHeard (confirmed (kept old (record { asked = Take input; told = told; length = len })) (record { asked = Take input; told = told; length = len })) (Take input) told
 order_last old input (Step (Recorded place)) len takes =
     let below = place_below (record { asked = Take input; told = Step (Recorded place); length = len }) input place takes refl in
-    (at_end old.tickets (record { place = place; input = input }), omega (arith, below, max_right old.confirmed len))
+    (Contains-push old.tickets (record { place = place; input = input }), omega (arith, below, max_right old.confirmed len))
 order_last old input (Step Repeat) len takes = heard_last old (Take input) (Step Repeat) len (λ place e. cc (e))
 order_last old input (Step Late) len takes = heard_last old (Take input) (Step Late) len (λ place e. cc (e))
 order_last old input (Status status) len takes = heard_last old (Take input) (Status status) len (λ place e. cc (e))

@@ -5,6 +5,7 @@ pub mod Noting
 pub mod Ordering
 pub mod Indices
 pub mod Wired
+pub mod Undone
 pub mod WorkedNotes
 pub mod Borne
 pub mod Collected
@@ -13,3 +14,4 @@ pub mod Ordered
 pub mod Reported
 pub mod Written
 pub mod WorkedOrders
+pub mod WorkedUndone

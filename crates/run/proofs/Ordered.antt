@@ -152,7 +152,7 @@ ordered_are (x ∷ xs) place ts from ordered ascend once = turns_first place x x
 
 -- ---- the seats of a settled node
 
-get_after : {X : Type 0} (n : ℕ) (xs : List X) (k : ℕ) → slice_get (drop n xs) k ≡ slice_get xs (n + k)
+pub get_after : {X : Type 0} (n : ℕ) (xs : List X) (k : ℕ) → slice_get (drop n xs) k ≡ slice_get xs (n + k)
 get_after zero xs k = ap (slice_get xs) (omega arith)
 get_after (suc n) [] k = refl
 get_after (suc n) (x ∷ xs) k = get_after n xs k ∙ ap (slice_get (x ∷ xs)) {x = suc (n + k)} (omega arith)

@@ -1,5 +1,5 @@
 -- The committed records of settled nodes bear out the answers that a script heard.
-use Rattle.std.proofs.Common.{◌≡◌, ◌∙◌, ◌<◌, ◌≤◌, ℕ, zero, suc, false, All, List, [], ◌∷◌, ◌++◌, length, map, take, Some, sym, ap, subst, arith}
+use Rattle.std.proofs.Common.{◌≡◌, ◌∙◌, ◌<◌, ◌≤◌, ℕ, zero, suc, false, All, List, [], ◌∷◌, ◌++◌, length, map, take, Some, refl, sym, ap, subst, arith}
 use Rattle.std.specs.Prelude.{Contains, slice_get, slice_index_or}
 use Rattle.std.proofs.lemmas.List.Elements.{All-contains, All-weaker, Contains-push}
 use Rattle.std.proofs.lemmas.Option.{slice_get_within}
@@ -20,7 +20,7 @@ use Rattle.weave.specs.Following.{journal_of}
 use Rattle.protocol.proofs.NodeIndices.{node_of_index, index_within}
 use Rattle.weave.proofs.NodeIndices.{journal_is}
 use Rattle.input_lines.specs.declared.script_line.ScriptLine.{ScriptLine}
-use Rattle.run.specs.Answers.{IsAnswer, IsBorne, IsRecordAt, answer_lines, asked_by, node_of}
+use Rattle.run.specs.Answers.{IsAnswer, IsBorne, IsRecordAt, answer_lines, asked_by, first_undone, node_of}
 use Rattle.run.specs.Gathered.{AreGathered, IsGathered}
 use Rattle.run.specs.Heard.{IsHeard}
 use Rattle.run.specs.Orders.{IsPlayed}
@@ -97,7 +97,7 @@ module _ (scheme : Scheme) (helds : List StateView) (own : List SeatView) (seats
       let s = seated n at held seat.0 place is seat.1 in
       others_taken held s.heard s.gathers.0 seat.0 s.settled.covers s.gathers.1 Takes s.gathers.2 (played.orders n at seat.0 place seat.1).ordered
 
-  pub run_report : (lines : List ScriptLine) (answers : List ScriptAnswer) (first text : List ℕ) → IsPlayed scheme lines answers own → first ≡ answer_lines 1 answers → text ≡ first ++ table → IsRunReport scheme lines helds text
+  pub run_report : (lines : List ScriptLine) (answers : List ScriptAnswer) (first text : List ℕ) → IsPlayed scheme lines answers own → first ≡ answer_lines 1 answers → text ≡ first ++ table → IsRunReport scheme lines helds (first_undone 1 lines answers) text
   run_report lines answers first text played first_is text_is = record {
     answers = answers;
     table = table;
@@ -112,6 +112,7 @@ module _ (scheme : Scheme) (helds : List StateView) (own : List SeatView) (seats
         (λ k l input at_place at_l at_a here asked. recorded_within n held l input at_place (journal_at n at held place is) here asked (borne_each k l (Answered (Step (Recorded at_place))) at_l at_a));
     is_table = r.is_table;
     spelled = text_is ∙ ap (λ (xs : List ℕ). xs ++ table) first_is;
+    first = refl;
   }
     where
       borne_each : (k : ℕ) (l : ScriptLine) (answer : ScriptAnswer) → slice_get lines k ≡ Some l → slice_get answers k ≡ Some answer → IsAnswer scheme (journal_of scheme (committed_by_all helds)) l answer

@@ -3,7 +3,7 @@ use Rattle.std.proofs.Common.{◌≡◌, ◌<◌, ℕ, List, Option, Some, None,
 use Rattle.std.specs.Io.KnownBytes.{Appends, Keeps}
 use Rattle.protocol.specs.Scheme.{Scheme}
 use Rattle.command_faults.specs.declared.fault.OpFault.{OpFault}
-use Rattle.command_faults.specs.declared.fault.OpFault.TheVariants.{Input as Line, Read, Write, Store, Stuck, Unsettled, Setup, NoMemory}
+use Rattle.command_faults.specs.declared.fault.OpFault.TheVariants.{Input as Line, Read, Write, Store, Stuck, Unsettled, Setup, Undone, NoMemory}
 use Rattle.input_lines.specs.declared.script_line.ScriptLine.{ScriptLine}
 use Rattle.run.specs.Answers.{answer_lines}
 use Rattle.units.specs.declared.code.Node.{Node}
@@ -27,6 +27,7 @@ module _ {S : Type 0} (g : Ghosts S) (opened : Scheme → Node → List Input �
   late_fault (Write count) ends seats ended h = absurd h
   late_fault (Store told fault) ends seats ended h = absurd h
   late_fault (Setup fault) ends seats ended h = absurd h
+  late_fault (Undone line) ends seats ended h = absurd h
 
   module _ (lines : List ScriptLine) (before after : Option (List ℕ)) (answers : List ScriptAnswer) (seats : List SeatView) (heard : AreHeard scheme seats lines answers) (text : List ℕ) (is : text ≡ answer_lines 1 answers) where
     answered : Appends before after text → HasAnswered scheme lines before after
@@ -40,6 +41,7 @@ module _ {S : Type 0} (g : Ghosts S) (opened : Scheme → Node → List Input �
     fails_late (Line line cause) late written = absurd late
     fails_late Read late written = absurd late
     fails_late (Setup fault) late written = absurd late
+    fails_late (Undone line) late written = absurd late
     fails_late (Write count) late written = absurd late
 
     pub fails_in_answers : (e : OpFault) → ((count : ℕ) × (e ≡ Write count) × (count < length text) × Appends before after (take count text)) → FailsToRun g opened e scheme lines before after
@@ -53,12 +55,18 @@ module _ {S : Type 0} (g : Ghosts S) (opened : Scheme → Node → List Input �
           written = subst (λ (xs : List ℕ). Appends before after (take h.0 xs)) is h.3;
         }))
 
-  pub fails_in_report : (lines : List ScriptLine) (before after : Option (List ℕ)) (ends : List (StoredView S)) (text : List ℕ) (e : OpFault) → HaveEnded g opened scheme ends → IsRunReport scheme lines (states_of ends) text
+  pub fails_in_report : (lines : List ScriptLine) (before after : Option (List ℕ)) (ends : List (StoredView S)) (undone : Option ℕ) (text : List ℕ) (e : OpFault) → HaveEnded g opened scheme ends → IsRunReport scheme lines (states_of ends) undone text
       → ((count : ℕ) × (e ≡ Write count) × (count < length text) × Appends before after (take count text)) → FailsToRun g opened e scheme lines before after
-  fails_in_report lines before after ends text e ended report h =
-      subst (λ (x : OpFault). FailsToRun g opened x scheme lines before after) (sym h.1) (inr (record { ends = ends; text = text; ended = ended; report = report; fewer = h.2; written = h.3 }))
+  fails_in_report lines before after ends undone text e ended report h =
+      subst (λ (x : OpFault). FailsToRun g opened x scheme lines before after) (sym h.1) (inr (record { ends = ends; undone = undone; text = text; ended = ended; report = report; fewer = h.2; written = h.3 }))
 
 -- ---- parts of results
+
+-- a report has that number and that text
+pub report_with : (scheme : Scheme) (lines : List ScriptLine) (helds : List StateView) (number undone : Option ℕ) (text written : List ℕ) → undone ≡ number → written ≡ text
+    → IsRunReport scheme lines helds number text → IsRunReport scheme lines helds undone written
+report_with scheme lines helds number undone text written counted spelled report =
+    subst (λ (u : Option ℕ). IsRunReport scheme lines helds u written) (sym counted) (subst (IsRunReport scheme lines helds number) (sym spelled) report)
 
 pub both_ok : {X E : Type 0} {P Q T : X → Type 0} (r : Result X E) → ((x : X) → P x → Q x → T x) → IfOk r P → IfOk r Q → IfOk r T
 both_ok (Ok x) f p q = f x p q

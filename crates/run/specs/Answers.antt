@@ -1,8 +1,9 @@
 -- The answers to the lines of a script, and when journals bear them out.
-use Rattle.std.specs.Prelude.{◌≡◌, ℕ, ◌+◌, ◌&&◌, Bool, true, false, List, [], ◌∷◌, ◌++◌, length, slice_get, Some, codes, decimal}
+use Rattle.std.specs.Prelude.{◌≡◌, ℕ, ◌+◌, ◌&&◌, Bool, true, false, cond, List, [], ◌∷◌, ◌++◌, length, slice_get, Option, None, Some, codes, decimal}
 use Rattle.units.specs.declared.code.Node.{Node}
 use Rattle.protocol.specs.Input.{Input}
 use Rattle.protocol.specs.Scheme.{Scheme}
+use Rattle.protocol.specs.History.{is_status}
 use Rattle.protocol.specs.Registries.{is_node}
 use Rattle.protocol.specs.World.{is_order, opening}
 use Rattle.protocol.specs.Outcomes.{outcome_of}
@@ -57,6 +58,21 @@ answer_line n answer = decimal n ++ codes " " ++ answer_text answer ++ codes "\n
 abbrev pub answer_lines : ℕ → List ScriptAnswer → List ℕ
 answer_lines n [] = []
 answer_lines n (answer ∷ answers) = answer_line n answer ++ answer_lines (n + 1) answers
+
+-- ---- the lines that were carried out
+
+-- the order was recorded, or it changed nothing, since it came again or too late; or the question got its answer, and a
+-- line that waits got the status that it waits for
+abbrev pub is_carried_out : ScriptLine → ScriptAnswer → Bool
+is_carried_out l NotPossible = false
+is_carried_out l (Answered (Refused refusal)) = false
+is_carried_out (line.Until n id status turns) (Answered (Status found)) = is_status found status
+is_carried_out l (Answered told) = true
+
+-- the number of the first line that was not carried out, by its answer; the first of these lines has the given number
+abbrev pub first_undone : ℕ → List ScriptLine → List ScriptAnswer → Option ℕ
+first_undone n (l ∷ ls) (answer ∷ answers) = cond (is_carried_out l answer) (first_undone (n + 1) ls answers) (Some n)
+first_undone n _ _ = None
 
 -- ---- the results that journals bear out
 

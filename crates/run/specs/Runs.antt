@@ -20,7 +20,7 @@ use Rattle.audit.specs.Audits.{IsAuditTable}
 use Rattle.audit.specs.Ended.{states_of}
 use Rattle.audit.specs.Reported.{IsTableFault, committed_by_all}
 use Rattle.input_lines.specs.declared.script_line.ScriptLine.{ScriptLine}
-use Rattle.run.specs.Answers.{AreAnswers, IsAnswer, answer_lines}
+use Rattle.run.specs.Answers.{AreAnswers, IsAnswer, answer_lines, first_undone}
 use Rattle.run.specs.Heard.{AreHeard}
 use Rattle.run.specs.Orders.{AreOrders}
 use Rattle.run.specs.declared.answer.ScriptAnswer.{ScriptAnswer}
@@ -98,14 +98,16 @@ abbrev pub HaveOthers : (Input → Type 0) → Scheme → List StateView → Typ
 HaveOthers Takes scheme helds = (n : Node) (at : ℕ) (held : StateView) → index_of scheme n ≡ Some at → slice_get helds at ≡ Some held → All (λ input. was_ordered input ≡ false → Takes input) (since held)
 
 -- the answers to the script's lines, and then the table of the world that a run leads to, whose committed journals are
--- those of these nodes; they bear out the answers, and since the opening they have the script's orders and no others
-pub record IsRunReport (scheme : Scheme) (lines : List ScriptLine) (helds : List StateView) (text : List ℕ) : Type 0 where
+-- those of these nodes; they bear out the answers, and since the opening they have the script's orders and no others.
+-- By the same answers, the first line that was not carried out has that number
+pub record IsRunReport (scheme : Scheme) (lines : List ScriptLine) (helds : List StateView) (undone : Option ℕ) (text : List ℕ) : Type 0 where
   pub answers : List ScriptAnswer
   pub table : List ℕ
   pub borne : AreAnswers (IsAnswer scheme (journal_of scheme (committed_by_all helds))) lines answers
   pub orders : (n : Node) (at : ℕ) (held : StateView) → index_of scheme n ≡ Some at → slice_get helds at ≡ Some held → AreOrders n lines answers (orders_of held)
   pub is_table : IsAuditTable Lines scheme (committed_by_all helds) table
   pub spelled : text ≡ answer_lines 1 answers ++ table
+  pub first : undone ≡ first_undone 1 lines answers
 
 -- an answer to each line, as the desks gave it, was written, and nothing else
 pub record HasAnswered (scheme : Scheme) (lines : List ScriptLine) (before after : Option (List ℕ)) : Type 0 where
@@ -126,9 +128,10 @@ module _ {S : Type 0} (g : Ghosts S) (opened : Scheme → Node → List Input �
   -- the nodes ended well, and the answers and the first bytes of their table were written, fewer than all
   pub record ReportsInPart (scheme : Scheme) (lines : List ScriptLine) (count : ℕ) (before after : Option (List ℕ)) : Type 0 where
     pub ends : List (StoredView S)
+    pub undone : Option ℕ
     pub text : List ℕ
     pub ended : HaveEnded g opened scheme ends
-    pub report : IsRunReport scheme lines (states_of ends) text
+    pub report : IsRunReport scheme lines (states_of ends) undone text
     pub fewer : count < length text
     pub written : Appends before after (take count text)
 

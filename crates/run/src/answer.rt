@@ -1,9 +1,11 @@
 //! Answers to the lines of a script.
 ghost use Rattle.std.specs.Prelude.{◌≡◌, ◌++◌, IfOk, OnOk, codes, decimal, string_bytes};
+ghost use Rattle.protocol.specs.History.{is_status};
 ghost use Rattle.report.specs.ReportLines.{status_or_none};
-ghost use Rattle.run.specs.Answers.{answer_line, answer_lines};
+ghost use Rattle.run.specs.Answers.{answer_line, answer_lines, first_undone, is_carried_out};
 
 use desk::Told;
+use input_lines::ScriptLine;
 use protocol::Outcome;
 use report::push_outcome;
 use status::Status;
@@ -18,6 +20,32 @@ pub enum ScriptAnswer {
     NotPossible,
     /// The node's result, returned once all records were committed that its journal had then.
     Told(Told),
+}
+
+fn is_status(found: Option<Status>, status: Status) -> bool
+    ensures { result ≡ is_status found status }
+{
+    match found {
+        Some(found) => found == status,
+        None => false,
+    }
+}
+
+impl ScriptAnswer {
+    /// Whether the line that has this answer was carried out: its order was recorded, or changed nothing since it came
+    /// again or too late; or its question got an answer, and a line that waits got the status that it waits for.
+    pub(crate) fn is_carried_out(self, line: &ScriptLine) -> bool
+        ensures { result ≡ is_carried_out line.now self }
+    {
+        match self {
+            ScriptAnswer::NotPossible | ScriptAnswer::Told(Told::Refused(_)) => false,
+            ScriptAnswer::Told(Told::Status(found)) => match line {
+                ScriptLine::Until { status, .. } => is_status(found, *status),
+                _ => true,
+            },
+            ScriptAnswer::Told(Told::Step(_)) => true,
+        }
+    }
 }
 
 fn push_status(text: &mut String, number: u64, status: Option<Status>) -> Result<(), NoMemory>
@@ -64,4 +92,18 @@ pub(crate) fn lines_of(alloc: Global, answers: &[ScriptAnswer]) -> Result<String
         push_answer(&mut text, number, *answer)?;
     }
     Ok(text)
+}
+
+/// The number of the first line that was not carried out, counted from 1. The answers are those of the lines.
+pub(crate) fn first_undone(lines: &[ScriptLine], answers: &[ScriptAnswer]) -> Option<u64>
+    ensures { result ≡ first_undone 1 lines.now answers.now }
+{
+    let mut number = 0u64;
+    for (line, answer) in lines.iter().zip(answers) {
+        number += 1;
+        if !answer.is_carried_out(line) {
+            return Some(number);
+        }
+    }
+    None
 }

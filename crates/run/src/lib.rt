@@ -16,7 +16,7 @@ pub use answer::{ScriptAnswer, push_answer};
 pub use asking::ask;
 pub use gathering::end_desk;
 pub use playing::takes;
-pub use running::run_script;
+pub use running::{EndedRun, run_script};
 pub use watch::{Nobody, Watch};
 pub use wiring::{LoadedNode, station_of};
 

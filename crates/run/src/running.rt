@@ -6,7 +6,7 @@ ghost use Rattle.protocol.specs.Input.{Input as AnInput};
 ghost use Rattle.desk.specs.Keeping.{MayOpen};
 ghost use Rattle.desk.specs.Views.{SeatView, opened_with};
 ghost use Rattle.input_lines.specs.declared.script_line.ScriptLine.{ScriptLine as ALine};
-ghost use Rattle.run.specs.Answers.{answer_lines};
+ghost use Rattle.run.specs.Answers.{answer_lines, first_undone};
 ghost use Rattle.audit.specs.Ended.{seats_in, states_in, stored_in};
 ghost use Rattle.run.specs.Orders.{IsPlayed};
 ghost use Rattle.sessions.specs.Orders.{AreAll, HasOnly, was_ordered};
@@ -16,7 +16,7 @@ ghost use Rattle.audit.specs.Reported.{IsTableFault};
 ghost use Rattle.run.specs.Runs.{FailsToRun, HaveEnded, HaveOthers, IsLateFault, IsLoadedAmong, IsRunReport};
 ghost use Rattle.run.specs.declared.answer.ScriptAnswer.{ScriptAnswer as AnAnswer};
 
-use crate::answer::lines_of;
+use crate::answer::{first_undone, lines_of};
 use crate::gathering::{ThreadSeats, end_all};
 use crate::taking::Taking;
 use crate::threads::{Heard, Played, Run, run_and_play};
@@ -37,6 +37,15 @@ use std::sync::Wait;
 use std::thread::Threads;
 use units::NoMemory;
 use world::Core;
+
+/// What a run leaves.
+#[derive(Drop)]
+pub struct EndedRun<S: NodeStore> {
+    /// The nodes as they ended.
+    pub nodes: Vec<EndedNode<S>>,
+    /// The number of the first line of the script that was not carried out, counted from 1; `None` if there is none.
+    pub undone: Option<u64>,
+}
 
 fn joined(alloc: Global, first: &str, second: &str) -> Result<String, NoMemory>
     ensures { IfOk result (λ s. string_bytes s ≡ first.now ++ second.now) }
@@ -61,7 +70,7 @@ fn with_table<T: Taking, S: NodeStore, P: weave::Watch>(
         → AreGathered T.takes own (seats_in ended.now)
         → (lines : List ALine) (told : List AnAnswer) → IsPlayed scheme.now lines told own
         → answers.now ≡ answer_lines 1 told
-        → IsRunReport scheme.now lines (states_in ended.now) (string_bytes s)
+        → IsRunReport scheme.now lines (states_in ended.now) (first_undone 1 lines told) (string_bytes s)
         × HaveOthers T.takes scheme.now (states_in ended.now)) }
     ensures err { IfErr result (IsTableFault scheme.now (states_in ended.now) (seats_in ended.now)) }
 {
@@ -95,7 +104,7 @@ fn whole_of<O: Opening, T: Taking, N: NodeTypes, P: weave::Watch>(
     ensures ok { IfOk result
         (λ w. (lines : List ALine) (told : List AnAnswer) → IsPlayed scheme.now lines told seats.items
         → answers.now ≡ answer_lines 1 told
-        → IsRunReport scheme.now lines (states_in w.ended.items) (string_bytes w.text)
+        → IsRunReport scheme.now lines (states_in w.ended.items) (first_undone 1 lines told) (string_bytes w.text)
         × HaveOthers T.takes scheme.now (states_in w.ended.items)) }
     ensures ended { IfOk result (λ w. HaveEnded N.Store.NodeStore O.opened scheme.now (stored_in w.ended.items)) }
     ensures err { IfErr result (IsLateFault N.Store.NodeStore O.opened scheme.now) }
@@ -112,8 +121,7 @@ fn whole_of<O: Opening, T: Taking, N: NodeTypes, P: weave::Watch>(
     }
 }
 
-/// Writes the results of a run: the answers in any case, and then the table or the fault. Returns the nodes as they
-/// ended.
+/// Writes the results of a run: the answers in any case, and then the table or the fault. Returns what the run leaves.
 fn write_run<O: Opening, T: Taking, N: NodeTypes, W: Write, P: weave::Watch>(
     alloc: Global,
     scheme: &Scheme,
@@ -121,16 +129,17 @@ fn write_run<O: Opening, T: Taking, N: NodeTypes, W: Write, P: weave::Watch>(
     lines: &[ScriptLine],
     writer: &mut W,
     watch: &mut P,
-) -> Result<Vec<EndedNode<N::Store>>, OpFault>
+) -> Result<EndedRun<N::Store>, OpFault>
     requires stations { map (λ s. s.node) run.stations.items ≡ nodes scheme.now }
     requires taken { AreAll (HasOnly T.takes) run.heard.threads.items }
     requires seats { vec_len run.heard.script.seats ≡ length (nodes scheme.now) }
     requires played { IsPlayed scheme.now lines.now run.heard.script.answers.items run.heard.script.seats.items }
     requires unordered { (input : AnInput) → T.takes input → was_ordered input ≡ false }
-    ensures ok { IfOk result (λ v. (text : List ℕ) × IsRunReport scheme.now lines.now (states_in v.items) text
+    ensures ok { IfOk result
+        (λ r. (text : List ℕ) × IsRunReport scheme.now lines.now (states_in r.nodes.items) r.undone text
         × Appends (W.contents writer.old) (W.contents writer.new) text) }
-    ensures others { IfOk result (λ v. HaveOthers T.takes scheme.now (states_in v.items)) }
-    ensures ended { IfOk result (λ v. HaveEnded N.Store.NodeStore O.opened scheme.now (stored_in v.items)) }
+    ensures others { IfOk result (λ r. HaveOthers T.takes scheme.now (states_in r.nodes.items)) }
+    ensures ended { IfOk result (λ r. HaveEnded N.Store.NodeStore O.opened scheme.now (stored_in r.nodes.items)) }
     ensures err { IfErr result
         (λ e. FailsToRun N.Store.NodeStore O.opened e scheme.now lines.now (W.contents writer.old)
         (W.contents writer.new)) }
@@ -138,9 +147,11 @@ fn write_run<O: Opening, T: Taking, N: NodeTypes, W: Write, P: weave::Watch>(
     let Run { stations, heard } = run;
     let Heard { threads, script } = heard;
     let Played { seats, answers } = script;
-    let Ok(text) = lines_of(alloc, answers.as_slice()) else {
+    let told = answers.as_slice();
+    let Ok(text) = lines_of(alloc, told) else {
         return Err(OpFault::NoMemory);
     };
+    let undone = first_undone(lines, told);
     match whole_of::<O, T, N, P>(
         alloc,
         scheme,
@@ -151,7 +162,10 @@ fn write_run<O: Opening, T: Taking, N: NodeTypes, W: Write, P: weave::Watch>(
         watch,
     ) {
         Ok(Whole { ended, text }) => match write_out(writer, text.as_str()) {
-            Ok(()) => Ok(ended),
+            Ok(()) => Ok(EndedRun {
+                nodes: ended,
+                undone,
+            }),
             Err(unwritten) => {
                 drop(ended);
                 Err(unwritten)
@@ -174,7 +188,7 @@ fn run_opened<O, T, N, W, P, R>(
     network: &Network<N>,
     writer: &mut W,
     watch: &mut P,
-) -> Result<Vec<EndedNode<N::Store>>, OpFault>
+) -> Result<EndedRun<N::Store>, OpFault>
 where
     O: Opening + Send,
     T: Taking,
@@ -189,10 +203,11 @@ where
         (N.Dialer.leads network.now.dialer) N.Dialer.Reader.remaining N.Dialer.Writer.contents N.Store.NodeStore
         O.opened (N.Clock.tells network.now.clock) input → T.takes input }
     requires unordered { (input : AnInput) → T.takes input → was_ordered input ≡ false }
-    ensures ok { IfOk result (λ v. (text : List ℕ) × IsRunReport scheme.now lines.now (states_in v.items) text
+    ensures ok { IfOk result
+        (λ r. (text : List ℕ) × IsRunReport scheme.now lines.now (states_in r.nodes.items) r.undone text
         × Appends (W.contents writer.old) (W.contents writer.new) text) }
-    ensures others { IfOk result (λ v. HaveOthers T.takes scheme.now (states_in v.items)) }
-    ensures ended { IfOk result (λ v. HaveEnded N.Store.NodeStore O.opened scheme.now (stored_in v.items)) }
+    ensures others { IfOk result (λ r. HaveOthers T.takes scheme.now (states_in r.nodes.items)) }
+    ensures ended { IfOk result (λ r. HaveEnded N.Store.NodeStore O.opened scheme.now (stored_in r.nodes.items)) }
     ensures err { IfErr result
         (λ e. FailsToRun N.Store.NodeStore O.opened e scheme.now lines.now (W.contents writer.old)
         (W.contents writer.new)) }
@@ -215,6 +230,9 @@ where
 /// at a moment that the clock gave, or the acknowledgement of a message that a store had as a committed record's, and
 /// whose peer replied, over a connection, that it was received.
 ///
+/// Returns with them the number of the first line that was not carried out, by its answer: it wasn't possible, its node
+/// refused it, or it waited in vain for its status.
+///
 /// # Errors
 ///
 /// The stores are closed then. The answers are written once the script has ended, and then it fails with the first of:
@@ -234,7 +252,7 @@ pub fn run_script<N, W, P, R>(
     network: &Network<N>,
     writer: &mut W,
     watch: &mut P,
-) -> Result<Vec<EndedNode<N::Store>>, OpFault>
+) -> Result<EndedRun<N::Store>, OpFault>
 where
     N: NodeTypes,
     W: Write,
@@ -243,17 +261,18 @@ where
     requires nodes { map (λ s. s.state.node) (map (λ n. n.stored) loaded.items) ≡ nodes scheme.now }
     requires opened { All (λ s. s.state ≡ opened_with scheme.now s.state.node s.state.journal)
         (map (λ n. n.stored) loaded.items) }
-    ensures ok { IfOk result (λ v. (text : List ℕ) × IsRunReport scheme.now lines.now (states_in v.items) text
+    ensures ok { IfOk result
+        (λ r. (text : List ℕ) × IsRunReport scheme.now lines.now (states_in r.nodes.items) r.undone text
         × Appends (W.contents writer.old) (W.contents writer.new) text) }
     ensures others { IfOk result
-        (λ v. HaveOthers (IsOfThread
+        (λ r. HaveOthers (IsOfThread
         (N.Dialer.leads network.now.dialer) N.Dialer.Reader.remaining N.Dialer.Writer.contents N.Store.NodeStore
         (IsLoadedAmong N.Store.NodeStore scheme.now (map (λ n. n.stored) loaded.items))
-        (N.Clock.tells network.now.clock)) scheme.now (states_in v.items)) }
+        (N.Clock.tells network.now.clock)) scheme.now (states_in r.nodes.items)) }
     ensures ended { IfOk result
-        (λ v. HaveEnded N.Store.NodeStore
+        (λ r. HaveEnded N.Store.NodeStore
         (IsLoadedAmong N.Store.NodeStore scheme.now (map (λ n. n.stored) loaded.items)) scheme.now
-        (stored_in v.items)) }
+        (stored_in r.nodes.items)) }
     ensures err { IfErr result
         (λ e. FailsToRun N.Store.NodeStore
         (IsLoadedAmong N.Store.NodeStore scheme.now (map (λ n. n.stored) loaded.items)) e scheme.now lines.now

@@ -6,10 +6,9 @@ use Rattle.std.proofs.Common.{◌≡◌, ◌⊎◌, ℕ, suc, ◌<◌, ◌≤◌
 use Rattle.std.specs.Prelude.{◌==◌, nat_le, nat_lt}
 use Rattle.std.specs.List.{list_any, AllByRecursion}
 use Rattle.std.specs.Ordering.{is_lt}
-use Rattle.std.specs.declared.cmp.Ordering.{Ordering}
-use Rattle.std.specs.declared.cmp.Ordering.TheVariants.{Less, Equal, Greater}
 use Rattle.std.proofs.lemmas.Bool.{cases_Bool, cases_lt, and_parts, and_from, or_parts, eqb-true, le-leb, ltb-false}
 use Rattle.units.proofs.Same.{code_of_same, kind_of_same, period_of_same}
+use Rattle.units.proofs.UnitLines.{less_true}
 use Rattle.units.proofs.UnitOrder.{IsBelow, IsUpTo, below, less_from_below, rank, same_line, up_to_from_sorted}
 use Rattle.units.specs.Apart.{AreApart, Pairwise}
 use Rattle.units.specs.Canonical.{canonical, comes_before, goes_on, in_order, join_block, joined, put_block}
@@ -55,14 +54,9 @@ ahead a b apart x y up = record { line = up.line; number = λ e. number e (cases
 up_from_below : (s t : Serial) → IsBelow s t → IsUpTo s t
 up_from_below s t h = record { line = h.line; number = λ e. let n = h.number e in omega arith }
 
-is_less : (o : Ordering) → is_lt o ≡ true → o ≡ Less
-is_less Less e = refl
-is_less Equal e = absurd (cc)
-is_less Greater e = absurd (cc)
-
 -- the comparison of their first units tells which of two blocks that share no unit is ahead
 ahead_before : (b c : RawBlock) → AreApart b c → HasUnits b → HasUnits c → comes_before b c ≡ true → Ahead b c
-ahead_before b c apart x y h = ahead b c apart x y (up_from_below (first_unit b) (first_unit c) (below (first_unit b) (first_unit c) (is_less (unit_cmp (first_unit b) (first_unit c)) h)))
+ahead_before b c apart x y h = ahead b c apart x y (up_from_below (first_unit b) (first_unit c) (below (first_unit b) (first_unit c) (less_true (unit_cmp (first_unit b) (first_unit c)) h)))
 
 ahead_after : (b c : RawBlock) → AreApart b c → HasUnits b → HasUnits c → comes_before b c ≡ false → Ahead c b
 ahead_after b c apart x y h = ahead c b (λ s i j. apart s j i) y x (up_to_from_sorted (first_unit c) (first_unit b) h)

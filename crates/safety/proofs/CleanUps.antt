@@ -25,6 +25,7 @@ use Rattle.protocol.specs.Deciding.{known, moved, moved_by}
 use Rattle.protocol.specs.Effects.{log_sends}
 use Rattle.protocol.specs.History.{Transition, newest}
 use Rattle.units.proofs.Lists.OneValue.{clash}
+use Rattle.units.proofs.UnitLines.{less_true}
 
 -- ---- lists of which a test passes some
 
@@ -118,12 +119,6 @@ Differ a b = same_id b.id a.id ≡ false
 abbrev Before : Transition → Transition → Type 0
 Before a b = id_cmp a.id b.id ≡ Less
 
--- from the test for less
-before_from : (o : Ordering) → is_lt o ≡ true → o ≡ Less
-before_from Less h = refl
-before_from Equal h = absurd (cc (h))
-before_from Greater h = absurd (cc (h))
-
 -- of two that differ, the one that isn't less comes later
 after_from : (a b : Transition) → is_lt (id_cmp a.id b.id) ≡ false → Differ a b → Before b a
 after_from a b h differ = ids_total.antisymm b.id a.id ∙ go (id_cmp a.id b.id) refl h
@@ -187,7 +182,7 @@ ascending_put x [] differ h = (tt, tt)
 ascending_put x (y ∷ ys) differ h = go (is_lt (id_cmp x.id y.id)) refl (ascending_put x ys differ.1 h.1)
   where
     go : (b : Bool) → is_lt (id_cmp x.id y.id) ≡ b → Pairwise Before (put_transition x ys) → Pairwise Before (cond b (x ∷ y ∷ ys) (y ∷ put_transition x ys))
-    go true e rest = let first = before_from (id_cmp x.id y.id) e in ((first, all_map (Before y) (Before x) (λ z l. ids_total.trans x.id y.id z.id first l) ys h.0), h)
+    go true e rest = let first = less_true (id_cmp x.id y.id) e in ((first, all_map (Before y) (Before x) (λ z l. ids_total.trans x.id y.id z.id first l) ys h.0), h)
     go false e rest = (all_put (Before y) x ys (after_from x y e differ.0) h.0, rest)
 
 -- the sort puts different ones in ascending order

@@ -7,3 +7,4 @@ pub mod LabelledBlocks
 pub mod FirstFound
 pub mod SumsOfLists
 pub mod UnitsOneByOne
+pub mod EquallyLong

@@ -1,5 +1,5 @@
 -- A value writes one list of registries at most.
-use Rattle.std.proofs.Common.{true, rules, codes, ◌≡◌, ℕ, List, sym, subst, ◌∙◌}
+use Rattle.std.proofs.Common.{codes, ◌≡◌, ℕ, List, sym, subst, ◌∙◌}
 use Rattle.units.specs.Code.{code_text}
 use Rattle.units.specs.Block.{kind_text, IsRawText}
 use Rattle.units.specs.declared.code.Code.{Code}
@@ -13,9 +13,6 @@ use Rattle.scheme.specs.declared.members.SchemeRegistry.{SchemeRegistry}
 use Rattle.json_fields.specs.Fields.{HasAt, EachIs, HasList}
 use Rattle.json_fields.proofs.Lists.{each_one}
 use Rattle.json_fields.proofs.OneAtKey.{at_once, text_once, whole_once, array_once}
-use Rattle.units.specs.contracts.block.KindPartialEq.TheImpl.{ghosts}
-use Rattle.units.specs.contracts.block.Kind.{the_type}
-use denote.Enum.Bare.{same_true, true_same}
 
 -- ---- each item writes one value
 
@@ -62,9 +59,3 @@ records_one d m n ms ns p q = whole_once d (codes "records") m n p.records_at q.
 
 pub members_one : (d : Data) (m n : ℕ) (ms ns : List SchemeRegistry) → IsWritten d m ms → IsWritten d n ns → ms ≡ ns
 members_one d m n ms ns p q = list_one IsMember member_one d (codes "registries") ms ns p.registries q.registries
-
-pub kind_eq : (y z : Kind) → ghosts.eq y z ≡ true → y ≡ z
-kind_eq y z e = same_true the_type (search rules) y z e
-
-pub kind_eq_itself : (y z : Kind) → y ≡ z → ghosts.eq y z ≡ true
-kind_eq_itself y z e = true_same the_type y z e

@@ -2,6 +2,7 @@
 use Rattle.std.proofs.Common.{◌≡◌, inl, inr, ℕ, ◌+◌, pos, List, [], ◌∷◌, ◌++◌, map, flat_map, filter, Bool, true, false, cond, None, Some, Option, Ok, refl, sym, ap, subst, ◌∙◌, arith}
 use Rattle.std.specs.Prelude.{◌==◌, ◌&&◌, slice_get}
 use Rattle.std.specs.List.Sorted.{IsPermutation}
+use Rattle.std.proofs.Math.Bool.{and-true}
 use Rattle.std.proofs.lemmas.List.Sorted.{length_permutation}
 use Rattle.std.specs.Ordering.{is_eq}
 use Rattle.sqlite.specs.Ops.{binary, is_true, from_truth}
@@ -101,12 +102,8 @@ env_of params row = params ∷ row ∷ []
 abbrev passes : ℕ → Row → Bool
 passes place row = is_true (binary equality (column row 0) (Int (pos place))) && true
 
-and_true : (b : Bool) → (b && true) ≡ b
-and_true true = refl
-and_true false = refl
-
 passes-is : (place : ℕ) (row : Row) → row ≡ entry (place_of row) (body_of row) → passes place row ≡ is_at place row
-passes-is place row e = and_true (is_true (binary equality (column row 0) (Int (pos place)))) ∙ ap (λ (v : Value). is_true (binary equality v (Int (pos place)))) (row_id row e) ∙ eq-is (place_of row) place
+passes-is place row e = and-true (is_true (binary equality (column row 0) (Int (pos place)))) ∙ ap (λ (v : Value). is_true (binary equality v (Int (pos place)))) (row_id row e) ∙ eq-is (place_of row) place
 
 filtered : (params : Row) (place from : ℕ) (rows : List Row) → AreEntries from rows
     → flat_map (λ (r : Row). cond (passes place r) (env_of params r ∷ []) []) rows ≡ map (env_of params) (filter (is_at place) rows)

@@ -2,11 +2,7 @@
 use Rattle.std.proofs.Common.{◌≡◌, ◌⊎◌, inl, inr, ℕ, ◌+◌, ◌-◌, ◌≤◌, ◌<◌, pos, List, [], ◌∷◌, ◌++◌, filter, Bool, true, false, cond, None, Some, Option, refl, sym, ap, subst, ◌∙◌, arith}
 use Rattle.std.specs.Prelude.{◌==◌, zero, suc}
 use Rattle.std.specs.Ordering.{is_eq}
-use Rattle.std.specs.declared.cmp.Ordering.TheVariants.{Equal, Greater}
-use Rattle.std.specs.Cmp.{int_cmp_is}
-use Rattle.std.proofs.lemmas.Int.{ints}
 use Rattle.std.proofs.lemmas.Bool.{cases_Bool, cases_lt, eq-eqb, eqb-true, ne_eqb}
-use Rattle.store_tables.proofs.OrderLemmas.{value_cmp-Int}
 use Rattle.sqlite.specs.declared.types.Value.{Value}
 use Rattle.sqlite.specs.declared.types.Value.TheVariants.{Int}
 use Rattle.sqlite.specs.Order.{Row, column, value_cmp}
@@ -15,26 +11,20 @@ use Rattle.sqlite.specs.Tree.{without_rowid, has_rowid}
 use Rattle.store_tables.specs.Tables.{entry}
 use Rattle.store_tables.specs.Slots.{place_of, body_of, missing, slots_from, AreEntries}
 use Rattle.store_migration.specs.Migrating.{with_body}
-use Rattle.store_tables.proofs.Places.{before}
+use Rattle.store_tables.proofs.Places.{before, cmp-equal, cmp-greater}
 
 -- the row at that place has the other body, and the others stay
 abbrev pub rewritten : ℕ → List ℕ → List Row → List Row
 rewritten place body [] = []
 rewritten place body (row ∷ rows) = cond (place_of row == place) (entry place body) row ∷ rewritten place body rows
 
-equal : (m n : ℕ) → m ≡ n → value_cmp (Int (pos m)) (Int (pos n)) ≡ Equal
-equal m n e = value_cmp-Int (pos m) (pos n) ∙ sym (int_cmp_is (pos m) (pos n) Equal (ap pos e))
-
-behind_it : (m n : ℕ) → n < m → value_cmp (Int (pos m)) (Int (pos n)) ≡ Greater
-behind_it m n low = value_cmp-Int (pos m) (pos n) ∙ sym (int_cmp_is (pos m) (pos n) Greater (omega (arith, ints, low)))
-
 -- places compare as values in the same way as they do as numbers
 pub cmp_is : (m n : ℕ) → is_eq (value_cmp (Int (pos m)) (Int (pos n))) ≡ (m == n)
 cmp_is m n = elim (cases_lt m n) [
   | inl low ↦ ap is_eq (before m n low) ∙ sym (ne_eqb m n (λ e. omega (arith, low, e)))
   | inr up ↦ elim (cases_lt n m) [
-    | inl high ↦ ap is_eq (behind_it m n high) ∙ sym (ne_eqb m n (λ e. omega (arith, high, e)))
-    | inr down ↦ ap is_eq (equal m n (omega (arith, up, down))) ∙ sym (eq-eqb m n (omega (arith, up, down)))
+    | inl high ↦ ap is_eq (cmp-greater m n high) ∙ sym (ne_eqb m n (λ e. omega (arith, high, e)))
+    | inr down ↦ ap is_eq (cmp-equal m n (omega (arith, up, down))) ∙ sym (eq-eqb m n (omega (arith, up, down)))
   ]
 ]
 
@@ -67,7 +57,7 @@ put_before : (place from : ℕ) (body : List ℕ) (rows : List Row) → AreEntri
 put_before place from body [] h low = refl
 put_before place from body (row ∷ rows) h low =
     subst (λ (r : Row). put_row (entry place body) (r ∷ rows) ≡ entry place body ∷ r ∷ rows) (sym h.1)
-    (rw (behind_it (place_of row) place (omega (arith, low, h.0))) refl)
+    (rw (cmp-greater (place_of row) place (omega (arith, low, h.0))) refl)
 
 -- exactly one row is at the place; with the other body it is inserted at the same position
 pub record IsOne (place from : ℕ) (body : List ℕ) (rows : List Row) : Type 0 where

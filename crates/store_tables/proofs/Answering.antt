@@ -2,18 +2,15 @@
 use Rattle.std.proofs.Common.{◌≡◌, ℕ, suc, ◌+◌, ◌≤◌, ◌<◌, inl, inr, pos, Bool, true, false, cond, List, [], ◌∷◌, ◌++◌, map, flat_map, filter, get_or, refl, sym, ap, subst, subst₂, ◌∙◌, arith}
 use Rattle.std.specs.Prelude.{nat_le, ◌&&◌}
 use Rattle.std.specs.declared.cmp.Ordering.{Ordering}
-use Rattle.std.specs.declared.cmp.Ordering.TheVariants.{Less, Equal, Greater}
-use Rattle.std.specs.Cmp.{int_cmp_is}
+use Rattle.std.specs.declared.cmp.Ordering.TheVariants.{Less, Equal}
 use Rattle.std.specs.Ordering.{is_lt, is_le, is_ge, ordering_then}
 use Rattle.std.specs.List.{sum_by, AllByRecursion, All}
 use Rattle.std.specs.List.Sorted.{IsPermutation, IsSorted}
 use Rattle.std.proofs.lemmas.Bool.{cases_lt, le-leb}
-use Rattle.std.proofs.lemmas.Int.{ints}
 use Rattle.std.proofs.lemmas.List.Sorted.{sum_by-IsPermutation}
 use Rattle.sqlite.specs.Ops.{binary, is_true}
 use Rattle.sqlite_sql.specs.declared.ops.CompareOp.TheVariants.{Ge, Le}
 use Rattle.sqlite_sql.specs.declared.ops.BinaryOp.TheVariants.{Compare}
-use Rattle.sqlite_value.proofs.OrderLemmas.{value_cmp-Int}
 use Rattle.sqlite.specs.declared.types.Value.{Value}
 use Rattle.sqlite.specs.declared.types.Value.TheVariants.{Null, Int}
 use Rattle.sqlite.specs.Collation.TheVariants.{Binary}
@@ -27,7 +24,7 @@ use Rattle.store_tables.specs.Slots.{place_of, body_of, whole_number, AreEntries
 use Rattle.store_tables.specs.Pages.{is_within, shown, rows_within}
 use Rattle.units.proofs.Lists.Membership.{In}
 use Rattle.units.proofs.Lists.Permutations.{each_moved}
-use Rattle.store_tables.proofs.Places.{before}
+use Rattle.store_tables.proofs.Places.{before, cmp-equal, cmp-greater}
 use Rattle.store_tables.proofs.InOrder.{Rise, NeverFall, one-order}
 use Rattle.store_tables.proofs.PageTexts.{page_query, page_command}
 use Rattle.store_tables.proofs.Stretches.{not-le}
@@ -35,12 +32,6 @@ use Rattle.store_tables.proofs.Stretches.{not-le}
 -- the parameters of the query
 abbrev pub between : ℕ → ℕ → Row
 between first last = Int (pos first) ∷ Int (pos last) ∷ []
-
-cmp-equal : (m n : ℕ) → m ≡ n → value_cmp (Int (pos m)) (Int (pos n)) ≡ Equal
-cmp-equal m n e = value_cmp-Int (pos m) (pos n) ∙ sym (int_cmp_is (pos m) (pos n) Equal (ap pos e))
-
-cmp-greater : (m n : ℕ) → n < m → value_cmp (Int (pos m)) (Int (pos n)) ≡ Greater
-cmp-greater m n low = value_cmp-Int (pos m) (pos n) ∙ sym (int_cmp_is (pos m) (pos n) Greater (omega (arith, ints, low)))
 
 -- ---- WHERE
 

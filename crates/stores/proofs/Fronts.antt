@@ -1,6 +1,6 @@
 -- The records of the unbroken front of a list of places.
 use Rattle.std.proofs.Common.{◌≡◌, ℕ, zero, suc, ◌<◌, List, [], ◌∷◌, ◌++◌, Some, None, map, length, take, drop, Option, refl, sym, ap, subst, arith}
-use Rattle.stores.specs.Records.{Places, AreRecords, AreRecordsIn, HasNoRecordIn, IsDamagedIn, unbroken, written}
+use Rattle.stores.specs.Records.{Places, AreRecords, AreRecordsIn, HasNoRecordIn, IsDamagedAt, IsDamagedIn, unbroken, written}
 use Rattle.std.proofs.lemmas.List.{map-append}
 use Rattle.wire.specs.Records.{IsRecordText, record_text}
 use Rattle.wire.specs.declared.input.Input.{Input}
@@ -43,6 +43,11 @@ damaged-place format (suc p) [] inputs place rest are e not = absurd cc
 damaged-place format (suc p) (None ∷ places) inputs place rest are e not = absurd are
 damaged-place format (suc p) (Some t ∷ places) [] place rest are e not = absurd are
 damaged-place format (suc p) (Some t ∷ places) (i ∷ inputs) place rest are e not = ((i, are.0), damaged-place format p places inputs place rest are.1 e not)
+
+-- there is no damaged place where there are no places
+pub none-damaged : (p : ℕ) → IsDamagedAt p [] → ⊥
+none-damaged zero h = h
+none-damaged (suc p) h = h
 
 -- the records of a stretch of places
 pub records-take : (format : RecordFormat) (n : ℕ) (places : Places) (inputs : List Input) → AreRecordsIn format places inputs → AreRecordsIn format (take n places) (take n inputs)

@@ -33,13 +33,13 @@ impl fmt::Display for StoreFault {
 
     fn fmt<W: fmt::Write>(&self, f: &mut fmt::Formatter<W>) -> fmt::Result {
         match *self {
-            StoreFault::Device => write!(f, "device"),
-            StoreFault::Full => write!(f, "full"),
+            StoreFault::Device => f.write_str("device"),
+            StoreFault::Full => f.write_str("full"),
             StoreFault::Damaged(place) => write!(f, "damaged {place}"),
-            StoreFault::WrongNode => write!(f, "wrong-node"),
-            StoreFault::WrongVersion => write!(f, "wrong-version"),
-            StoreFault::Reopen => write!(f, "reopen"),
-            StoreFault::NoMemory => write!(f, "out of memory"),
+            StoreFault::WrongNode => f.write_str("wrong-node"),
+            StoreFault::WrongVersion => f.write_str("wrong-version"),
+            StoreFault::Reopen => f.write_str("reopen"),
+            StoreFault::NoMemory => f.write_str("out of memory"),
         }
     }
 }

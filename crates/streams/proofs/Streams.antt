@@ -1,7 +1,7 @@
 -- Bytes as lines and the bytes after them, cut at one newline after another.
 use Rattle.std.proofs.Common.{◌≡◌, ℕ, zero, suc, ◌+◌, ◌-◌, ◌<◌, ◌≤◌, List, [], ◌∷◌, ◌++◌, Some, None, length, get_or, take, drop, refl, sym, ap, subst, ◌∙◌, arith, add-one, append_assoc, length-append}
 use Rattle.std.proofs.Math.Seq.{split_at}
-use Rattle.std.proofs.lemmas.List.{take-append-drop, take-append-le, take_all, length-take-le, get_or-take, length-drop}
+use Rattle.std.proofs.lemmas.List.{take-append-drop, take-append-le, length-take-le, get_or-take, take_rest}
 use Rattle.std.proofs.lemmas.Bool.{eqb-true, eq-eqb}
 use Rattle.std.specs.List.{AllByRecursion}
 use Rattle.memchr.specs.Find.{IsFirstByte, is_byte}
@@ -29,7 +29,7 @@ rest_pushed held (k ∷ ls) l tail = refl
 
 -- ---- bytes without a newline
 
-free_join : (xs ys : List ℕ) → HasNoNewline xs → HasNoNewline ys → HasNoNewline (xs ++ ys)
+pub free_join : (xs ys : List ℕ) → HasNoNewline xs → HasNoNewline ys → HasNoNewline (xs ++ ys)
 free_join [] ys a b = b
 free_join (x ∷ xs) ys a b = (a.0, free_join xs ys a.1 b)
 
@@ -48,7 +48,7 @@ pub record Cutting (limit : ℕ) (held piece : List ℕ) (lines : List (List ℕ
   pub rest : (tail : List ℕ) → rest_after held lines tail ≡ begun ++ tail
 
 -- no newline before `end`
-front_free : (left : List ℕ) (end : ℕ) → IsFirstByte (is_byte 10) left (Some end) → HasNoNewline (take end left)
+pub front_free : (left : List ℕ) (end : ℕ) → IsFirstByte (is_byte 10) left (Some end) → HasNoNewline (take end left)
 front_free left end first =
     let small : length (take end left) ≡ end = length-take-le end left (omega (arith, first.0.high)) in
     free_from 10 (take end left) (λ k h e.
@@ -57,9 +57,6 @@ front_free left end first =
 
 pub none_free : (left : List ℕ) → IsFirstByte (is_byte 10) left None → HasNoNewline left
 none_free left never = free_from 10 left (λ k h e. never k (omega arith) h (eq-eqb _ _ e))
-
-to_the_end : (left : List ℕ) (n : ℕ) → take (length left - n) (drop n left) ≡ drop n left
-to_the_end left n = take_all (length left - n) (drop n left) (omega (arith, length-drop n left))
 
 -- a newline ends the line
 pub ends_line : (limit : ℕ) (held piece : List ℕ) (ls : List (List ℕ)) (begun left : List ℕ) (end : ℕ) → IsFirstByte (is_byte 10) left (Some end) → length begun + end ≤ limit
@@ -70,7 +67,7 @@ ends_line limit held piece ls begun left end first room s =
     let small : length part ≡ end = length-take-le end left (omega (arith, first.0.high)) in
     let byte : get_or left end 0 ≡ 10 = eqb-true _ _ first.1 in
     let cut : left ≡ part ++ 10 ∷ after =
-    split_at left end 0 first.0.high ∙ ap (λ b. part ++ b ∷ drop (suc end) left) byte ∙ ap (λ n. part ++ 10 ∷ drop n left) (sym (add-one end)) ∙ ap (λ r. part ++ 10 ∷ r) (sym (to_the_end left (end + 1))) in
+    split_at left end 0 first.0.high ∙ ap (λ b. part ++ b ∷ drop (suc end) left) byte ∙ ap (λ n. part ++ 10 ∷ drop n left) (sym (add-one end)) ∙ ap (λ r. part ++ 10 ∷ r) (sym (take_rest left (end + 1))) in
     record {
       whole = s.whole ∙ ap (λ t. stream_of ls (begun ++ t)) cut ∙ ap (stream_of ls) (sym (append_assoc begun part (10 ∷ after))) ∙ sym (stream_join ls ((begun ++ part) ∷ []) after);
       each = lines_join limit ls ((begun ++ part) ∷ []) s.each ((free_join begun part s.within.0 (front_free left end first), omega (arith, length-append begun part)), tt);

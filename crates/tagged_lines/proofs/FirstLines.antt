@@ -1,15 +1,14 @@
 -- The first line of some bytes, and the line that is returned for it.
 use Rattle.std.proofs.Common.{◌≡◌, ℕ, zero, suc, ◌+◌, ◌<◌, ◌≤◌, inl, inr, leb, eqb, Bool, true, false, cond, List, [], ◌∷◌, ◌++◌, Option, Some, None, length, get_or, take, drop, refl, sym, ap, subst, ◌∙◌, arith, add-one, append_assoc, append-nil, length-append}
 use Rattle.std.proofs.Math.Seq.{split_at, drop-length}
-use Rattle.std.proofs.lemmas.Bool.{ne_eqb, eqb-true, eq-eqb, cases_lt}
-use Rattle.std.proofs.lemmas.List.{take-append-drop, length-take-le, get_or-take, drop-drop}
+use Rattle.std.proofs.lemmas.Bool.{ne_eqb, eqb-true, cases_lt}
+use Rattle.std.proofs.lemmas.List.{take-append-drop, drop-drop}
 use Rattle.std.specs.Io.KnownBytes.{Consumes, Keeps, IsAtEnd}
 use Rattle.std.specs.Prelude.{option_map}
 use Rattle.memchr.specs.Find.{IsFirstByte, is_byte}
-use Rattle.units.proofs.Cuts.{free_from}
 use Rattle.units.specs.declared.code.Node.{Node}
 use Rattle.streams.specs.Lines.{HasNoNewline}
-use Rattle.streams.proofs.Streams.{none_free}
+use Rattle.streams.proofs.Streams.{none_free, front_free, free_join}
 use Rattle.tags.specs.Keys.{NodeKey}
 use Rattle.tagged_lines.specs.Lines.{Adds, IsFront}
 use Rattle.tagged_lines.specs.Opened.{line_of, longest_tagged, opened, opened_first, opened_line}
@@ -21,14 +20,6 @@ use Rattle.tagged_lines.specs.declared.opening_reader.Stage.{Stage}
 use Rattle.tagged_lines.specs.declared.opening_reader.Stage.TheVariants as stage
 
 -- ---- lines that grow
-
--- no newline before the first one
-front_free : (bytes : List ℕ) (end : ℕ) → IsFirstByte (is_byte 10) bytes (Some end) → HasNoNewline (take end bytes)
-front_free bytes end first =
-    let small : length (take end bytes) ≡ end = length-take-le end bytes (omega (arith, first.0.high)) in
-    free_from 10 (take end bytes) (λ k h e.
-    let below : k < end = omega arith in
-    first.0.before k (omega arith) below (eq-eqb _ _ (sym (get_or-take end bytes k 0 below) ∙ e)))
 
 pub cut_front : (bytes : List ℕ) (end : ℕ) → IsFirstByte (is_byte 10) bytes (Some end) → IsFront bytes (take end bytes) (10 ∷ drop (end + 1) bytes)
 cut_front bytes end first =
@@ -103,10 +94,6 @@ module _ (keys : List NodeKey) (node : Node) where
 
   pub opened_long : (front after : List ℕ) → HasNoNewline front → longest_tagged < length front → opened keys node (front ++ after) ≡ []
   opened_long front after free long = ap (opened_first keys node) (line_of_front front after free) ∙ too_long front (line_of after) long
-
-pub free_join : (xs ys : List ℕ) → HasNoNewline xs → HasNoNewline ys → HasNoNewline (xs ++ ys)
-free_join [] ys a b = b
-free_join (x ∷ xs) ys a b = (a.0, free_join xs ys a.1 b)
 
 -- ---- one read
 

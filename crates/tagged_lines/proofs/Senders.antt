@@ -1,5 +1,6 @@
 -- The node that a text names as its sender, among those with keys.
 use Rattle.std.proofs.Common.{◌≡◌, ℕ, ◌+◌, eqb, Bool, true, false, ◌&&◌, cond, List, [], ◌∷◌, ◌++◌, Option, Some, None, length, take, drop, refl, sym, ap, ◌∙◌}
+use Rattle.std.proofs.Math.Bool.{and-false, and-true}
 use Rattle.std.proofs.Math.Seq.{drop-append-add, take-append_seam}
 use Rattle.std.proofs.lemmas.Bool.{false_from_ne_true}
 use Rattle.std.proofs.lemmas.Slice.Eq.{bytes_eq-Decides}
@@ -43,19 +44,11 @@ sender_unsaid text none = λ node says. let e = sym (says_nothing text none) ∙
 
 -- ---- names
 
-and_false : (a : Bool) → (a && false) ≡ false
-and_false true = refl
-and_false false = refl
-
 pub same_name : (a b : Node) → bytes_eq (node_text a) (node_text b) ≡ same_node a b
 same_name Itl Itl = refl
-same_name Itl (Registry c) = ap (λ (t : Bool). eqb 73 c.first && t) (and_false (eqb 84 c.second)) ∙ and_false (eqb 73 c.first)
-same_name (Registry c) Itl = ap (λ (t : Bool). eqb c.first 73 && t) (and_false (eqb c.second 84)) ∙ and_false (eqb c.first 73)
-same_name (Registry c) (Registry d) = ap (λ (t : Bool). eqb c.first d.first && t) (and_true (eqb c.second d.second))
-  where
-    and_true : (a : Bool) → (a && true) ≡ a
-    and_true true = refl
-    and_true false = refl
+same_name Itl (Registry c) = ap (λ (t : Bool). eqb 73 c.first && t) (and-false (eqb 84 c.second)) ∙ and-false (eqb 73 c.first)
+same_name (Registry c) Itl = ap (λ (t : Bool). eqb c.first 73 && t) (and-false (eqb c.second 84)) ∙ and-false (eqb c.first 73)
+same_name (Registry c) (Registry d) = ap (λ (t : Bool). eqb c.first d.first && t) (and-true (eqb c.second d.second))
 
 find_like : (p q : NodeKey → Bool) → ((x : NodeKey) → p x ≡ q x) → (xs : List NodeKey) → find p xs ≡ find q xs
 find_like p q same [] = refl

@@ -1,17 +1,16 @@
 -- Lines of a file of keys, one after another.
-use Rattle.std.proofs.Common.{◌≡◌, ℕ, suc, ◌+◌, ◌-◌, ◌<◌, ◌≤◌, inl, inr, List, [], ◌∷◌, ◌++◌, Some, None, length, get_or, take, drop, refl, sym, ap, subst, ◌∙◌, arith, add-one, append_assoc, append-nil, length-append}
+use Rattle.std.proofs.Common.{◌≡◌, ℕ, suc, ◌+◌, ◌-◌, ◌<◌, ◌≤◌, inl, inr, List, [], ◌∷◌, ◌++◌, Some, None, length, get_or, take, drop, false, refl, sym, ap, subst, ◌∙◌, arith, add-one, append_assoc, append-nil}
 use Rattle.std.proofs.Math.Seq.{split_at}
-use Rattle.std.proofs.lemmas.Bool.{eqb-true, eq-eqb, cases_eq}
-use Rattle.std.proofs.lemmas.List.{take_all, length-drop, length-take-le, get_or-take}
+use Rattle.std.proofs.lemmas.Bool.{eqb-true, cases_eq}
+use Rattle.std.proofs.lemmas.List.{take_rest}
 use Rattle.std.specs.List.{AllByRecursion}
 use Rattle.memchr.specs.Find.{IsFirstByte, is_byte}
-use Rattle.units.proofs.Cuts.{free_from}
-use Rattle.streams.proofs.Streams.{none_free}
+use Rattle.streams.proofs.Streams.{none_free, front_free}
 use Rattle.streams.specs.Lines.{stream_of, HasNoNewline}
-use Rattle.tags.specs.Keys.{NodeKey, key_of}
+use Rattle.tags.specs.Keys.{NodeKey, has_key, key_of}
 use Rattle.tags.specs.KeysText.{HasLines, WriteKeys, AreKeys, IsKeyLine, IsKeysFault, IsLineAfter, IsFirstLine, IsLineFault, ReadsKeys, with_last, most_keys}
 use Rattle.tags.specs.declared.key_file.KeysFault.{KeysFault}
-use Rattle.tags.specs.declared.key_file.KeysFault.TheVariants.{Form, Twice, TooMany, Empty, NoMemory}
+use Rattle.tags.specs.declared.key_file.KeysFault.TheVariants.{Form, Twice, Same, TooMany, Empty, NoMemory}
 
 -- ---- the lines of some bytes
 
@@ -63,24 +62,13 @@ some_lines : (bytes : List ℕ) (lines : List (List ℕ)) → 0 < length bytes �
 some_lines bytes [] some h = let e = none_from_no_lines bytes h in absurd (omega (arith, some, ap length e))
 some_lines bytes (l ∷ ls) some h = omega arith
 
-to_the_end : (left : List ℕ) (n : ℕ) → take (length left - n) (drop n left) ≡ drop n left
-to_the_end left n = take_all (length left - n) (drop n left) (omega (arith, length-drop n left))
-
--- no newline before the first one
-front_free : (left : List ℕ) (end : ℕ) → IsFirstByte (is_byte 10) left (Some end) → HasNoNewline (take end left)
-front_free left end first =
-    let small : length (take end left) ≡ end = length-take-le end left (omega (arith, first.0.high)) in
-    free_from 10 (take end left) (λ k h e.
-    let below : k < end = omega arith in
-    first.0.before k (omega arith) below (eq-eqb _ _ (sym (get_or-take end left k 0 below) ∙ e)))
-
 -- a newline ends the first line
 pub line_ended : (bytes : List ℕ) (end : ℕ) → IsFirstByte (is_byte 10) bytes (Some end) → IsFirstLine bytes (take end bytes) (take (length bytes - (end + 1)) (drop (end + 1) bytes))
 line_ended bytes end first =
     let byte : get_or bytes end 0 ≡ 10 = eqb-true _ _ first.1 in
     let after = take (length bytes - (end + 1)) (drop (end + 1) bytes) in
     let cut : bytes ≡ take end bytes ++ 10 ∷ after =
-    split_at bytes end 0 first.0.high ∙ ap (λ b. take end bytes ++ b ∷ drop (suc end) bytes) byte ∙ ap (λ n. take end bytes ++ 10 ∷ drop n bytes) (sym (add-one end)) ∙ ap (λ r. take end bytes ++ 10 ∷ r) (sym (to_the_end bytes (end + 1))) in
+    split_at bytes end 0 first.0.high ∙ ap (λ b. take end bytes ++ b ∷ drop (suc end) bytes) byte ∙ ap (λ n. take end bytes ++ 10 ∷ drop n bytes) (sym (add-one end)) ∙ ap (λ r. take end bytes ++ 10 ∷ r) (sym (take_rest bytes (end + 1))) in
     lines_front (take end bytes) after (front_free bytes end first) bytes cut
 
 -- the only line lacks its newline
@@ -106,27 +94,28 @@ line_unended bytes line rest never some same end lines h =
 
 keys_length : (earlier : List NodeKey) (lines : List (List ℕ)) (keys : List NodeKey) → WriteKeys earlier lines keys → length lines ≡ length keys
 keys_length earlier [] [] w = refl
-keys_length earlier (line ∷ lines) (entry ∷ entries) w = ap suc (keys_length (earlier ++ entry ∷ []) lines entries w.2)
+keys_length earlier (line ∷ lines) (entry ∷ entries) w = ap suc (keys_length (earlier ++ entry ∷ []) lines entries w.3)
 keys_length earlier [] (entry ∷ entries) w = absurd w
 keys_length earlier (line ∷ lines) [] w = absurd w
 
-write_more : (earlier : List NodeKey) (lines : List (List ℕ)) (keys : List NodeKey) (line : List ℕ) (entry : NodeKey) → WriteKeys earlier lines keys → IsKeyLine line entry → key_of (earlier ++ keys) entry.node ≡ None
+write_more : (earlier : List NodeKey) (lines : List (List ℕ)) (keys : List NodeKey) (line : List ℕ) (entry : NodeKey) → WriteKeys earlier lines keys → IsKeyLine line entry → key_of (earlier ++ keys) entry.node ≡ None → has_key (earlier ++ keys) entry.key ≡ false
     → WriteKeys earlier (lines ++ line ∷ []) (keys ++ entry ∷ [])
-write_more earlier [] [] line entry w is new = (is, subst (λ (t : List NodeKey). key_of t entry.node ≡ None) (append-nil earlier) new, tt)
-write_more earlier (l ∷ lines) (k ∷ keys) line entry w is new =
-    (w.0, w.1, write_more (earlier ++ k ∷ []) lines keys line entry w.2 is (subst (λ (t : List NodeKey). key_of t entry.node ≡ None) (sym (append_assoc earlier (k ∷ []) keys)) new))
-write_more earlier [] (k ∷ keys) line entry w is new = absurd w
-write_more earlier (l ∷ lines) [] line entry w is new = absurd w
+write_more earlier [] [] line entry w is new other = (is, subst (λ (t : List NodeKey). key_of t entry.node ≡ None) (append-nil earlier) new, subst (λ (t : List NodeKey). has_key t entry.key ≡ false) (append-nil earlier) other, tt)
+write_more earlier (l ∷ lines) (k ∷ keys) line entry w is new other =
+    let same = sym (append_assoc earlier (k ∷ []) keys) in
+    (w.0, w.1, w.2, write_more (earlier ++ k ∷ []) lines keys line entry w.3 is (subst (λ (t : List NodeKey). key_of t entry.node ≡ None) same new) (subst (λ (t : List NodeKey). has_key t entry.key ≡ false) same other))
+write_more earlier [] (k ∷ keys) line entry w is new other = absurd w
+write_more earlier (l ∷ lines) [] line entry w is new other = absurd w
 
 pub reads_none : (text : List ℕ) (keys : List NodeKey) → keys ≡ [] → ReadsKeys text keys text
 reads_none text keys none = subst (λ (t : List NodeKey). ReadsKeys text t text) (sym none) (record { lines = []; before = λ others h. h; writes = tt })
 
-pub reads_next : (text : List ℕ) (keys : List NodeKey) (left line rest : List ℕ) (entry : NodeKey) → ReadsKeys text keys left → IsFirstLine left line rest → IsKeyLine line entry → key_of keys entry.node ≡ None
+pub reads_next : (text : List ℕ) (keys : List NodeKey) (left line rest : List ℕ) (entry : NodeKey) → ReadsKeys text keys left → IsFirstLine left line rest → IsKeyLine line entry → key_of keys entry.node ≡ None → has_key keys entry.key ≡ false
     → ReadsKeys text (keys ++ entry ∷ []) rest
-reads_next text keys left line rest entry r first is new = record {
+reads_next text keys left line rest entry r first is new other = record {
   lines = r.lines ++ line ∷ [];
   before = λ others h. subst (λ (t : List (List ℕ)). HasLines text t) (sym (append_assoc r.lines (line ∷ []) others)) (r.before (line ∷ others) (first others h));
-  writes = write_more [] r.lines keys line entry r.writes is new;
+  writes = write_more [] r.lines keys line entry r.writes is new other;
 }
 
 line_after : (text : List ℕ) (keys : List NodeKey) (left line rest : List ℕ) (number : ℕ) → ReadsKeys text keys left → IsFirstLine left line rest → number ≡ length keys + 1 → IsLineAfter text number keys line
@@ -143,6 +132,7 @@ line_after text keys left line rest number r first count =
 pub fault_of_line : (text : List ℕ) (keys : List NodeKey) (left line rest : List ℕ) (fault : KeysFault) → ReadsKeys text keys left → IsFirstLine left line rest → IsLineFault keys line fault → IsKeysFault text fault
 fault_of_line text keys left line rest (Form number) r first fault = (keys, line, line_after text keys left line rest number r first fault.0, fault.1)
 fault_of_line text keys left line rest (Twice number) r first fault = (keys, line, line_after text keys left line rest number r first fault.0, fault.1)
+fault_of_line text keys left line rest (Same number) r first fault = (keys, line, line_after text keys left line rest number r first fault.0, fault.1)
 fault_of_line text keys left line rest TooMany r first fault = absurd fault
 fault_of_line text keys left line rest Empty r first fault = absurd fault
 fault_of_line text keys left line rest NoMemory r first fault = tt
@@ -152,7 +142,7 @@ too_many text keys left r some count =
     let others = lined left in
     let more = some_lines left others.0 some others.1 in
     let same = keys_length [] r.lines keys r.writes in
-    (r.lines ++ others.0, r.before others.0 others.1, omega (arith, length-append r.lines others.0, more, same, count))
+    (keys, r.lines, others.0, r.before others.0 others.1, r.writes, same ∙ count, more)
 
 all_lines : (text : List ℕ) (keys : List NodeKey) (left : List ℕ) (r : ReadsKeys text keys left) → length left ≡ 0 → HasLines text r.lines
 all_lines text keys [] r none = subst (λ (t : List (List ℕ)). HasLines text t) (append-nil r.lines) (r.before [] (record { ended = []; last = []; whole = refl; each = tt; free = tt; all = refl }))

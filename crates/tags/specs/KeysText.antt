@@ -1,12 +1,12 @@
 -- The text of a file of keys, and the faults of such a text.
-use Rattle.std.specs.Prelude.{◌≡◌, ◌≤◌, ◌<◌, ◌+◌, ℕ, List, [], ◌∷◌, ◌++◌, length, Ok, None, IsSome}
+use Rattle.std.specs.Prelude.{◌≡◌, ◌≤◌, ◌<◌, ◌+◌, ℕ, List, [], ◌∷◌, ◌++◌, length, false, true, Ok, None, IsSome}
 use Rattle.std.specs.List.{AllByRecursion}
 use Rattle.hex.specs.Hex.{decode_sized}
 use Rattle.streams.specs.Lines.{stream_of, HasNoNewline}
 use Rattle.units.specs.Code.{node_text}
-use Rattle.tags.specs.Keys.{NodeKey, key_of}
+use Rattle.tags.specs.Keys.{NodeKey, has_key, key_of}
 use Rattle.tags.specs.declared.key_file.KeysFault.{KeysFault}
-use Rattle.tags.specs.declared.key_file.KeysFault.TheVariants.{Form, Twice, TooMany, Empty, NoMemory}
+use Rattle.tags.specs.declared.key_file.KeysFault.TheVariants.{Form, Twice, Same, TooMany, Empty, NoMemory}
 
 -- how many bytes a key has
 abbrev pub key_bytes : ℕ
@@ -36,13 +36,13 @@ pub record HasLines (text : List ℕ) (lines : List (List ℕ)) : Type 0 where
   pub free : HasNoNewline last
   pub all : lines ≡ with_last ended last
 
--- after the earlier keys, the lines write these, each for a node that had none yet
+-- after the earlier keys, the lines write these, each another key than those before it, and for a node that had none yet
 abbrev pub WriteKeys : List NodeKey → List (List ℕ) → List NodeKey → Type 0
 WriteKeys earlier [] [] = Unit {0}
-WriteKeys earlier (line ∷ lines) (entry ∷ entries) = IsKeyLine line entry × (key_of earlier entry.node ≡ None) × WriteKeys (earlier ++ entry ∷ []) lines entries
+WriteKeys earlier (line ∷ lines) (entry ∷ entries) = IsKeyLine line entry × (key_of earlier entry.node ≡ None) × (has_key earlier entry.key ≡ false) × WriteKeys (earlier ++ entry ∷ []) lines entries
 WriteKeys earlier _ _ = ⊥
 
--- the text of a file of these keys: a line for each, no node twice, at least one and not too many
+-- the text of a file of these keys: a line for each, no node and no key twice, at least one and not too many
 pub record AreKeys (text : List ℕ) (keys : List NodeKey) : Type 0 where
   pub lines : List (List ℕ)
   pub cut : HasLines text lines
@@ -62,7 +62,8 @@ pub record IsLineAfter (text : List ℕ) (number : ℕ) (keys : List NodeKey) (l
 abbrev pub IsKeysFault : List ℕ → KeysFault → Type 0
 IsKeysFault text (Form number) = (keys : List NodeKey) × (line : List ℕ) × IsLineAfter text number keys line × ((entry : NodeKey) → IsKeyLine line entry → ⊥)
 IsKeysFault text (Twice number) = (keys : List NodeKey) × (line : List ℕ) × IsLineAfter text number keys line × ((entry : NodeKey) × IsKeyLine line entry × IsSome (key_of keys entry.node))
-IsKeysFault text TooMany = (lines : List (List ℕ)) × HasLines text lines × (most_keys < length lines)
+IsKeysFault text (Same number) = (keys : List NodeKey) × (line : List ℕ) × IsLineAfter text number keys line × ((entry : NodeKey) × IsKeyLine line entry × (key_of keys entry.node ≡ None) × (has_key keys entry.key ≡ true))
+IsKeysFault text TooMany = (keys : List NodeKey) × (lines : List (List ℕ)) × (more : List (List ℕ)) × HasLines text (lines ++ more) × WriteKeys [] lines keys × (length lines ≡ most_keys) × (0 < length more)
 IsKeysFault text Empty = text ≡ []
 IsKeysFault text NoMemory = Unit {0}
 
@@ -82,6 +83,7 @@ pub record ReadsKeys (text : List ℕ) (keys : List NodeKey) (rest : List ℕ) :
 abbrev pub IsLineFault : List NodeKey → List ℕ → KeysFault → Type 0
 IsLineFault keys line (Form number) = (number ≡ length keys + 1) × ((entry : NodeKey) → IsKeyLine line entry → ⊥)
 IsLineFault keys line (Twice number) = (number ≡ length keys + 1) × ((entry : NodeKey) × IsKeyLine line entry × IsSome (key_of keys entry.node))
+IsLineFault keys line (Same number) = (number ≡ length keys + 1) × ((entry : NodeKey) × IsKeyLine line entry × (key_of keys entry.node ≡ None) × (has_key keys entry.key ≡ true))
 IsLineFault keys line TooMany = ⊥
 IsLineFault keys line Empty = ⊥
 IsLineFault keys line NoMemory = Unit {0}

@@ -1,5 +1,5 @@
 //! A key that two nodes share.
-ghost use Rattle.std.specs.Prelude.{◌≡◌, ◌≤◌};
+ghost use Rattle.std.specs.Prelude.{◌≡◌, ◌≤◌, bytes_eq};
 ghost use Rattle.units.specs.Code.{node_text};
 ghost use Rattle.tags.specs.Tags.{message_tag, reply_tag};
 
@@ -70,6 +70,13 @@ impl Key {
         ensures { result ≡ bytes }
     {
         Key { bytes }
+    }
+
+    /// Whether both are the same key.
+    pub(crate) fn is_same(&self, other: &Key) -> bool
+        ensures { result ≡ bytes_eq self.now other.now }
+    {
+        self.bytes == other.bytes
     }
 
     /// The tag of a message from one node to another, whose line without its newline is `text`: the HMAC-SHA-256

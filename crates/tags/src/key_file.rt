@@ -1,9 +1,9 @@
 //! Files of keys.
-ghost use Rattle.std.specs.Prelude.{◌≡◌, ◌≤◌, ◌<◌, ◌++◌, ◌∷◌, [], IfSome, IfNone, IfOk, IfErr, OnOk, length, vec_len, option_copied, None};
+ghost use Rattle.std.specs.Prelude.{◌≡◌, ◌≤◌, ◌<◌, ◌++◌, ◌∷◌, [], IfSome, IfNone, IfOk, IfErr, OnOk, length, vec_len, option_copied, None, false};
 ghost use Rattle.std.specs.Option.{option_map};
 ghost use Rattle.units.specs.Code.{node_text};
 ghost use Rattle.units.specs.declared.code.Node.{Node};
-ghost use Rattle.tags.specs.Keys.{NodeKey, key_of};
+ghost use Rattle.tags.specs.Keys.{NodeKey, has_key, key_of};
 ghost use Rattle.tags.specs.KeysText.{AreKeys, IsKeyLine, IsKeysFault, IsFirstLine, IsLineFault, ReadsKeys};
 
 use crate::key::{KEY_BYTES, Key};
@@ -29,6 +29,9 @@ pub enum KeysFault {
     /// The line is of a node that an earlier line has.
     #[error("line {0} is of a node that an earlier line has")]
     Twice(usize),
+    /// The line has a key that an earlier line has: each of the two nodes could then forge the other's messages.
+    #[error("line {0} has a key that an earlier line has")]
+    Same(usize),
     /// There are more than `MOST_KEYS` lines.
     #[error("there are more than 33 lines")]
     TooMany,
@@ -89,16 +92,24 @@ pub(crate) fn key_among(entries: &[Entry], node: Node) -> Option<&Key>
     Some(&entry.key)
 }
 
+/// Whether one of the entries has that key.
+fn has_key(entries: &[Entry], key: &Key) -> bool
+    ensures { result ≡ has_key entries.now key.now }
+{
+    entries.iter().any(|entry| entry.key.is_same(key))
+}
+
 /// Adds the node and the key that the line writes to the entries.
 ///
 /// # Errors
 ///
-/// Fails with `Form` and `Twice` with the number of the line, which follows those of the entries, and with `NoMemory`.
-/// The entries are as they were.
+/// Fails with `Form`, `Twice` and `Same` with the number of the line, which follows those of the entries, and with
+/// `NoMemory`. The entries are as they were.
 fn add_line(entries: &mut Vec<Entry>, line: &[u8]) -> Result<(), KeysFault>
     requires few { vec_len entries.old < MOST_KEYS }
     ensures ok { OnOk result ((entry : NodeKey) × (entries.new.items ≡ entries.old.items ++ entry ∷ [])
-        × IsKeyLine line.now entry × (key_of entries.old.items entry.node ≡ None)) }
+        × IsKeyLine line.now entry × (key_of entries.old.items entry.node ≡ None)
+        × (has_key entries.old.items entry.key ≡ false)) }
     ensures err { IfErr result (λ e. IsLineFault entries.old.items line.now e) }
 {
     let number = entries.len() + 1;
@@ -108,6 +119,9 @@ fn add_line(entries: &mut Vec<Entry>, line: &[u8]) -> Result<(), KeysFault>
     let is_new = key_among(entries, entry.node).is_none();
     if !is_new {
         return Err(KeysFault::Twice(number));
+    }
+    if has_key(entries, &entry.key) {
+        return Err(KeysFault::Same(number));
     }
     if entries.push(entry).is_err() {
         return Err(KeysFault::NoMemory);

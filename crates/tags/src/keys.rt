@@ -50,16 +50,18 @@ impl Keys {
     /// The keys that the text of a file writes. It has a line `NODE SPACE DIGITS` for each node, where `NODE` is `ITL`
     /// or the code of a registry, and `DIGITS` are 64 hexadecimal digits in either case. A newline ends each line,
     /// except that the last one may lack it. There is at least one line and there are at most `MOST_KEYS`, and no node
-    /// is there twice.
+    /// and no key is there twice.
     ///
     /// # Errors
     ///
     /// A fault of a line has the line's number, counted from 1. The fault is the first one in the order of the lines:
-    /// the lines before it write keys of different nodes.
+    /// the lines before it write different keys of different nodes.
     ///
     /// - `Form`: the line isn't such a line.
     /// - `Twice`: the line has that form, and an earlier line has the same node.
-    /// - `TooMany`: there are more than `MOST_KEYS` lines, and the first `MOST_KEYS` write keys of different nodes.
+    /// - `Same`: the line has that form and another node, and an earlier line has the same key.
+    /// - `TooMany`: there are more than `MOST_KEYS` lines, and the first `MOST_KEYS` write different keys of
+    ///   different nodes.
     /// - `Empty`: the text is empty.
     /// - `NoMemory`: memory ran out; that says nothing about the text.
     pub fn read(alloc: Global, text: &[u8]) -> Result<Keys, KeysFault>

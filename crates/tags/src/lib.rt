@@ -12,6 +12,3 @@ pub use key::{KEY_BYTES, Key};
 pub use key_file::{KeysFault, MOST_KEYS};
 pub use keys::Keys;
 pub use tag::{TAG_DIGITS, Tag, split_tagged};
-
-#[cfg(test)]
-mod tests;

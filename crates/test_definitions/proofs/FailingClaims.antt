@@ -1,6 +1,6 @@
 -- Histories for which a claim doesn't hold: a claim that could not fail would state nothing. Most histories are those
 -- of forged journals, whose nodes received messages that nobody sent.
-use Rattle.std.proofs.Common.{◌≡◌, ◌⊎◌, ◌∙◌, ◌&&◌, ℕ, zero, suc, ◌+◌, ◌≤◌, ◌<◌, Bool, true, false, List, [], ◌∷◌, Option, Some, None, cond, inl, inr, refl, ap, subst, arith, get_or}
+use Rattle.std.proofs.Common.{◌≡◌, ◌⊎◌, ◌∙◌, ◌&&◌, ℕ, zero, suc, ◌+◌, ◌≤◌, ◌<◌, Bool, true, false, List, [], ◌∷◌, Option, Some, None, cond, inl, inr, refl, sym, ap, subst, arith, get_or}
 use Rattle.std.specs.List.{count_by}
 use Rattle.std.specs.Option.{option_map_or}
 use Rattle.units.specs.declared.code.Code.{Code}
@@ -19,7 +19,7 @@ use Rattle.protocol.specs.History.{Entry, Transition, is_with, newest}
 use Rattle.protocol.specs.Registries.{allotted}
 use Rattle.protocol.specs.Verdict.{verdict}
 use Rattle.protocol.specs.World.{World, opening, step}
-use Rattle.protocol.proofs.WorkedScheme.{nz, jp, nz_node, jp_node, block, unit, nz1, scheme_s, first_of_may, notification}
+use Rattle.protocol.proofs.WorkedScheme.{nz, jp, nz_node, jp_node, block, unit, nz1, scheme_s, first_of_may, notification, codes_differ}
 use Rattle.test_definitions.proofs.ShortNames.{au, jp1, nz9, terms, to_jp, proposes, comes, orders, has, world_with, both_have, told_jp, first_unit, completes, one_entry, both_made}
 use Rattle.test_definitions.proofs.ThreeRegistries.{au_node, scheme_t}
 
@@ -76,19 +76,16 @@ in_two_places_and_owed h = let e : ◌≡◌ {A = ℕ} 3 1 = h (unit 1) in omega
 
 -- ---- spendable twice; held by a registry that doesn't own it
 
-letters_differ : nz ≡ jp → ⊥
-letters_differ e = let first : ◌≡◌ {A = ℕ} 78 74 = ap (λ (c : Code). c.first) e in omega arith
-
 pub spendable_twice : SpentOnce scheme_s (both_have [] (told_jp nz1 first_unit)) → ⊥
 unfolding verdict
-spendable_twice h = letters_differ (h (unit 1) nz jp refl refl)
+spendable_twice h = codes_differ (sym (h (unit 1) nz jp refl refl))
 
 abbrev code_in : Option Code → Code
 code_in o = option_map_or (λ c. c) o nz
 
 pub held_and_not_owned : HolderOwns scheme_s (both_have [] (told_jp nz1 first_unit)) → ⊥
 unfolding verdict
-held_and_not_owned h = letters_differ (ap code_in (h (unit 1) jp refl))
+held_and_not_owned h = codes_differ (sym (ap code_in (h (unit 1) jp refl)))
 
 -- ---- transitions of one registry
 

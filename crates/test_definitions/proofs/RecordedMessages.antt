@@ -1,20 +1,20 @@
 -- The effects of a journal's records on messages, the records with one more, and the results of inputs at them.
-use Rattle.std.proofs.Common.{◌≡◌, ℕ, zero, suc, true, false, List, [], ◌∷◌, length, Option, Some, None, ◌⊎◌, inl, inr, refl, ap, subst, arith}
-use Rattle.std.specs.Prelude.{Result, Ok, Err, unwrap_or}
+use Rattle.std.proofs.Common.{◌≡◌, ℕ, true, false, List, [], ◌∷◌, length, Some, None, ◌⊎◌, inl, inr, refl, ap, arith}
+use Rattle.std.specs.Prelude.{Result, Ok, Err}
 use Rattle.units.specs.declared.code.Node.TheVariants.{Itl}
 use Rattle.units.specs.declared.refusal.Refusal.{Refusal}
 use Rattle.wire.specs.declared.input.Input.{Input}
 use Rattle.wire.specs.declared.input.Input.TheVariants.{Ack}
 use Rattle.wire.specs.declared.message.Message.{Message}
 use Rattle.wire.specs.declared.message.ProposalStatus.TheVariants as proposal
-use Rattle.protocol.specs.Cores.{Replays, answer}
+use Rattle.protocol.specs.Cores.{Replays}
 use Rattle.protocol.specs.Outgoing.{did, outgoing}
 use Rattle.protocol.specs.Records.{Admits, RecordsView, with_record}
 use Rattle.protocol.specs.Sending.{EndsWithMessages, Sent, Sends, Acknowledges, is_key_acknowledged}
 use Rattle.protocol.specs.Taking.{TakesInto}
 use Rattle.protocol.specs.Verdict.{history, verdict}
-use Rattle.protocol.specs.declared.node_core.Stepped.TheVariants.{Recorded}
 use Rattle.protocol.proofs.WorkedScheme.{jp, nz_node, block, nz1, scheme_s, number}
+use Rattle.test_definitions.proofs.OrdersOfRecords.{replays_one}
 use Rattle.test_definitions.proofs.ShortNames.{Answer, orders, proposes, recorded, refused, to_jp}
 
 abbrev order : Input
@@ -98,17 +98,9 @@ failed_and_kept h = let e : ◌≡◌ {A = ℕ} 1 0 = ap (λ (r : RecordsView). 
 abbrev takes : RecordsView → RecordsView → Input → Answer → Type 0
 takes old new input result = TakesInto scheme_s nz_node old new input result
 
-order_recorded : (i : Input) → Some order ≡ Some i → answer scheme_s nz_node [] i ≡ Ok (Recorded 0)
-unfolding verdict
-order_recorded i e = subst (λ (o : Option Input). answer scheme_s nz_node [] (unwrap_or o order) ≡ Ok (Recorded 0)) e refl
-
-one_replays : Replays scheme_s nz_node (order ∷ [])
-one_replays zero input e = order_recorded input e
-one_replays (suc k) input e = absurd (let n : None ≡ Some input = e in cc (n))
-
 pub taken : takes none one order (recorded 0)
 unfolding verdict
-taken = record { answer_is = inl refl; journal_is = refl; records = record { inputs = refl; sent = refl; replays = one_replays } }
+taken = record { answer_is = inl refl; journal_is = refl; records = record { inputs = refl; sent = refl; replays = replays_one } }
 
 no_records : Replays scheme_s nz_node []
 no_records k input e = absurd (let n : None ≡ Some input = e in cc (n))

@@ -192,6 +192,7 @@ fn a_registry_stands_alone(rt: HostRuntime) {
 const ITL_LINES: &str = "\
 eligible NZ no
 clean-up 2012-05-02T00:00:00Z
+clean-up 9998-12-31T23:59:59Z
 eligible FR no
 propose 1 JP 7 NZ:1:1-100:AAU
 open 3
@@ -201,10 +202,11 @@ eligible NZ yes";
 const ITL_ANSWERS: &str = "\
 1 recorded 0
 2 repeat
-3 refused 114
-4 not possible
+3 fault moment
+4 refused 114
 5 not possible
-6 fault order
+6 not possible
+7 fault order
 records 1
 ";
 

@@ -45,8 +45,6 @@ mod muster_rows;
 #[cfg(test)]
 mod nodes;
 #[cfg(test)]
-mod not_possible;
-#[cfg(test)]
 mod nz_desk;
 #[cfg(test)]
 mod one_node;
@@ -71,11 +69,17 @@ mod standing;
 #[cfg(test)]
 mod stations;
 #[cfg(test)]
+mod tagged_rows;
+#[cfg(test)]
+mod tagged_texts;
+#[cfg(test)]
 mod thread_rows;
 #[cfg(test)]
 mod threaded_run;
 #[cfg(test)]
 mod told_rows;
+#[cfg(test)]
+mod undone_rows;
 #[cfg(test)]
 mod waits;
 #[cfg(test)]

@@ -14,7 +14,7 @@ use input_lines::{ScriptLine, read_script};
 use protocol::nodes_of;
 use protocol::scheme::Scheme;
 use protocol::units::{NoMemory, Node};
-use run::{LoadedNode, run_script};
+use run::{EndedRun, LoadedNode, run_script};
 use sessions::{Network, NodeTypes};
 use sockets::{Port, Ports, SocketNodes};
 use std::alloc::Global;
@@ -108,8 +108,8 @@ where
     Ok((nodes, ports))
 }
 
-/// The result of a run, and its output.
-pub type Played = (Result<(), OpFault>, Vec<u8>);
+/// The number of the first line of a run's script that was not carried out, or the run's fault; and its output.
+pub type Played = (Result<Option<u64>, OpFault>, Vec<u8>);
 
 /// The result and the output of a run of the script over empty stores of the log, of JP and of NZ. If `passes` is
 /// given, NZ's store takes that many batches before one fails. A run in which memory ran out is made anew with other
@@ -139,7 +139,7 @@ fn lacks_memory(rt: &impl Abort, written: &[u8]) -> bool {
 /// The result and the output of a run. `NoMemory` if the result is that, or an answer says so.
 fn unless_no_memory(
     rt: &impl Abort,
-    done: Result<(), OpFault>,
+    done: Result<Option<u64>, OpFault>,
     written: Vec<u8>,
 ) -> Result<Played, NoMemory> {
     if done == Err(OpFault::NoMemory) || lacks_memory(rt, written.as_slice()) {
@@ -158,7 +158,7 @@ fn run_at<N, P, R>(
     loaded: Vec<LoadedNode<N>>,
     network: Network<N>,
     watch: &mut P,
-) -> (Result<(), OpFault>, Vec<u8>)
+) -> Played
 where
     N: NodeTypes,
     P: run::Watch + weave::Watch,
@@ -180,9 +180,9 @@ where
     );
     drop(network);
     match done {
-        Ok(ended) => {
-            drop(ended);
-            (Ok(()), written)
+        Ok(EndedRun { nodes, undone }) => {
+            drop(nodes);
+            (Ok(undone), written)
         }
         Err(fault) => (Err(fault), written),
     }

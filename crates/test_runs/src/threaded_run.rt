@@ -25,7 +25,7 @@ const RUNS: usize = 20;
 fn transfers_in_a_row(rt: HostRuntime) {
     for _ in 0..RUNS {
         let (done, written) = played(&rt, rt.alloc(), None, SCRIPT);
-        assert_same(&rt, done, Ok(()));
+        assert_same(&rt, done, Ok(None));
         let table = written.strip_prefix(ANSWERS.as_bytes());
         assert_same(&rt, table, Some(TABLE.as_bytes()));
     }

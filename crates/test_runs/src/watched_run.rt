@@ -62,7 +62,7 @@ where
     };
     let (done, written) = played_watched(rt, alloc, None, SCRIPT, &mut told)?;
     drop(written);
-    assert_same(rt, done, Ok(()));
+    assert_same(rt, done, Ok(None));
     Ok(told)
 }
 

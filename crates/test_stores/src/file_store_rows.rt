@@ -1,17 +1,14 @@
 use crate::calls::{
-    append, append_two, assert_kept, assert_page, assert_pages, assert_two, count, load, reopen,
-    waits,
+    append, append_two, assert_kept, assert_pages, assert_two, count, load, reopen, waits,
 };
 use crate::folders::{add_folder, add_text, remove_folder};
 use crate::fused_files::{
-    FOREVER, RoomyFiles, RoomyStore, after_losses, assert_refused, changed, closed, have_blown,
-    new_files, open_as, opened, refused, registry,
+    FOREVER, RoomyFiles, after_losses, closed, have_blown, new_files, open_as, opened, registry,
 };
 use crate::same::assert_same;
-use crate::sample_records::{PROPOSE, two};
+use crate::sample_records::two;
 use desk::stores::{NodeStore, StoreFault};
 use sqlite::File;
-use sqlite_disk::Disk;
 use std::alloc::Global;
 use std::process::Abort;
 use store_files::durable::SqlStore;
@@ -49,98 +46,6 @@ fn pages_of_a_store_in_files(rt: HostRuntime) {
     let alloc = rt.alloc();
     let mut store = open_as(&rt, alloc, files_of_two(&rt, alloc), "NZ");
     assert_pages(&rt, alloc, &mut store);
-    drop(store);
-}
-
-#[test]
-fn files_of_another_node_are_refused(rt: HostRuntime) {
-    let alloc = rt.alloc();
-    let files = files_of_two(&rt, alloc);
-    let files = refused(&rt, alloc, files, "JP", StoreFault::WrongNode);
-    assert_two_in(&rt, alloc, files);
-}
-
-#[test]
-fn another_format_is_refused_before_another_node(rt: HostRuntime) {
-    let alloc = rt.alloc();
-    let statement = "UPDATE about SET format = 9";
-    let files = changed(&rt, alloc, files_of_two(&rt, alloc), &[statement]);
-    let files = refused(&rt, alloc, files, "NZ", StoreFault::WrongVersion);
-    assert_refused(&rt, alloc, files, "JP", StoreFault::WrongVersion);
-}
-
-#[test]
-fn what_is_no_store_is_refused(rt: HostRuntime) {
-    let alloc = rt.alloc();
-    for statement in [
-        "UPDATE entries SET place = -1 WHERE place = 1",
-        "DELETE FROM about",
-        "CREATE TABLE notes (line TEXT)",
-        "CREATE INDEX bodies ON entries (body)",
-        "DROP TABLE about",
-    ] {
-        let files = changed(&rt, alloc, files_of_two(&rt, alloc), &[statement]);
-        assert_refused(&rt, alloc, files, "NZ", StoreFault::Damaged(0));
-    }
-}
-
-#[test]
-fn tables_made_in_the_other_order_are_a_store(rt: HostRuntime) {
-    let alloc = rt.alloc();
-    let tables = [
-        "CREATE TABLE entries (place INTEGER PRIMARY KEY, body TEXT NOT NULL) STRICT",
-        "CREATE TABLE about (id INTEGER PRIMARY KEY CHECK (id = 1), format INTEGER NOT NULL, node TEXT NOT NULL) STRICT",
-    ];
-    let files = changed(&rt, alloc, new_files(&rt, alloc, FOREVER, FOREVER), &tables);
-    assert_two_in(&rt, alloc, with_two(&rt, alloc, files));
-}
-
-#[test]
-fn a_file_that_is_no_database_is_refused(rt: HostRuntime) {
-    let alloc = rt.alloc();
-    let mut files = new_files(&rt, alloc, FOREVER, FOREVER);
-    assert!(rt; files.db.may_be_used());
-    assert!(rt; files.db.write_at(0, &[b'x'; 4096]).is_ok());
-    assert_refused(&rt, alloc, files, "NZ", StoreFault::Damaged(0));
-}
-
-/// Asserts that loading the whole store fails with that damage.
-fn assert_damaged<S: NodeStore>(rt: &impl Abort, store: &mut S, place: u64) {
-    assert!(rt; load(store).err() == Some(StoreFault::Damaged(place)));
-}
-
-/// Asserts that after the statement loading the whole store fails with that damage. Returns the store.
-fn damaged(rt: &impl Abort, alloc: Global, statement: &str, place: u64) -> RoomyStore {
-    let files = changed(rt, alloc, files_of_two(rt, alloc), &[statement]);
-    let mut store = open_as(rt, alloc, files, "NZ");
-    assert_damaged(rt, &mut store, place);
-    store
-}
-
-/// Asserts that loading the page of that one place fails with that damage.
-fn assert_damaged_page<S: NodeStore>(rt: &impl Abort, store: &mut S, place: u64) {
-    let page = again!(store.load_page(place, 1), Err(StoreFault::NoMemory) => ());
-    assert!(rt; page.err() == Some(StoreFault::Damaged(place)));
-}
-
-#[test]
-fn a_record_that_is_none_is_named(rt: HostRuntime) {
-    let alloc = rt.alloc();
-    let statement = "UPDATE entries SET body = 'x' WHERE place = 1";
-    let mut store = damaged(&rt, alloc, statement, 1);
-    assert_page(&rt, alloc, &mut store, 0, 1, Some(PROPOSE));
-    assert_damaged_page(&rt, &mut store, 1);
-    drop(store);
-}
-
-#[test]
-fn a_place_that_is_missing_is_named(rt: HostRuntime) {
-    let alloc = rt.alloc();
-    let moved = "UPDATE entries SET place = 2 WHERE place = 1";
-    let removed = "DELETE FROM entries WHERE place = 0";
-    drop(damaged(&rt, alloc, moved, 1));
-    let mut store = damaged(&rt, alloc, removed, 0);
-    assert_damaged_page(&rt, &mut store, 0);
     drop(store);
 }
 

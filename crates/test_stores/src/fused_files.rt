@@ -191,19 +191,3 @@ pub fn execute_all<S: Alter>(rt: &impl Abort, conn: &mut Connection<S>, statemen
 pub fn store_of<S: Alter + Drop>(conn: Connection<S>) -> S {
     conn.into_store()
 }
-
-/// Has the database execute these statements, and gives the connection up for its store.
-fn changed_by<S: Alter + Drop>(rt: &impl Abort, mut conn: Connection<S>, statements: &[&str]) -> S {
-    execute_all(rt, &mut conn, statements);
-    store_of(conn)
-}
-
-/// The files after statements that no store executes.
-pub fn changed<D: Disk + Drop>(
-    rt: &impl Abort,
-    alloc: Global,
-    files: Files<D>,
-    statements: &[&str],
-) -> Files<D> {
-    changed_by(rt, open_database(rt, alloc, files), statements).close()
-}

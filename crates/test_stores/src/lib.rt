@@ -1,5 +1,5 @@
-//! Tests of stores, in memory and in files, a transfer and the copying of a log with each call of their files
-//! failing in turn, and the migration of stores of format 1.
+//! Tests of stores, in memory and in files, and of a transfer, the copying of a log and the migration of a store of
+//! format 1 with each call of their files failing in turn.
 #![tactic(auto)]
 
 #[cfg(test)]
@@ -8,8 +8,6 @@ mod calls;
 mod checkpoint_rows;
 #[cfg(test)]
 mod cut_rows;
-#[cfg(test)]
-mod damage_rows;
 #[cfg(test)]
 mod driving;
 #[cfg(test)]
@@ -24,8 +22,6 @@ mod links;
 mod memory_store_rows;
 #[cfg(test)]
 mod migration_cut;
-#[cfg(test)]
-mod migration_rows;
 #[cfg(test)]
 mod old_stores;
 #[cfg(test)]

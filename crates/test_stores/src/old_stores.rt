@@ -11,9 +11,6 @@ use test_support::{again, texts};
 /// NZ's proposal, in format 1.
 pub const PROPOSE_ONE: &str = texts::PROPOSE_RECORD_1;
 
-/// Its acceptance, in format 1.
-pub const ACCEPTED_ONE: &str = texts::ACCEPTED_RECORD_1;
-
 const ABOUT: &str =
     "CREATE TABLE about (id INTEGER PRIMARY KEY CHECK (id = 1), format INTEGER NOT NULL, node TEXT NOT NULL) STRICT";
 
@@ -101,37 +98,4 @@ pub fn make_old_store_at(rt: &impl Abort, files: &HostRuntime, path: &str, texts
 /// The files of NZ's store of format 1 with these records.
 pub fn old_files(rt: &impl Abort, alloc: Global, texts: &[&str]) -> RoomyFiles {
     files_made_by(rt, alloc, &[ABOUT, ENTRIES, OWNER], texts)
-}
-
-/// The same, where `entries` was made first.
-pub fn old_files_entries_first(rt: &impl Abort, alloc: Global, texts: &[&str]) -> RoomyFiles {
-    files_made_by(rt, alloc, &[ENTRIES, ABOUT, OWNER], texts)
-}
-
-/// The format of the store that the connection has open.
-fn format_of<S: Alter>(rt: &impl Abort, conn: &mut Connection<S>) -> i64 {
-    let rows = again!(
-        conn.query_all("SELECT format FROM about", &[]),
-        Err(SqlError::SqliteFailure(ErrorCode::OutOfMemory)) => ()
-    );
-    let rows = rows.ok().expect(rt, "the owner's row");
-    let row = rows.first().expect(rt, "an owner");
-    let format: i64 = row.get(0).ok().expect(rt, "a number");
-    format
-}
-
-/// Asserts that the store that the connection has open has that format. Gives the connection up for the store.
-fn with_format<S: Alter + Drop>(rt: &impl Abort, mut conn: Connection<S>, wanted: i64) -> S {
-    assert!(rt; format_of(rt, &mut conn) == wanted);
-    store_of(conn)
-}
-
-/// Asserts that the store in the files has that format. Gives them back.
-pub fn assert_format<D: Disk + Drop>(
-    rt: &impl Abort,
-    alloc: Global,
-    files: Files<D>,
-    wanted: i64,
-) -> Files<D> {
-    with_format(rt, open_database(rt, alloc, files), wanted).close()
 }

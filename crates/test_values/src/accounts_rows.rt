@@ -112,15 +112,6 @@ fn assert_all_refused(rt: &impl Abort, holdings: &mut Holdings) {
     }
 }
 
-/// Calls where account 1 has forty units, and account 2 none.
-const CALLS: &[(Call, u64, Option<u16>)] = &[
-    (Call::Close, 1, Some(112)),
-    (Call::Close, 2, None),
-    (Call::Close, 2, Some(111)),
-    (Call::Open, 2, None),
-    (Call::Open, 3, Some(110)),
-];
-
 #[test]
 fn holdings_are_reserved_once(rt: HostRuntime) {
     let first = id(&rt, "NZ1");
@@ -135,7 +126,6 @@ fn holdings_are_reserved_once(rt: HostRuntime) {
     assert_reserved(&rt, &mut holdings, alloc, &sixty, first, 40);
     assert_removed(&rt, &mut holdings, first, 40);
     assert_lines(&rt, &holdings, alloc, &[left]);
-    assert_calls(&rt, &mut holdings, CALLS);
     drop(holdings);
 }
 
@@ -189,90 +179,5 @@ fn pieces(rt: HostRuntime) {
     assert_released(&rt, &mut holdings, first, 100);
     assert_lines(&rt, &holdings, alloc, &[line(&rt, "NZ:1:1-100:AAU", None)]);
     assert_same(&rt, holdings.pieces().len(), 1);
-    drop(holdings);
-}
-
-/// A call that closes or opens an account, or asks whether it would.
-#[derive(Clone, Copy)]
-enum Call {
-    Open,
-    Close,
-    MayOpen,
-    MayClose,
-}
-
-impl Call {
-    /// The code with which the call is refused, or `None`.
-    fn code(self, holdings: &mut Holdings, account: u64) -> Option<u16> {
-        let done = match self {
-            Call::Open => holdings.open_account(account),
-            Call::Close => holdings.close_account(account),
-            Call::MayOpen => holdings.may_open(account),
-            Call::MayClose => holdings.may_close(account),
-        };
-        let refusal = done.err()?;
-        Some(refusal.code)
-    }
-}
-
-/// The calls with these accounts, one after another, are refused with these codes, or aren't refused.
-fn assert_calls(rt: &impl Abort, holdings: &mut Holdings, calls: &[(Call, u64, Option<u16>)]) {
-    for (call, account, code) in calls {
-        assert_same(rt, call.code(holdings, *account), *code);
-    }
-}
-
-const CLOSE: &[(Call, u64, Option<u16>)] = &[
-    (Call::Close, 1, Some(112)),
-    (Call::Close, 2, None),
-    (Call::Close, 2, Some(111)),
-    (Call::Close, 3, Some(110)),
-];
-
-const OPEN: &[(Call, u64, Option<u16>)] = &[
-    (Call::Open, 2, None),
-    (Call::Open, 2, Some(111)),
-    (Call::Open, 3, Some(110)),
-];
-
-#[test]
-fn holdings_are_closed_and_opened(rt: HostRuntime) {
-    let mut holdings = hundred(&rt, rt.alloc());
-    assert_calls(&rt, &mut holdings, CLOSE);
-    assert_same(
-        &rt,
-        (holdings.is_open(2), holdings.is_open(3)),
-        (Some(false), None),
-    );
-    assert_same(&rt, holdings.check(2, &[]), refusal(104));
-    assert_calls(&rt, &mut holdings, OPEN);
-    assert_same(&rt, holdings.is_open(2), Some(true));
-    drop(holdings);
-}
-
-const WHILE_RESERVED: &[(Call, u64, Option<u16>)] = &[
-    (Call::MayClose, 1, Some(112)),
-    (Call::MayClose, 2, None),
-    (Call::MayClose, 3, Some(110)),
-    (Call::MayOpen, 2, Some(111)),
-];
-
-const AFTER_REMOVAL: &[(Call, u64, Option<u16>)] = &[
-    (Call::MayClose, 1, None),
-    (Call::Close, 1, None),
-    (Call::MayOpen, 1, None),
-    (Call::MayClose, 1, Some(111)),
-];
-
-#[test]
-fn accounts_may_be_closed_and_opened(rt: HostRuntime) {
-    let first = id(&rt, "NZ1");
-    let whole = [block(&rt, "NZ:1:1-100:AAU")];
-    let alloc = rt.alloc();
-    let mut holdings = hundred(&rt, alloc);
-    assert_reserved(&rt, &mut holdings, alloc, &whole, first, 0);
-    assert_calls(&rt, &mut holdings, WHILE_RESERVED);
-    assert_removed(&rt, &mut holdings, first, 0);
-    assert_calls(&rt, &mut holdings, AFTER_REMOVAL);
     drop(holdings);
 }

@@ -16,8 +16,6 @@ pub enum Given {
     Event(&'static str),
     /// The message of that text, at `MOMENT`.
     Message(&'static str),
-    /// The message of that text, a second later.
-    LaterMessage(&'static str),
 }
 
 /// The line of NZ's order for its hundred units.
@@ -40,10 +38,10 @@ fn taken(event: WorldEvent) -> Option<Input> {
     }
 }
 
-/// The message of that text, received at that moment.
-fn received(rt: &impl Abort, alloc: Global, text: &str, seconds: u64) -> Input {
+/// The message of that text, received at `MOMENT`.
+fn received(rt: &impl Abort, alloc: Global, text: &str) -> Input {
     let message = decode(alloc, text.as_bytes()).expect(rt, READING);
-    let moment = Moment::new(seconds).expect(rt, "in 2012");
+    let moment = Moment::new(MOMENT).expect(rt, "in 2012");
     Input::Received { message, moment }
 }
 
@@ -54,8 +52,7 @@ pub fn input_of(rt: &impl Abort, alloc: Global, given: Given) -> Input {
             let event = event_of(alloc, line.as_bytes()).expect(rt, READING);
             taken(event).expect(rt, "an input")
         }
-        Given::Message(text) => received(rt, alloc, text, MOMENT),
-        Given::LaterMessage(text) => received(rt, alloc, text, MOMENT + 1),
+        Given::Message(text) => received(rt, alloc, text),
     }
 }
 

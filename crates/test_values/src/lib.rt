@@ -1,16 +1,13 @@
-//! Tests of sets of units, holdings, status tables, schemes and outboxes, and of whole registries and the log; of
-//! messages, records, lines, replies, scripts, the command line, `rehearse` and `show`. They cover values and texts
-//! from outside, each public function with enough memory, streams that fail midway, and behaviour that no clause
-//! specifies.
+//! Tests of sets of units, holdings, schemes and outboxes, and of whole registries and the log; of messages, records,
+//! lines, replies, scripts, the command line, `rehearse` and `show`. They cover values and texts from outside that no
+//! equation of `test_definitions` and no example has, each public function with enough memory, streams that fail
+//! midway, and behaviour that no clause specifies.
 #![tactic(auto)]
 
 #[cfg(test)]
 mod accounts_rows;
 #[cfg(test)]
 mod cores;
-#[cfg(test)]
-#[cfg(test)]
-mod finding_rows;
 #[cfg(test)]
 mod given;
 #[cfg(test)]
@@ -29,8 +26,6 @@ mod named;
 mod node_word_rows;
 #[cfg(test)]
 mod outbox_rows;
-#[cfg(test)]
-mod part_rows;
 #[cfg(test)]
 mod record_rows;
 #[cfg(test)]
@@ -52,9 +47,9 @@ mod show_rows;
 #[cfg(test)]
 mod status_rows;
 #[cfg(test)]
-mod units_rows;
+mod tag_rows;
 #[cfg(test)]
-mod value_rows;
+mod units_rows;
 #[cfg(test)]
 mod views_rows;
 #[cfg(test)]

@@ -32,91 +32,18 @@ fn assert_told(rt: &impl Abort, alloc: Global, fault: OpFault, text: &str, statu
 
 #[test]
 fn faults_are_told(rt: HostRuntime) {
-    let node = nz(&rt);
-    let told: [(OpFault, &str, u8); 7] = [
-        (OpFault::Read, "read failed", 3),
-        (OpFault::Write(17), "write failed after 17 bytes", 3),
+    let (node, fault) = (nz(&rt), StoreFault::Damaged(3));
+    let told: [(OpFault, &str, u8); 3] = [
         (OpFault::Stuck { node, place: 12 }, "stuck at NZ 12", 1),
-        (OpFault::Unsettled { node }, "unsettled NZ", 1),
-        (OpFault::Unsettled { node: Node::Itl }, "unsettled ITL", 1),
-        (OpFault::NoMemory, "out of memory", 5),
         (
-            OpFault::Input {
-                line: 2,
-                cause: Cause::Order,
-            },
-            "line 2: order",
-            3,
-        ),
-    ];
-    for (fault, text, status) in told {
-        assert_told(&rt, rt.alloc(), fault, text, status);
-    }
-}
-
-#[test]
-fn setup_faults_are_told(rt: HostRuntime) {
-    let node = nz(&rt);
-    let told: [(SetupFault, &str, u8); 16] = [
-        (SetupFault::Listen, "--listen: no address", 2),
-        (SetupFault::Peer, "--peer: no node with its address", 2),
-        (
-            SetupFault::Stranger(node),
-            "--peer: nothing is sent to NZ",
-            2,
-        ),
-        (
-            SetupFault::Twice(Node::Itl),
-            "--peer: ITL is there twice",
-            2,
-        ),
-        (SetupFault::Missing(node), "--peer: NZ is missing", 2),
-        (
-            SetupFault::Exposed,
-            "--keys: an address beyond the loopback interface needs them",
-            2,
-        ),
-        (SetupFault::CleanUp, "--clean-up: no number of seconds", 2),
-        (SetupFault::NotTheLog, "--clean-up: ITL alone cleans up", 2),
-        (SetupFault::Unknown, "no node of the scheme", 3),
-        (SetupFault::KeysUnread, "--keys: read failed", 3),
-        (
-            SetupFault::KeysShared,
-            "--keys: others than the owner have access",
-            3,
-        ),
-        (
-            SetupFault::KeysLine(34),
+            OpFault::Setup(SetupFault::KeysLine(34)),
             "--keys: line 34: no further node with its key",
             3,
         ),
-        (SetupFault::NoKey(Node::Itl), "--keys: ITL is missing", 3),
-        (SetupFault::Port, "--listen: the address can't be had", 3),
-        (SetupFault::OtherScheme, "the store is of another scheme", 4),
-        (
-            SetupFault::SchemeSum,
-            "the scheme's sum beside the store can't be read or written",
-            4,
-        ),
+        (OpFault::Store { node, fault }, "store NZ: damaged 3", 4),
     ];
     for (fault, text, status) in told {
-        assert_told(&rt, rt.alloc(), OpFault::Setup(fault), text, status);
-    }
-}
-
-#[test]
-fn faults_of_stores_are_told(rt: HostRuntime) {
-    let node = nz(&rt);
-    let told: [(StoreFault, &str); 6] = [
-        (StoreFault::Device, "store NZ: device"),
-        (StoreFault::Full, "store NZ: full"),
-        (StoreFault::Damaged(3), "store NZ: damaged 3"),
-        (StoreFault::WrongNode, "store NZ: wrong-node"),
-        (StoreFault::WrongVersion, "store NZ: wrong-version"),
-        (StoreFault::Reopen, "store NZ: reopen"),
-    ];
-    for (fault, text) in told {
-        assert_told(&rt, rt.alloc(), OpFault::Store { node, fault }, text, 4);
+        assert_told(&rt, rt.alloc(), fault, text, status);
     }
 }
 

@@ -1,10 +1,7 @@
-use crate::message_rows::assert_written;
 use crate::same::assert_same;
 use protocol::units::Items;
-use std::alloc::Global;
 use std::process::Abort;
 use streams::{Line, LineFault, Splitter, Truncated};
-use test_support::texts::{ACCEPTED, PROPOSED, REQUEST};
 use test_support::{READING, again};
 
 const LIMIT: usize = 8192;
@@ -93,35 +90,6 @@ fn a_line_of_the_limit(rt: HostRuntime) {
     assert_same(&rt, splitter.finish(), Ok(()));
 }
 
-/// A splitter of the limit that was fed as many bytes as the limit, each as a piece.
-fn fed_up_to_the_limit(rt: &impl Abort, alloc: Global) -> Splitter {
-    let mut splitter = Splitter::new(alloc, LIMIT);
-    for _ in 0..LIMIT {
-        assert!(rt; feed(rt, &mut splitter, b"a") == Fed::Lines(0));
-    }
-    splitter
-}
-
-#[test]
-fn a_line_of_the_limit_byte_by_byte(rt: HostRuntime) {
-    let alloc = rt.alloc();
-    let bytes = vec![in alloc; b'a'; LIMIT].expect(&rt, READING);
-    let mut splitter = fed_up_to_the_limit(&rt, alloc);
-    assert_lines(
-        &rt,
-        lines_of(&rt, &mut splitter, b"\n"),
-        &[bytes.as_slice()],
-    );
-    assert_same(&rt, splitter.finish(), Ok(()));
-}
-
-#[test]
-fn a_line_over_the_limit_byte_by_byte(rt: HostRuntime) {
-    let mut splitter = fed_up_to_the_limit(&rt, rt.alloc());
-    assert_same(&rt, feed(&rt, &mut splitter, b"a"), Fed::TooLong(0));
-    assert_same(&rt, feed(&rt, &mut splitter, b"\n"), Fed::Closed);
-}
-
 #[test]
 fn pieces_fed_again(rt: HostRuntime) {
     let mut splitter = Splitter::new(rt.alloc(), LIMIT);
@@ -145,74 +113,4 @@ fn a_stream_that_ends_within_a_line(rt: HostRuntime) {
     let mut splitter = Splitter::new(rt.alloc(), LIMIT);
     assert_same(&rt, feed(&rt, &mut splitter, b"ab"), Fed::Lines(0));
     assert_same(&rt, splitter.finish(), Err(Truncated));
-}
-
-const TWO_LINES: &[&[u8]] = &[b"Proposed NZ7", b"Accepted"];
-
-/// The lines of the first piece and then of the second are these two.
-fn assert_texts(rt: &impl Abort, first: &[Line], second: &[Line]) {
-    assert!(rt; first.len() <= TWO_LINES.len());
-    assert_same(rt, second.len(), TWO_LINES.len() - first.len());
-    for (line, text) in first.iter().zip(TWO_LINES) {
-        assert_same(rt, line.as_slice(), *text);
-    }
-    for (line, text) in second.iter().zip(&TWO_LINES[first.len()..]) {
-        assert_same(rt, line.as_slice(), *text);
-    }
-}
-
-/// A stream of these two pieces has the two lines.
-fn assert_two_lines(rt: &impl Abort, alloc: Global, before: &[u8], after: &[u8]) {
-    let mut splitter = Splitter::new(alloc, LIMIT);
-    let first = lines_of(rt, &mut splitter, before);
-    let second = lines_of(rt, &mut splitter, after);
-    assert_texts(rt, first.as_slice(), second.as_slice());
-    drop(first);
-    drop(second);
-    assert_same(rt, splitter.finish(), Ok(()));
-}
-
-#[test]
-fn two_lines_cut_at_every_byte(rt: HostRuntime) {
-    let stream = b"Proposed NZ7\nAccepted\n";
-    for cut in 0..=stream.len() {
-        assert_two_lines(&rt, rt.alloc(), &stream[..cut], &stream[cut..]);
-    }
-}
-
-/// Each line is a message that is written as that text.
-fn assert_each_written(rt: &impl Abort, alloc: Global, lines: &[Line], text: &str) {
-    for line in lines {
-        assert_written(rt, alloc, line.as_slice(), text);
-    }
-}
-
-/// A stream of the text's one line in two pieces has the line where it ends.
-fn assert_one_line(rt: &impl Abort, alloc: Global, before: &[u8], after: &[u8], text: &str) {
-    let mut splitter = Splitter::new(alloc, LIMIT);
-    let first = lines_of(rt, &mut splitter, before);
-    let second = lines_of(rt, &mut splitter, after);
-    let ended = (first.as_slice().len(), second.as_slice().len());
-    let wanted = if after.is_empty() { (1, 0) } else { (0, 1) };
-    assert_same(rt, ended, wanted);
-    assert_each_written(rt, alloc, first.as_slice(), text);
-    assert_each_written(rt, alloc, second.as_slice(), text);
-    drop(first);
-    drop(second);
-    assert_same(rt, splitter.finish(), Ok(()));
-}
-
-fn assert_cut_everywhere(rt: &impl Abort, alloc: Global, text: &str) {
-    let mut stream = Vec::from_slice(alloc, text.as_bytes()).expect(rt, READING);
-    stream.push(b'\n').expect(rt, READING);
-    for cut in 0..=stream.len() {
-        assert_one_line(rt, alloc, &stream[..cut], &stream[cut..], text);
-    }
-}
-
-#[test]
-fn a_message_in_two_pieces(rt: HostRuntime) {
-    for text in [PROPOSED, ACCEPTED, REQUEST] {
-        assert_cut_everywhere(&rt, rt.alloc(), text);
-    }
 }

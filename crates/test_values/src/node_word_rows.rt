@@ -118,21 +118,6 @@ fn words_of_a_node(rt: HostRuntime) {
 }
 
 const WRONG: &[&str] = &[
-    "node",
-    "node s.json d NZ",
-    "node s.json d NZ --listen l",
-    "node s.json d NZ --peer a",
-    "node s.json d --listen l --peer a",
-    "node s.json d NZ JP --listen l --peer a",
-    "node s.json d NZ --listen --peer a",
-    "node s.json d NZ --listen l --peer",
-    "node s.json d NZ --listen l --peer a b",
-    "node s.json d NZ --listen l --listen m --peer a",
-    "node s.json d NZ --listen l --peer a --keys",
-    "node s.json d NZ --listen l --peer a --clean-up",
-    "node s.json d NZ --listen l --peer a --keys k --keys=k",
-    "node s.json d NZ --listen l --peer a --clean-up=1 --clean-up=2",
-    "node s.json d NZ --clean-up --listen l --peer a",
     "node s.json d NZ -l l --peer a",
     "node s.json d NZ --listen l --peer a --json",
     "--listen l --peer a node s.json d NZ",

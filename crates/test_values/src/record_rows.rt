@@ -1,11 +1,10 @@
 use crate::same::assert_same;
-use protocol::status::{Moment, Order, TransactionId};
-use protocol::units::{Code, Items, NoMemory, RawBlock};
-use protocol::wire::{Input, Number, TextFault, decode_input, decode_input_v1, encode_input};
+use protocol::units::NoMemory;
+use protocol::wire::{Input, TextFault, decode_input, decode_input_v1, encode_input};
 use std::alloc::Global;
 use std::process::Abort;
+use test_support::again;
 use test_support::texts::{ACCEPTED_RECORD, ACCEPTED_RECORD_1, PROPOSE_RECORD, PROPOSE_RECORD_1};
-use test_support::{READING, again};
 
 const CLOSE: &str = r#"{"account":8,"input":"close","v":2}"#;
 
@@ -97,52 +96,10 @@ fn records_are_written_and_read_back(rt: HostRuntime) {
     }
 }
 
-fn order(rt: &impl Abort, alloc: Global) -> Input {
-    let block = RawBlock::read("NZ:1:1-100:AAU").expect(rt, "a block");
-    let units = Vec::from_slice(alloc, &[block]).expect(rt, READING);
-    let jp = Code::read("JP").expect(rt, "a code");
-    let order = Order::new(1, jp, 7, Items::from_vec(units)).expect(rt, "an order");
-    Input::Propose(order)
-}
-
-#[test]
-fn inputs_built_from_parts(rt: HostRuntime) {
-    let eight = Number::new(8).expect(&rt, "one digit");
-    let key = Number::new(0).expect(&rt, "one digit");
-    let moment = Moment::new(1_335_916_800).expect(&rt, "in 2012");
-    let registry = Code::read("NZ").expect(&rt, "a code");
-    let id = TransactionId::read("NZ1").expect(&rt, "a transaction");
-    let may = false;
-    let alloc = rt.alloc();
-    assert_built(&rt, alloc, order(&rt, alloc), PROPOSE_RECORD);
-    assert_built(&rt, alloc, Input::CloseAccount(eight), CLOSE);
-    assert_built(&rt, alloc, Input::OpenAccount(eight), OPEN);
-    assert_built(&rt, alloc, Input::Ack(key), ACK);
-    assert_built(&rt, alloc, Input::CleanUp(moment), CLEAN_UP);
-    assert_built(&rt, alloc, Input::Eligible { registry, may }, ELIGIBLE);
-    assert_built(&rt, alloc, Input::Request(id), REQUEST);
-}
-
 #[test]
 fn an_order_is_kept_as_it_was_given(rt: HostRuntime) {
     for text in KEPT {
         assert_copied(&rt, rt.alloc(), text);
-    }
-}
-
-/// The texts are records that differ.
-fn assert_differ(rt: &impl Abort, alloc: Global, one: &str, other: &str) {
-    let input = decoded(alloc, one).expect(rt, one);
-    let other = decoded(alloc, other).expect(rt, other);
-    assert!(rt; !input.same(&other));
-    drop(other);
-    drop(input);
-}
-
-#[test]
-fn records_that_differ(rt: HostRuntime) {
-    for i in 1..RECORDS.len() {
-        assert_differ(&rt, rt.alloc(), RECORDS[i], RECORDS[i - 1]);
     }
 }
 

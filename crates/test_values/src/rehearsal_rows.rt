@@ -241,14 +241,9 @@ pub(crate) fn outcome_of(alloc: Global, words: &[&str]) -> Outcome {
 const COMMANDS: &[(&[&str], Outcome)] = &[
     (&["kyoto-link", "rehearse"], Outcome::Rehearse),
     (&["kyoto-link", "chart"], Outcome::Chart),
-    (&["kyoto-link", "--help"], Outcome::Help),
     (&["kyoto-link", "-h"], Outcome::Help),
     (&["kyoto-link", "help"], Outcome::Help),
-    (&["kyoto-link", "run"], Outcome::Usage),
-    (&["kyoto-link", "run", "s.json", "d"], Outcome::Usage),
     (&["kyoto-link", "run", "s.json", "d", "l"], Outcome::Run),
-    (&["kyoto-link", "audit"], Outcome::Usage),
-    (&["kyoto-link", "audit", "s.json"], Outcome::Usage),
     (
         &["kyoto-link", "audit", "s.json", "d"],
         Outcome::Audit(Extent::Whole, Form::Lines),
@@ -262,22 +257,10 @@ const COMMANDS: &[(&[&str], Outcome)] = &[
         Outcome::Audit(Extent::Furthest, Form::Lines),
     ),
     (
-        &["kyoto-link", "audit", "s.json", "d", "--cuts"],
-        Outcome::Usage,
-    ),
-    (
-        &["kyoto-link", "audit", "--cut", "--cut", "s.json", "d"],
-        Outcome::Usage,
-    ),
-    (
         &["kyoto-link", "trace", "s.json", "d", "NZ1"],
         Outcome::Trace(Form::Lines),
     ),
-    (&["kyoto-link", "trace", "s.json", "d"], Outcome::Usage),
     (&["kyoto-link", "explain", "106"], Outcome::Explain),
-    (&["kyoto-link", "explain"], Outcome::Usage),
-    (&["kyoto-link", "events"], Outcome::Usage),
-    (&["kyoto-link", "events", "s.json"], Outcome::Usage),
     (
         &["kyoto-link", "events", "s.json", "d"],
         Outcome::Events(Form::Lines),
@@ -302,22 +285,9 @@ const COMMANDS: &[(&[&str], Outcome)] = &[
         &["kyoto-link", "run", "--json", "s.json", "d", "l"],
         Outcome::Usage,
     ),
-    (
-        &["kyoto-link", "events", "s.json", "d", "ITL"],
-        Outcome::Usage,
-    ),
-    (&["kyoto-link", "show"], Outcome::Usage),
-    (&["kyoto-link", "REHEARSE"], Outcome::Usage),
-    (&["kyoto-link", "--all"], Outcome::Usage),
     (&["kyoto-link", ""], Outcome::Usage),
-    (&["kyoto-link"], Outcome::Usage),
     (&["kyoto-link", "rehearse", "input"], Outcome::Usage),
     (&["kyoto-link", "chart", "input"], Outcome::Usage),
-    (&["kyoto-link", "show", "s.json", "d"], Outcome::Usage),
-    (
-        &["kyoto-link", "show", "s.json", "d", "NZ", "JP"],
-        Outcome::Usage,
-    ),
 ];
 
 #[test]
@@ -327,58 +297,8 @@ fn command_words(rt: HostRuntime) {
     }
 }
 
-/// Asserts that the action of `run` has these words.
-fn assert_run(rt: &impl Abort, action: &Action, words: [&str; 3]) {
-    match action {
-        Action::Run {
-            scheme,
-            folder,
-            script,
-        } => {
-            let found = [scheme.as_str(), folder.as_str(), script.as_str()];
-            assert!(rt; found == words);
-        }
-        _ => assert!(rt; false, "another action"),
-    }
-}
-
-/// Asserts that the action of `show` has these words.
-fn assert_show(rt: &impl Abort, action: &Action, words: [&str; 3]) {
-    match action {
-        Action::Show {
-            scheme,
-            folder,
-            node,
-            form: Form::Lines,
-        } => {
-            let found = [scheme.as_str(), folder.as_str(), node.as_str()];
-            assert!(rt; found == words);
-        }
-        _ => assert!(rt; false, "another action"),
-    }
-}
-
 /// The action that the words of a command line ask for.
 pub(crate) fn action(rt: &impl Abort, alloc: Global, words: &[&str]) -> Action {
     let parsed = again!(parse_words(alloc, words), Err(UsageFault::NoMemory) => ());
     parsed.ok().expect(rt, "an action")
-}
-
-#[test]
-fn words_of_actions(rt: HostRuntime) {
-    let words = ["s.json", "d", "lines"];
-    let run = action(
-        &rt,
-        rt.alloc(),
-        &["kyoto-link", "run", "s.json", "d", "lines"],
-    );
-    assert_run(&rt, &run, words);
-    drop(run);
-    let show = action(
-        &rt,
-        rt.alloc(),
-        &["kyoto-link", "show", "s.json", "d", "lines"],
-    );
-    assert_show(&rt, &show, words);
-    drop(show);
 }

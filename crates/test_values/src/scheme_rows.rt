@@ -25,11 +25,6 @@ fn read(rt: &impl Abort, alloc: Global, registries: &str) -> Result<Scheme, Sche
     read_text(alloc, text_of(rt, alloc, registries).as_str())
 }
 
-/// Asserts the fault of these registries, or that they have none.
-fn assert_fault(rt: &impl Abort, alloc: Global, registries: &str, wanted: Option<SchemeFault>) {
-    assert_same(rt, read(rt, alloc, registries).err(), wanted);
-}
-
 fn registry(rt: &impl Abort, alloc: Global, code: &str, accounts: &str, allotted: &str) -> String {
     let text = format!(in alloc;
         "{{\"accounts\":[{accounts}],\"allotted\":[{allotted}],\"code\":\"{code}\",\"eligible\":false,\"kinds\":[]}}"
@@ -47,7 +42,7 @@ fn assert_beside_jp(
 ) {
     let nz = registry(rt, alloc, "NZ", accounts, allotted);
     let both = format!(in alloc; "{JP},{nz}").expect(rt, READING);
-    assert_fault(rt, alloc, both.as_str(), wanted);
+    assert_same(rt, read(rt, alloc, both.as_str()).err(), wanted);
 }
 
 /// The texts of that number of numbers from 1 on, between `before` and `after`.
@@ -161,53 +156,6 @@ fn what_is_no_scheme(rt: HostRuntime) {
     assert_same(&rt, list.err(), Some(SchemeFault::Shape));
 }
 
-const UNKNOWN: &str = r#"{"account":9,"units":[]}"#;
-
-const SAME_KIND: &str = r#"{"account":3,"units":["NZ:1:10-20:AAU","NZ:1:1-10:AAU"]}"#;
-
-const TWO_KINDS: &str =
-    r#"{"account":3,"units":["NZ:1:1-10:AAU"]},{"account":5,"units":["NZ:1:10-20:RMU"]}"#;
-
-const APART: &str = r#"{"account":3,"units":["NZ:1:11-20:RMU","NZ:2:1-10:AAU","NZ:1:1-10:AAU"]}"#;
-
-/// An account that isn't there, and a unit that is allotted twice.
-const TWO_FAULTS: &str = r#"{"account":9,"units":["NZ:1:1-1:AAU","NZ:1:1-1:AAU"]}"#;
-
-/// Of two faults the earlier one is named.
-#[test]
-fn faults_of_allotments(rt: HostRuntime) {
-    for (accounts, allotted, wanted) in [
-        ("3,5,3", "", Some(SchemeFault::AccountTwice)),
-        ("3,5", UNKNOWN, Some(SchemeFault::UnknownAccount)),
-        ("3,5", SAME_KIND, Some(SchemeFault::AllotmentOverlap)),
-        ("3,5", TWO_KINDS, Some(SchemeFault::AllotmentOverlap)),
-        ("3,5", APART, None),
-        ("3,3", TWO_FAULTS, Some(SchemeFault::AccountTwice)),
-        ("3", TWO_FAULTS, Some(SchemeFault::UnknownAccount)),
-    ] {
-        assert_beside_jp(&rt, rt.alloc(), accounts, allotted, wanted);
-    }
-}
-
-#[test]
-fn faults_of_registries(rt: HostRuntime) {
-    let alloc = rt.alloc();
-    let twice = registry(&rt, alloc, "JP", "7,7", "");
-    let codes = format!(in alloc; "{JP},{twice}").expect(&rt, READING);
-    assert_fault(&rt, alloc, "{}", Some(SchemeFault::Shape));
-    assert_fault(&rt, alloc, JP, Some(SchemeFault::TooFew));
-    assert_fault(&rt, alloc, twice.as_str(), Some(SchemeFault::TooFew));
-    assert_fault(&rt, alloc, codes.as_str(), Some(SchemeFault::CodeTwice));
-}
-
-#[test]
-fn the_limit_of_accounts(rt: HostRuntime) {
-    for (count, wanted) in [(1_000, None), (1_001, Some(SchemeFault::TooMany))] {
-        let accounts = repeated(&rt, rt.alloc(), count, "", "");
-        assert_beside_jp(&rt, rt.alloc(), accounts.as_str(), "", wanted);
-    }
-}
-
 #[test]
 fn the_limit_of_allotments(rt: HostRuntime) {
     for (count, wanted) in [
@@ -217,15 +165,5 @@ fn the_limit_of_allotments(rt: HostRuntime) {
         let before = "{\"account\":1,\"units\":[\"NZ:2:1";
         let allotted = repeated(&rt, rt.alloc(), count, before, "-9999999:AAU\"]}");
         assert_beside_jp(&rt, rt.alloc(), "1", allotted.as_str(), Some(wanted));
-    }
-}
-
-#[test]
-fn the_limit_of_registries(rt: HostRuntime) {
-    for (count, wanted) in [(32, SchemeFault::CodeTwice), (33, SchemeFault::TooMany)] {
-        let before = "{\"accounts\":[";
-        let after = "],\"allotted\":[],\"code\":\"JP\",\"eligible\":true,\"kinds\":[]}";
-        let registries = repeated(&rt, rt.alloc(), count, before, after);
-        assert_fault(&rt, rt.alloc(), registries.as_str(), Some(wanted));
     }
 }

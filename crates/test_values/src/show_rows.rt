@@ -1,7 +1,7 @@
 use crate::given::Given::{self, Event, Message};
 use crate::given::{PROPOSE, inputs};
 use crate::same::{assert_same, room};
-use command_faults::{Cause, OpFault, node_of, read_scheme};
+use command_faults::{Cause, OpFault, read_scheme};
 use operator::{Form, show};
 use protocol::scheme::Scheme;
 use protocol::units::{Code, Node};
@@ -197,24 +197,4 @@ fn reads_a_file_of_a_mebibyte(rt: HostRuntime) {
         let text = longest(&rt, rt.alloc(), end);
         assert_file(&rt, rt.alloc(), text.as_str(), wanted);
     }
-}
-
-#[test]
-fn nodes_of_a_scheme(rt: HostRuntime) {
-    let scheme = Scheme::read(rt.alloc(), SCHEME.as_bytes()).expect(&rt, READING);
-    let nz = nz(&rt);
-    let cause = Cause::Order;
-    let fault = OpFault::Input { line: 1, cause };
-    for (word, wanted) in [
-        ("ITL", Ok(Node::Itl)),
-        ("NZ", Ok(nz)),
-        ("AU", Err(fault)),
-        ("nz", Err(fault)),
-        ("itl", Err(fault)),
-        ("NZ ", Err(fault)),
-        ("", Err(fault)),
-    ] {
-        assert_same(&rt, node_of(&scheme, word), wanted);
-    }
-    drop(scheme);
 }

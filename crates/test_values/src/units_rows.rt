@@ -1,81 +1,17 @@
 use crate::same::assert_same;
 use protocol::units::refusal_code::OUT_OF_MEMORY;
 use protocol::units::{
-    Block, BlockFault, BlockSet, Code, Interval, Items, Kind, NoMemory, Node, Period, RawBlock,
-    Refusal, Unit, UnitMap, cut, number, overlaps,
+    Block, BlockSet, Code, Items, Kind, NoMemory, Period, Refusal, Unit, UnitMap,
 };
 use std::alloc::Global;
 use std::process::Abort;
 use test_support::{READING, again};
-
-#[test]
-fn block_texts(rt: HostRuntime) {
-    assert!(rt; Block::read("NZ:1:1-999999999999999:AAU").is_ok());
-    assert!(rt; Block::read("NZ:1:999999999999999-999999999999999:AAU").is_ok());
-    assert_same(
-        &rt,
-        Block::read("NZ:1:1-1000000000000000:AAU").err(),
-        Some(BlockFault::Range),
-    );
-    assert_same(
-        &rt,
-        Block::read("NZ:1:0-5:AAU").err(),
-        Some(BlockFault::Range),
-    );
-    assert_same(
-        &rt,
-        Block::read("NZ:1:6-5:AAU").err(),
-        Some(BlockFault::Range),
-    );
-    assert_same(
-        &rt,
-        Block::read("NZ:3:1-5:AAU").err(),
-        Some(BlockFault::Shape),
-    );
-}
 
 /// The block is written as that text.
 fn assert_written(rt: &impl Abort, alloc: Global, block: &Block, text: &str) {
     let written = again!(block.write(alloc), Err(NoMemory) => ());
     let written = written.expect(rt, "memory");
     assert_same(rt, written.as_str(), text);
-}
-
-#[test]
-fn a_block_is_written_as_it_was_read(rt: HostRuntime) {
-    let text = "CH:2:101-250:tCER";
-    let origin = Code::new(b'C', b'H').expect(&rt, "two letters");
-    let block = Block::new(origin, Period::Second, Kind::Tcer, 101, 250).expect(&rt, "a block");
-    assert_same(&rt, Block::read(text), Ok(block));
-    assert_same(&rt, RawBlock::read(text), Some(block.raw));
-    assert_written(&rt, rt.alloc(), &block, text);
-    assert_same(&rt, block.count(), 150);
-    let (period, number) = (Period::Second, 250);
-    assert!(rt;
-        block.has(&Unit {
-            origin,
-            period,
-            number
-        })
-    );
-}
-
-#[test]
-fn the_pieces_of_texts(rt: HostRuntime) {
-    assert_same(&rt, Node::read("ITL"), Some(Node::Itl));
-    assert_same(
-        &rt,
-        Node::read("NZ"),
-        Code::read("NZ").map(|c| Node::Registry(c)),
-    );
-    assert_same(&rt, Period::read("1"), Some(Period::First));
-    assert_same(&rt, Kind::read("lCER"), Some(Kind::Lcer));
-    assert_same(
-        &rt,
-        number("999999999999999999"),
-        Some(999_999_999_999_999_999),
-    );
-    assert_same(&rt, cut("AA:BB:CC", ':'), Some(("AA", "BB:CC")));
 }
 
 #[test]
@@ -232,13 +168,6 @@ fn several_blocks_at_once(rt: HostRuntime) {
     drop(set);
 }
 
-#[test]
-fn blocks_that_share_a_unit(rt: HostRuntime) {
-    let (low, high) = (aau(&rt, 1, 5), aau(&rt, 6, 10));
-    assert!(rt; !overlaps(&[low, high]));
-    assert!(rt; overlaps(&[low, high, nz(&rt, Kind::Cer, 10, 11)]));
-}
-
 /// Gives the units of the block that kind, or removes their kind.
 fn label(rt: &impl Abort, kinds: &mut UnitMap<Kind>, block: &Block, kind: Option<Kind>) {
     let old = (kinds.count_where(|_| true), kinds.pieces().len());
@@ -273,35 +202,4 @@ fn labels_of_units(rt: HostRuntime) {
     assert_same(&rt, copy.get(&unit), Some(Kind::Aau));
     assert_same(&rt, copy.pieces().len(), 3);
     drop(copy);
-}
-
-/// Whether an interval of NZ's units 4 to 6 of the first period has the unit.
-fn interval_has(rt: &impl Abort, unit: Unit) -> bool {
-    let interval = Interval {
-        origin: Code::read("NZ").expect(rt, "a code"),
-        period: Period::First,
-        first: 4,
-        last: 6,
-        label: 0u8,
-    };
-    interval.has(&unit)
-}
-
-#[test]
-fn units_of_an_interval(rt: HostRuntime) {
-    for (origin, period, number, has) in [
-        ("NZ", Period::First, 3, false),
-        ("NZ", Period::First, 4, true),
-        ("NZ", Period::First, 6, true),
-        ("NZ", Period::First, 7, false),
-        ("NZ", Period::Second, 5, false),
-        ("JP", Period::First, 5, false),
-    ] {
-        let unit = Unit {
-            origin: Code::read(origin).expect(&rt, "a code"),
-            period,
-            number,
-        };
-        assert_same(&rt, interval_has(&rt, unit), has);
-    }
 }

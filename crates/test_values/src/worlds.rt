@@ -7,13 +7,13 @@ use crate::same::{assert_same, assert_same_in};
 use input_lines::event_of;
 use protocol::WorldEvent;
 use protocol::status::Status;
-use protocol::units::{NoMemory, Node};
+use protocol::units::NoMemory;
 use protocol::wire::Input;
 use registry_core::accounts::HeldBlock;
 use std::alloc::Global;
 use std::process::Abort;
 use test_support::{READING, again};
-use world::{ProposedTransfer, World};
+use world::{ProposedTransfer, ReachedWorld, World};
 
 /// A line of a registry's holdings: the account, the block, and the transaction that reserves it, if any.
 pub type Line = (u64, &'static str, Option<&'static str>);
@@ -32,12 +32,12 @@ pub fn world_of(rt: &impl Abort, alloc: Global, lines: &[&str]) -> World {
     let scheme = scheme(rt, alloc, ROOM);
     let events = events(rt, alloc, lines);
     let world = again!(
-        World::run(alloc, &scheme, events.as_slice()),
+        ReachedWorld::run(alloc, &scheme, events.as_slice()),
         Err(NoMemory) => ()
     );
     drop(events);
     drop(scheme);
-    world.expect(rt, "memory")
+    world.expect(rt, "memory").into_world()
 }
 
 /// Asserts the status of the transaction at these nodes.
@@ -187,15 +187,4 @@ pub fn assert_transfers(
     let due = again!(world.due(alloc), Err(NoMemory) => ());
     let due = due.expect(rt, "memory");
     assert_proposed(rt, due.as_slice(), owing);
-}
-
-/// Asserts that the world has nothing about a registry that isn't in the scheme.
-pub fn assert_no_registry(rt: &impl Abort, world: &World, name: &str, block: &str) {
-    let (code, unit) = (code(rt, name), unit(rt, block));
-    assert!(rt; world.journal(Node::Registry(code)).is_none());
-    assert!(rt; world.committed(Node::Registry(code)).is_none());
-    let holdings = again!(world.holdings(code), Err(NoMemory) => ());
-    assert!(rt; holdings.expect(rt, "memory").is_none());
-    assert!(rt; !world.held(code, &unit));
-    assert!(rt; !world.spendable(code, &unit));
 }

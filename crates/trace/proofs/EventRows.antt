@@ -6,6 +6,7 @@ use Rattle.std.proofs.lemmas.Bool.{cond-true, cond-false}
 use Rattle.std.proofs.lemmas.List.{append-nil}
 use Rattle.std.proofs.Math.ListN.{drop_of_length-le}
 use Rattle.std.proofs.Math.Seq.{drop-append_seam, drop-cons}
+use Rattle.std.proofs.lemmas.Option.{same_Some}
 use Rattle.units.specs.declared.code.Node.{Node}
 use Rattle.status.specs.declared.id.TransactionId.{TransactionId}
 use Rattle.status.specs.declared.status.Status.{Status}
@@ -46,11 +47,8 @@ row_unrecorded w next id r (Refused code) none = refl
 row_unrecorded w next id r Done none = refl
 row_unrecorded w next id r NotPossible none = refl
 
-some_number : (a b : ℕ) → Some a ≡ Some b → a ≡ b
-some_number a b e = cc (e)
-
 pub recorded_place : (o : Outcome) (place : ℕ) → place_of o ≡ Some place → o ≡ Recorded place
-recorded_place (Recorded p) place is = ap Recorded (some_number p place is)
+recorded_place (Recorded p) place is = ap Recorded (same_Some p place is)
 recorded_place Repeat place is = cc
 recorded_place Late place is = cc
 recorded_place (Refused code) place is = cc

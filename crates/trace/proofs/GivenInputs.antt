@@ -2,6 +2,7 @@
 use Rattle.std.proofs.Common.{◌≡◌, ℕ, Bool, true, false, cond, List, [], ◌∷◌, ◌++◌, length, Option, Some, None, option_map, refl, sym, ap, ◌∙◌, append_assoc}
 use Rattle.std.specs.Prelude.{slice_get, option_and_then}
 use Rattle.std.proofs.lemmas.List.{append-nil}
+use Rattle.std.proofs.lemmas.Option.{same_Some}
 use Rattle.units.proofs.Lists.Positions.{last_at}
 use Rattle.units.specs.declared.code.Node.{Node}
 use Rattle.status.specs.declared.moment.Moment.{Moment}
@@ -12,13 +13,14 @@ use Rattle.protocol.specs.Claims.{whole}
 use Rattle.protocol.specs.Deciding.{Verdict, IsRecorded, IsRepeat, IsLate, IsRefused}
 use Rattle.protocol.specs.Verdict.{verdict, history}
 use Rattle.protocol.specs.Weave.{Gives, Placed}
-use Rattle.protocol.specs.World.{World, Station, Stepped, Turn, station, journal, put, stays, rests, answered, take_input, commit, crash, restart, sent, at_node, is_order, posted, deliver, step}
+use Rattle.protocol.specs.World.{World, Station, Stepped, Turn, station, journal, put, stays, rests, answered, take_input, commit, crash, restart, sent, at_node, is_order, posted, step}
 use Rattle.protocol.specs.declared.event.Outcome.TheVariants.{Recorded, Repeat, Late, Refused, NotPossible}
 use Rattle.protocol.specs.declared.event.Posted.{Posted}
 use Rattle.protocol.specs.declared.event.WorldEvent.{WorldEvent}
 use Rattle.protocol.specs.declared.event.WorldEvent.TheVariants.{Take, Commit, Post, Deliver, Crash, Restart}
 use Rattle.safety.proofs.WorldLemmas.StationsAfterPut.{at_put, found_at_node}
-use Rattle.weave.proofs.Turns.{gives_step, taken}
+use Rattle.world.proofs.Worlds.{at_node_bag, delivered_bag}
+use Rattle.weave.proofs.Turns.{gives_step, taken, not_possible}
 use Rattle.trace.specs.Rows.{given}
 
 abbrev pub receiver : World → WorldEvent → Option Node
@@ -26,17 +28,9 @@ receiver w e = option_map (λ (r : Placed). r.node) (given w e)
 
 -- ---- the bag
 
-bag_stays : (w : World) (o : Option Station) (f : Station → Turn) → (at_node w o f).world.bag ≡ w.bag
-bag_stays w None f = refl
-bag_stays w (Some s) f = refl
-
 ordered_bag : (w : World) (b : Bool) (x : Stepped) → x.world.bag ≡ w.bag → (cond b x (stays w NotPossible)).world.bag ≡ w.bag
 ordered_bag w true x e = e
 ordered_bag w false x e = refl
-
-delivered_bag : (w : World) (moment : Moment) (o : Option Posted) → (deliver w moment o).world.bag ≡ w.bag
-delivered_bag w moment None = refl
-delivered_bag w moment (Some p) = bag_stays w (station w p.message.to) (take_input w.scheme (Received p.message moment))
 
 posted_bag : (w : World) (n : Node) (key : ℕ) (o : Option Message) → (rest : List Posted) × ((posted w n key o).world.bag ≡ w.bag ++ rest)
 posted_bag w n key None = ([], sym (append-nil w.bag))
@@ -48,12 +42,12 @@ as_before w v e = ([], e ∙ sym (append-nil w.bag))
 -- no event takes a message from it
 pub grown_bag : (w : World) (e : WorldEvent) → (rest : List Posted) × ((step w e).world.bag ≡ w.bag ++ rest)
 unfolding step
-grown_bag w (Take n input) = as_before w (step w (Take n input)).world (ordered_bag w (is_order w n input) (taken w n input) (bag_stays w (station w n) (take_input w.scheme input)))
-grown_bag w (Commit n count) = as_before w (step w (Commit n count)).world (bag_stays w (station w n) (commit count))
+grown_bag w (Take n input) = as_before w (step w (Take n input)).world (ordered_bag w (is_order w n input) (taken w n input) (at_node_bag w (station w n) (take_input w.scheme input)))
+grown_bag w (Commit n count) = as_before w (step w (Commit n count)).world (at_node_bag w (station w n) (commit count))
 grown_bag w (Post n key) = posted_bag w n key (option_and_then (sent w.scheme key) (station w n))
 grown_bag w (Deliver index moment) = as_before w (step w (Deliver index moment)).world (delivered_bag w moment (slice_get w.bag index))
-grown_bag w (Crash n kept) = as_before w (step w (Crash n kept)).world (bag_stays w (station w n) (crash kept))
-grown_bag w (Restart n) = as_before w (step w (Restart n)).world (bag_stays w (station w n) restart)
+grown_bag w (Crash n kept) = as_before w (step w (Crash n kept)).world (at_node_bag w (station w n) (crash kept))
+grown_bag w (Restart n) = as_before w (step w (Restart n)).world (at_node_bag w (station w n) restart)
 
 none_given : (n : Node) → None ≡ Some n → ⊥
 none_given n e = cc (e)
@@ -61,7 +55,7 @@ none_given n e = cc (e)
 -- an event that gives an input posts nothing
 pub kept_bag : (w : World) (e : WorldEvent) (n : Node) → receiver w e ≡ Some n → (step w e).world.bag ≡ w.bag
 unfolding step
-kept_bag w (Take n input) m h = ordered_bag w (is_order w n input) (taken w n input) (bag_stays w (station w n) (take_input w.scheme input))
+kept_bag w (Take n input) m h = ordered_bag w (is_order w n input) (taken w n input) (at_node_bag w (station w n) (take_input w.scheme input))
 kept_bag w (Commit n count) m h = absurd (none_given m h)
 kept_bag w (Post n key) m h = absurd (none_given m h)
 kept_bag w (Deliver index moment) m h = delivered_bag w moment (slice_get w.bag index)
@@ -69,9 +63,6 @@ kept_bag w (Crash n kept) m h = absurd (none_given m h)
 kept_bag w (Restart n) m h = absurd (none_given m h)
 
 -- ---- where it is recorded
-
-no_record : (place : ℕ) → NotPossible ≡ Recorded place → ⊥
-no_record place e = cc (e)
 
 no_repeat : (place : ℕ) → Repeat ≡ Recorded place → ⊥
 no_repeat place e = cc (e)
@@ -103,29 +94,26 @@ turn_record true s input (IsRecorded xs) place r =
 turn_record true s input IsRepeat place r = absurd (no_repeat place r)
 turn_record true s input IsLate place r = absurd (no_late place r)
 turn_record true s input (IsRefused code) place r = absurd (no_refusal code place r)
-turn_record false s input v place r = absurd (no_record place r)
+turn_record false s input v place r = absurd (not_possible place r)
 
 taken_at : (w : World) (n : Node) (input : Input) (place : ℕ) (o : Option Station) → station w n ≡ o → (at_node w o (take_input w.scheme input)).outcome ≡ Recorded place
     → slice_get (whole (station (at_node w o (take_input w.scheme input)).world n)) place ≡ Some input
-taken_at w n input place None h r = absurd (no_record place r)
+taken_at w n input place None h r = absurd (not_possible place r)
 taken_at w n input place (Some s) h r =
     let v = verdict w.scheme s.node (history w.scheme s.node (journal s)) input in
     let t = turn_of s.runs s input v in
     let here : station (put w t.station) n ≡ Some t.station = at_put n w.stations s t.station h (turn_node s.runs s input v ∙ found_at_node n w.stations s h) in
     ap (λ x. slice_get (whole x) place) here ∙ turn_record s.runs s input v place r
 
-some_one : {X : Type 0} (a b : X) → Some a ≡ Some b → a ≡ b
-some_one a b e = cc (e)
-
 gives_delivered : (w : World) (moment : Moment) (o : Option Posted) (r : Placed) → option_map (λ (p : Posted). record { node = p.message.to; input = Received p.message moment }) o ≡ Some r
     → (p : Posted) × (o ≡ Some p) × (p.message.to ≡ r.node) × (Received p.message moment ≡ r.input)
 gives_delivered w moment None r h = cc
 gives_delivered w moment (Some p) r h =
-    let same = some_one (record { node = p.message.to; input = Received p.message moment }) r h in
+    let same = same_Some (record { node = p.message.to; input = Received p.message moment }) r h in
     (p, refl, ap (λ (x : Placed). x.node) same, ap (λ (x : Placed). x.input) same)
 
 gives_given : (w : World) (e : WorldEvent) (r : Placed) → given w e ≡ Some r → Gives w e r.node r.input
-gives_given w (Take n input) r h = let same = some_one (record { node = n; input = input }) r h in (ap (λ (x : Placed). x.node) same, ap (λ (x : Placed). x.input) same)
+gives_given w (Take n input) r h = let same = same_Some (record { node = n; input = input }) r h in (ap (λ (x : Placed). x.node) same, ap (λ (x : Placed). x.input) same)
 gives_given w (Deliver index moment) r h = gives_delivered w moment (slice_get w.bag index) r h
 gives_given w (Commit n count) r h = cc
 gives_given w (Post n key) r h = cc
@@ -145,7 +133,7 @@ given_to w e n h = of (given w e) h
   where
     of : (o : Option Placed) → option_map (λ (r : Placed). r.node) o ≡ Some n → (r : Placed) × (o ≡ Some r) × (r.node ≡ n)
     of None f = absurd (none_given n f)
-    of (Some r) f = (r, refl, some_one r.node n f)
+    of (Some r) f = (r, refl, same_Some r.node n f)
 
 pub given_none : (w : World) (e : WorldEvent) → receiver w e ≡ None → given w e ≡ None
 given_none w e h = of (given w e) h

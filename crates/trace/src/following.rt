@@ -18,14 +18,14 @@ use status::{Status, TransactionId};
 use std::alloc::Global;
 use units::{NoMemory, Node};
 use wire::Input;
-use world::World;
+use world::{ReachedWorld, World};
 
 /// The world that some events led to, and the lines of the transaction's records among those of these events.
 pub(crate) struct Tracing {
     pub alloc: Global,
     pub id: TransactionId,
     pub form: Form,
-    pub world: World,
+    pub world: ReachedWorld,
     /// The messages about the transaction in the world's bag.
     pub sent: Vec<Sent>,
     pub text: Vec<u8>,
@@ -147,7 +147,7 @@ impl Tracing {
             alloc,
             id,
             form,
-            world: World::new(alloc, scheme)?,
+            world: ReachedWorld::new(alloc, scheme)?,
             sent: Vec::new(alloc),
             text: Vec::new(alloc),
         })
@@ -164,10 +164,10 @@ impl Tracing {
         ensures same { OnOk result ((self.new.id ≡ self.old.id) × (self.new.world ≡ self.old.world)
             × (self.new.sent.items ≡ self.old.sent.items) × (self.new.form ≡ self.old.form)) }
     {
-        let Some(input) = record_at(&self.world, node, place) else {
+        let Some(input) = record_at(self.world.as_world(), node, place) else {
             return Ok(());
         };
-        let now = self.world.status(node, self.id);
+        let now = self.world.as_world().status(node, self.id);
         if is_traced(self.sent.as_slice(), self.id, node, input, before, now) {
             let text = &mut self.text;
             push_row(self.alloc, text, self.form, node, place, input, now)?;
@@ -181,7 +181,7 @@ impl Tracing {
         requires given { option_map (λ r. r.node) (given self.old.world event.now) ≡ Some node }
         ensures { OnOk result (HasFollowed self.old self.new event.now) }
     {
-        let before = self.world.status(node, self.id);
+        let before = self.world.as_world().status(node, self.id);
         let outcome = self.world.apply(event)?;
         if let Some(place) = place_of(outcome) {
             self.add_record(node, place, before)?;
@@ -195,9 +195,13 @@ impl Tracing {
         requires given { option_map (λ r. r.node) (given self.old.world event.now) ≡ None }
         ensures { OnOk result (HasFollowed self.old self.new event.now) }
     {
-        let before = self.world.bag().len();
+        let before = self.world.as_world().bag().len();
         self.world.apply(event)?;
-        add_sent(&mut self.sent, self.id, bag_from(&self.world, before))?;
+        add_sent(
+            &mut self.sent,
+            self.id,
+            bag_from(self.world.as_world(), before),
+        )?;
         Ok(())
     }
 
@@ -206,7 +210,7 @@ impl Tracing {
         requires sent { KnowsSent self.old }
         ensures { OnOk result (HasFollowed self.old self.new event.now) }
     {
-        match receiver(&self.world, event) {
+        match receiver(self.world.as_world(), event) {
             Some(node) => self.give(node, event),
             None => self.pass(event),
         }

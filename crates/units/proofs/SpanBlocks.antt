@@ -3,7 +3,8 @@ use Rattle.std.proofs.Common.{◌≡◌, inl, inr, ℕ, ◌+◌, ◌<◌, List, 
 use Rattle.std.specs.BTreeMap.{BTreeMap, IsOrdered, get}
 use Rattle.std.specs.List.{list_any}
 use Rattle.std.specs.Option.{option_and_then}
-use Rattle.std.proofs.lemmas.Bool.{cases_Bool, or_parts, false_from_ne_true}
+use Rattle.std.proofs.Math.Bool.{or-false}
+use Rattle.std.proofs.lemmas.Bool.{cases_Bool, or_from, or_parts, or_right, false_from_ne_true}
 use Rattle.std.proofs.lemmas.List.{take_more}
 use Rattle.std.proofs.lemmas.List.Folds.{list_any-append}
 use Rattle.units.specs.Keys.{unit_cmp, first_unit, unit_numbered}
@@ -22,17 +23,10 @@ more_any : (p : Block → Bool) (blocks : List Block) (i : ℕ) (b : Block) → 
 more_any p blocks i b lt is =
     ap (list_any p) (take_more blocks i b lt ∙ sym (ap (λ (c : Block). take i blocks ++ c ∷ []) is))
     ∙ list_any-append p (take i blocks) (b ∷ [])
-    ∙ ap (λ t. list_any p (take i blocks) || t) (alone (p b))
-  where
-    alone : (t : Bool) → (t || false) ≡ t
-    alone true = refl
-    alone false = refl
+    ∙ ap (λ t. list_any p (take i blocks) || t) (or-false (p b))
 
 ends_same : (from to a b q : Serial) → from ≡ a → to ≡ b → is_between from to q ≡ is_between a b q
 ends_same from to a b q e f = λ j. is_between (e j) (f j) q
-
-false_both : (s t : Bool) → s ≡ false → t ≡ false → (s || t) ≡ false
-false_both s t e f = rw (e, f) refl
 
 module _ {M : Type 0} where
   pub along_more : (blocks : List Block) (i : ℕ) (b : Block) (old now new : BTreeMap Serial (Span M)) (from to : Serial) → i < length blocks → b ≡ get_or blocks i b → from ≡ first_unit b.raw → to ≡ end_unit b.raw
@@ -45,7 +39,7 @@ module _ {M : Type 0} where
     seams = λ q seam.
         let one = seams q seam in
         let two = so_far.seams q one.0 in
-        (two.0, more_any (λ c. reaches c.raw q) blocks i b lt is ∙ false_both (reached (take i blocks) q) (reaches b.raw q) two.1 (sym (λ j. is_between (is_first j) (is_end j) q) ∙ one.1));
+        (two.0, more_any (λ c. reaches c.raw q) blocks i b lt is ∙ or_from (reached (take i blocks) q) (reaches b.raw q) two.1 (sym (λ j. is_between (is_first j) (is_end j) q) ∙ one.1));
   }
 
   -- ---- the new label of one span
@@ -107,7 +101,7 @@ module _ {M : Type 0} where
                   changed_gives R after gives (get unit_cmp now q) (get unit_cmp new q) (within q in')
                   ∙ ap (respanned after) before
                   ∙ again_or_first after again (covers (take i blocks) q) (get unit_cmp old q)
-                  ∙ sym (ap (λ t. cond t (respanned after (get unit_cmp old q)) (get unit_cmp old q)) (more q ∙ either_true (covers (take i blocks) q) (has_unit b.raw q) in'))
+                  ∙ sym (ap (λ t. cond t (respanned after (get unit_cmp old q)) (get unit_cmp old q)) (more q ∙ or_right (covers (take i blocks) q) (has_unit b.raw q) in'))
               | inr out ↦
                   without q out ∙ before
                   ∙ sym (ap (λ t. cond t (respanned after (get unit_cmp old q)) (get unit_cmp old q)) (more q ∙ either_false (covers (take i blocks) q) (has_unit b.raw q) out))
@@ -135,10 +129,6 @@ module _ {M : Type 0} where
       again_or_first : (after : M → Option M) → ((m : M) → option_and_then after (after m) ≡ after m) → (t : Bool) (o : Option (Span M)) → respanned after (cond t (respanned after o) o) ≡ respanned after o
       again_or_first after again true o = twice after again o
       again_or_first after again false o = refl
-
-      either_true : (s t : Bool) → t ≡ true → (s || t) ≡ true
-      either_true true t e = refl
-      either_true false t e = e
 
       either_false : (s t : Bool) → t ≡ false → (s || t) ≡ s
       either_false true t e = refl

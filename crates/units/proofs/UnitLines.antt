@@ -37,7 +37,8 @@ pub before_from_less : (a b : Serial) → unit_cmp a b ≡ Less → Before a b
 unfolding line_of
 before_from_less a b e = let h = below a b e in record { line = h.line; number = h.number }
 
-less_true : (o : Ordering) → is_lt o ≡ true → o ≡ Less
+-- the outcome of a comparison, from its tests
+pub less_true : (o : Ordering) → is_lt o ≡ true → o ≡ Less
 less_true Less e = refl
 less_true Equal e = absurd (false≢true e)
 less_true Greater e = absurd (false≢true e)
@@ -73,7 +74,7 @@ same_unit a b e f =
     let p = period_of_same a.period b.period l.1 in
     λ i. record { origin = o i; period = p i; number = f i }
 
-eq_true : (o : Ordering) → is_eq o ≡ true → o ≡ Equal
+pub eq_true : (o : Ordering) → is_eq o ≡ true → o ≡ Equal
 eq_true Less e = absurd (false≢true e)
 eq_true Equal e = refl
 eq_true Greater e = absurd (false≢true e)
@@ -84,13 +85,13 @@ at_true a b e = exact_units a b (eq_true (unit_cmp a b) e)
 pub not_less : (a : Serial) → Before a a → ⊥
 not_less a h = let n = h.number (omega arith) in absurd (omega arith)
 
-own : (o : Ordering) → o ≡ ordering_reverse o → is_eq o ≡ true
-own Less e = absurd (cc (e))
-own Equal e = refl
-own Greater e = absurd (cc (e))
+pub own_reverse : (o : Ordering) → o ≡ ordering_reverse o → is_eq o ≡ true
+own_reverse Less e = absurd (cc (e))
+own_reverse Equal e = refl
+own_reverse Greater e = absurd (cc (e))
 
 pub at_self : (a : Serial) → is_at (unit_cmp a) a ≡ true
-at_self a = own (unit_cmp a a) (units_total.antisymm a a)
+at_self a = own_reverse (unit_cmp a a) (units_total.antisymm a a)
 
 pub at_false : (a b : Serial) → is_at (unit_cmp a) b ≡ false → a ≡ b → ⊥
 at_false a b e same = true≢false (sym (at_self a) ∙ ap (λ q. is_at (unit_cmp a) q) same ∙ e)

@@ -1,8 +1,8 @@
 -- The result of following, once no node is pending: the journals are gone through, or no events lead to them.
-use Rattle.std.proofs.Common.{◌≡◌, ℕ, ◌<◌, ◌≤◌, List, [], ◌∷◌, ◌++◌, true, Some, None, Ok, inl, inr, refl, sym, ap, subst, ◌∙◌, length, map, take, arith, length-append, append-nil, append_assoc}
+use Rattle.std.proofs.Common.{◌≡◌, ℕ, ◌<◌, ◌≤◌, List, [], ◌∷◌, ◌++◌, true, Some, None, Ok, inl, inr, sym, ap, subst, ◌∙◌, length, map, take, arith, length-append, append-nil, append_assoc}
 use Rattle.std.specs.Prelude.{slice_get, slice_index_or, ◌⊎◌}
 use Rattle.std.proofs.lemmas.Bool.{cases_Bool}
-use Rattle.std.proofs.lemmas.List.{append_cancel_left}
+use Rattle.std.proofs.lemmas.List.{append_cancel_left, nil_from_length}
 use Rattle.std.proofs.lemmas.Option.{slice_get_within}
 use Rattle.units.specs.declared.code.Node.{Node}
 use Rattle.status.specs.declared.id.TransactionId.{TransactionId}
@@ -18,11 +18,12 @@ use Rattle.protocol.specs.World.{World, Station, Stepped, at_node, opening, run,
 use Rattle.protocol.specs.declared.event.Outcome.TheVariants.{Recorded}
 use Rattle.protocol.specs.declared.event.WorldEvent.{WorldEvent}
 use Rattle.protocol.specs.declared.node_core.Stepped.TheVariants as stepped
+use Rattle.units.proofs.Lists.FirstIndices.{none_from_test}
 use Rattle.units.proofs.Lists.OneValue.{one_some}
 use Rattle.units.proofs.Lists.Positions.{In_contains}
 use Rattle.safety.proofs.Headline.{safe_live, safe_committed, way_out, welcome}
 use Rattle.safety.proofs.JournalWeaves.StuckWorlds.{stuck_is_final}
-use Rattle.safety.proofs.WorldLemmas.NodesWithStation.{some_there}
+use Rattle.safety.proofs.ListLemmas.FirstFound.{some_is}
 use Rattle.safety.proofs.WorldLemmas.SchemesKept.{run_scheme}
 use Rattle.safety.proofs.WorldLemmas.StationsAfterPut.{found_at_node}
 use Rattle.weave.specs.Ahead.{AreAhead, IsAhead}
@@ -34,7 +35,7 @@ use Rattle.weave.specs.declared.following.Following.{Following}
 use Rattle.weave.proofs.Followed.{all_placed}
 use Rattle.weave.proofs.Lists.{get_at, take_front}
 use Rattle.protocol.proofs.NodeIndices.{node_at, node_of_index, node_there, index_within}
-use Rattle.weave.proofs.NodeIndices.{counted, journal_is, nodes_alone, none_there}
+use Rattle.weave.proofs.NodeIndices.{counted, journal_is, nodes_alone}
 use Rattle.weave.proofs.OneMore.{take_says}
 use Rattle.weave.proofs.Rounds.{follows_journals, next_is}
 use Rattle.weave.proofs.Tails.{committed_same, settled_is}
@@ -42,10 +43,6 @@ use Rattle.weave.proofs.Turns.{gives_step}
 
 first_same : (x y : Input) (xs ys : List Input) → x ∷ xs ≡ y ∷ ys → x ≡ y
 first_same x y xs ys e = cc (e)
-
-no_more : (xs : List Input) → length xs ≤ 0 → xs ≡ []
-no_more [] e = refl
-no_more (x ∷ xs) e = absurd (omega arith)
 
 -- ---- no node is pending
 
@@ -63,7 +60,7 @@ module _ (scheme : Scheme) (journals : Node → List Input) (w : World) (events 
   done_same : (n : Node) → length (journals n) ≤ length (committed_at w n) → committed_at w n ≡ journals n
   done_same n e =
       let rest = f.front n in
-      let none : rest.0 ≡ [] = no_more rest.0 (omega (arith, ap length rest.1, length-append (committed_at w n) rest.0)) in
+      let none : rest.0 ≡ [] = nil_from_length rest.0 (omega (arith, ap length rest.1, length-append (committed_at w n) rest.0)) in
       sym (rest.1 ∙ ap (λ xs. committed_at w n ++ xs) none ∙ append-nil (committed_at w n))
 
   pub no_events : (n : Node) (place : ℕ) → IsLeft w (λ m. length (journals m)) (nodes scheme) n place → IsStuckAt scheme journals n place × HasNoEvents scheme journals
@@ -99,7 +96,7 @@ module _ (scheme : Scheme) (journals : Node → List Input) (w : World) (events 
                 (done_same n (done at.0 n (slice_get_within (nodes scheme) at.0 n at.1) at.1), ap uncommitted idle.is ∙ idle.settled)
             | inr outside ↦
                 let none : station w n ≡ None =
-                none_there (station w n) (all_placed scheme journals w events numbers posted [] f n ∙ ap (λ (z : Scheme). is_node z n) same_scheme ∙ outside) in
+                none_from_test (station w n) (all_placed scheme journals w events numbers posted [] f n ∙ ap (λ (z : Scheme). is_node z n) same_scheme ∙ outside) in
                 (ap committed_part none ∙ sym (alone n outside), ap uncommitted none)
           ]
 
@@ -168,7 +165,7 @@ goes_on : (scheme : Scheme) (js ks : List (List Input)) → AreAhead scheme js k
 goes_on scheme js ks a n =
     elim (cases_Bool (is_node scheme n)) [
       | inl node ↦
-          let index = some_there (index_of scheme n) (node_there scheme n ∙ node) in
+          let index = some_is (index_of scheme n) (node_there scheme n ∙ node) in
           let below = index_within scheme n index.0 index.1 in
           let one = a.each index.0 n (slice_index_or js index.0 []) (slice_index_or ks index.0 []) (node_of_index scheme n index.0 index.1)
           (get_at js index.0 [] (omega (arith, below, a.journals_count))) (get_at ks index.0 [] (omega (arith, below, a.recorded_count))) in
@@ -231,7 +228,7 @@ module _ (scheme : Scheme) (js ks : List (List Input)) (f : Following) (i : IsFo
         let mine : s.committed ≡ journal_of scheme js n = sym (ap committed_part is) ∙ sym (committed_same f.world n) ∙ led in
         let all : s.committed ++ s.tail ≡ journal_of scheme ks n = sym (ap whole is) ∙ whole_is n in
         let few = shorter scheme js ks n (goes_on scheme js ks ahead n) in
-        no_more s.tail (omega (arith, few, ap length mine, ap length all, length-append s.committed s.tail))
+        nil_from_length s.tail (omega (arith, few, ap length mine, ap length all, length-append s.committed s.tail))
 
     pub world_is : f.world ≡ run (opening scheme) f.events.items
     world_is = sym (settled_is scheme f.world i.follows.nodes_are no_tail) ∙ i.follows.follows.led

@@ -2,6 +2,7 @@
 use Rattle.std.proofs.Common.{◌≡◌, ℕ, ◌+◌, ◌-◌, ◌<◌, ◌≤◌, List, [], ◌∷◌, ◌++◌, Bool, true, false, cond, Some, inl, inr, refl, sym, ap, subst, ◌∙◌, length, arith, length-append}
 use Rattle.std.specs.Prelude.{Contains, if◌then◌else◌, ◌⊎◌}
 use Rattle.std.proofs.lemmas.Bool.{cases_Bool, cond-true}
+use Rattle.std.proofs.lemmas.List.Elements.{Contains-append_left, Contains-push}
 use Rattle.units.proofs.Same.{node_of_same}
 use Rattle.units.specs.Code.{same_node}
 use Rattle.units.specs.declared.code.Node.{Node}
@@ -23,7 +24,7 @@ use Rattle.safety.proofs.WorldLemmas.QuietWorlds.{run_append}
 use Rattle.weave.specs.Following.{committed_at}
 use Rattle.weave.specs.Kept.{left_in}
 use Rattle.weave.specs.Steps.{AreAllNumbered, Follows, Waits, left_of, next_message, whole_at, with_message, without_tails}
-use Rattle.weave.proofs.Lists.{contains_left, contains_last, one_more}
+use Rattle.weave.proofs.Lists.{one_more}
 use Rattle.weave.proofs.OneMore.{Advances, advances, committed_elsewhere, committed_here, front_on, sent_more}
 use Rattle.weave.proofs.Posting.{posts, waits_more}
 use Rattle.weave.proofs.Waiting.{waits_on}
@@ -85,11 +86,11 @@ numbers_more numbers more bag p put all k q is =
           let t = p.message.id in
           let here : more t ≡ numbers t ++ length bag ∷ [] = put t ∙ cond-true (same_id t t) (numbers t ++ length bag ∷ []) (numbers t) (same_id-refl t) in
           subst (λ (z : Posted). Contains (more z.message.id) k) new.1
-          (subst (λ (ks : List ℕ). Contains ks k) (sym here) (subst (Contains (numbers t ++ length bag ∷ [])) (sym new.0) (contains_last (numbers t) (length bag))))
+          (subst (λ (ks : List ℕ). Contains ks k) (sym here) (subst (Contains (numbers t ++ length bag ∷ [])) (sym new.0) (Contains-push (numbers t) (length bag))))
     ]
   where
     pick : (b : Bool) (ks : List ℕ) → Contains ks k → Contains (cond b (ks ++ length bag ∷ []) ks) k
-    pick true ks h = contains_left ks (length bag ∷ []) k h
+    pick true ks h = Contains-append_left ks (length bag ∷ []) k h
     pick false ks h = h
 
 pub follows_posted : (scheme : Scheme) (journals : Node → List Input) (w : World) (events : List WorldEvent) (numbers more : TransactionId → List ℕ) (posted : List ℕ) (pending : List Node) (n : Node) (key : ℕ) (m : Message)

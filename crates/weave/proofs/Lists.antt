@@ -1,16 +1,9 @@
 -- Elements of lists that get longer or have an element set.
-use Rattle.std.proofs.Common.{◌≡◌, ◌≢◌, ℕ, zero, suc, ◌+◌, ◌<◌, ◌≤◌, List, [], ◌∷◌, ◌++◌, Option, Some, None, inl, inr, refl, sym, ap, ◌∙◌, length, map, take, arith, Bor}
-use Rattle.std.specs.Prelude.{slice_get, get_or, Contains, IfNone, ◌⊎◌}
+use Rattle.std.proofs.Common.{◌≡◌, ◌≢◌, ℕ, zero, suc, ◌+◌, ◌<◌, ◌≤◌, List, [], ◌∷◌, ◌++◌, Option, Some, None, inl, inr, refl, sym, ap, ◌∙◌, length, map, take, arith, append-nil, append_assoc, Bor}
+use Rattle.std.specs.Prelude.{slice_get, get_or, IfNone, ◌⊎◌}
 use Rattle.std.proofs.Math.ListN.{set}
 use Rattle.std.proofs.lemmas.List.{map-append, take_more}
 use Rattle.std.specs.Option.{option_copied, option_map_or}
-use Rattle.units.proofs.Lists.Membership.{In_left, In_right}
-use Rattle.units.proofs.Lists.Positions.{In_contains, contains_in}
-
-pub front_get : {X : Type 0} (xs ys : List X) (k : ℕ) → k < length xs → slice_get (xs ++ ys) k ≡ slice_get xs k
-front_get [] ys k below = absurd (omega arith)
-front_get (x ∷ xs) ys zero below = refl
-front_get (x ∷ xs) ys (suc k) below = front_get xs ys k (omega arith)
 
 pub take_front : {X : Type 0} (xs ys : List X) → take (length xs) (xs ++ ys) ≡ xs
 take_front [] ys = refl
@@ -44,11 +37,13 @@ one_more (z ∷ xs) y x (suc k) is = elim (one_more xs y x k is) [
   | inr h ↦ inr (omega (arith, h.0), h.1)
 ]
 
-pub contains_left : {X : Type 0} (xs ys : List X) (x : X) → Contains xs x → Contains (xs ++ ys) x
-contains_left xs ys x h = contains_in (xs ++ ys) x (In_left x xs ys (In_contains xs x h))
+-- a list in two parts, one element further, and at its end
+pub one_done : {X : Type 0} (all done left rest : List X) (x : X) → all ≡ done ++ left → left ≡ x ∷ rest → all ≡ (done ++ x ∷ []) ++ rest
+one_done {X} all done left rest x split is = split ∙ (ap (λ (xs : List X). done ++ xs) is ∙ sym (append_assoc done (x ∷ []) rest))
 
-pub contains_last : {X : Type 0} (xs : List X) (x : X) → Contains (xs ++ x ∷ []) x
-contains_last xs x = contains_in (xs ++ x ∷ []) x (In_right x xs (x ∷ []) (inl refl))
+pub all_done : {X : Type 0} (all done left : List X) → all ≡ done ++ left → length left ≡ 0 → all ≡ done
+all_done all done [] split none = split ∙ append-nil done
+all_done all done (x ∷ xs) split none = absurd (omega (arith, none))
 
 -- the element of a list of images at an index
 pub map_get : {X Y : Type 0} (f : X → Y) (xs : List X) (at : ℕ) (r : X) (d : Y) → at < length xs → r ≡ get_or xs at r → get_or (map f xs) at d ≡ f r

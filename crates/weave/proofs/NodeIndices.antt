@@ -1,8 +1,9 @@
 -- The journal and the count of a node by its index.
-use Rattle.std.proofs.Common.{◌≡◌, ℕ, zero, suc, List, [], ◌∷◌, false, Option, Some, None, refl, ap, ◌∙◌, length, map}
-use Rattle.std.specs.Prelude.{get_or, is_some, slice_index, slice_index_or}
+use Rattle.std.proofs.Common.{◌≡◌, ℕ, zero, suc, List, [], ◌∷◌, Option, Some, None, refl, ap, ◌∙◌, length, map}
+use Rattle.std.specs.Prelude.{get_or, slice_index, slice_index_or}
 use Rattle.std.specs.Option.{option_map_or}
 use Rattle.units.specs.declared.code.Node.{Node}
+use Rattle.units.proofs.Lists.FirstIndices.{none_from_test}
 use Rattle.wire.specs.declared.input.Input.{Input}
 use Rattle.scheme.specs.declared.registries.Scheme.{Scheme}
 use Rattle.protocol.specs.Registries.{index_of}
@@ -11,12 +12,8 @@ use Rattle.weave.specs.Following.{journal_of}
 use Rattle.weave.specs.Left.{count_at}
 use Rattle.weave.specs.Steps.{HasNodesAlone}
 
-pub none_there : {X : Type 0} (o : Option X) → is_some o ≡ false → o ≡ None
-none_there None e = refl
-none_there (Some x) e = absurd (cc (e))
-
 pub nodes_alone : (scheme : Scheme) (journals : List (List Input)) → HasNodesAlone scheme (journal_of scheme journals)
-nodes_alone scheme journals n e = ap (λ o. option_map_or (λ k. slice_index_or journals k []) o []) (none_there (index_of scheme n) (node_there scheme n ∙ e))
+nodes_alone scheme journals n e = ap (λ o. option_map_or (λ k. slice_index_or journals k []) o []) (none_from_test (index_of scheme n) (node_there scheme n ∙ e))
 
 -- ---- what stands at a node's index
 

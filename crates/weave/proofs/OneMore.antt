@@ -11,6 +11,7 @@ use Rattle.wire.specs.declared.input.Input.{Input}
 use Rattle.wire.specs.declared.message.Message.{Message}
 use Rattle.scheme.specs.declared.registries.Scheme.{Scheme}
 use Rattle.protocol.proofs.Histories.{sends_snoc}
+use Rattle.protocol.proofs.Replaying.{slice_get_front}
 use Rattle.protocol.specs.Claims.{committed_part, committed_of}
 use Rattle.protocol.specs.Deciding.{Verdict, IsRecorded, IsRepeat, IsLate, IsRefused}
 use Rattle.protocol.specs.History.{Transition, sends, messages_of}
@@ -27,9 +28,9 @@ use Rattle.safety.proofs.WorldLemmas.NodesWithStation.{AllPlaced}
 use Rattle.safety.proofs.WorldLemmas.QuietWorlds.{Grown, record_on}
 use Rattle.safety.proofs.WorldLemmas.SchemesKept.{run_scheme}
 use Rattle.safety.proofs.WorldLemmas.StationsAfterPut.{found_at_node}
+use Rattle.world.proofs.Worlds.{at_node_bag}
 use Rattle.weave.specs.Following.{committed_at}
 use Rattle.weave.specs.Steps.{IsPostedTo, sent_count}
-use Rattle.weave.proofs.Lists.{front_get}
 use Rattle.weave.proofs.Turns.{taken, gives_step}
 
 -- the node has committed one input more, and all else is as it was
@@ -45,10 +46,6 @@ pub record Advances (w v : World) (n : Node) (input : Input) : Type 0 where
   pub elsewhere : (m : Node) → same_node n m ≡ false → station v m ≡ station w m
 
 -- ---- the world after the events
-
-at_node_bag : (w : World) (o : Option Station) (f : Station → Turn) → (at_node w o f).world.bag ≡ w.bag
-at_node_bag w None f = refl
-at_node_bag w (Some s) f = refl
 
 commit_bag : (w : World) (n : Node) (count : ℕ) → (step w (Commit n count)).world.bag ≡ w.bag
 unfolding step
@@ -152,7 +149,7 @@ module _ (w v : World) (n : Node) (input : Input) (a : Advances w v n input) whe
     idle = idle_still quiet;
     own = λ k x below is.
         subst (λ (b : List Posted). Contains b (record { node = n; key = k; message = x })) (sym a.bag)
-        (quiet.posted n k x (sym (front_get (sends (committed_of w n)) sent_here.0 k (omega arith)) ∙ sym (ap (λ ms. slice_get ms k) sent_here.1) ∙ is));
+        (quiet.posted n k x (sym (slice_get_front (sends (committed_of w n)) sent_here.0 k (omega arith)) ∙ sym (ap (λ ms. slice_get ms k) sent_here.1) ∙ is));
     others = λ m k x other is.
         subst (λ (b : List Posted). Contains b (record { node = m; key = k; message = x })) (sym a.bag)
         (quiet.posted m k x (sym (ap (λ ms. slice_get ms k) (sent_elsewhere m other)) ∙ is));

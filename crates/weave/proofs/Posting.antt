@@ -2,7 +2,9 @@
 use Rattle.std.proofs.Common.{◌≡◌, ◌≢◌, ℕ, ◌+◌, ◌<◌, List, [], ◌∷◌, ◌++◌, Bool, true, false, cond, Option, Some, None, inl, inr, refl, sym, ap, subst, ◌∙◌, arith}
 use Rattle.std.specs.Prelude.{slice_get, Contains, option_and_then, ◌⊎◌, ◌||◌, ◌&&◌, ◌==◌}
 use Rattle.std.specs.List.{list_any}
+use Rattle.std.proofs.Math.Bool.{or-false}
 use Rattle.std.proofs.lemmas.Bool.{cases_Bool, eqb-true, eqb-false}
+use Rattle.std.proofs.lemmas.List.Elements.{Contains-append_left, Contains-push}
 use Rattle.std.proofs.lemmas.List.Folds.{list_any-append}
 use Rattle.std.proofs.lemmas.Option.{slice_get_within}
 use Rattle.units.proofs.Same.{node_of_same, same_node-refl}
@@ -20,10 +22,10 @@ use Rattle.protocol.specs.World.{World, Station, station, sent, posted, step}
 use Rattle.protocol.specs.declared.event.Posted.{Posted}
 use Rattle.protocol.specs.declared.event.WorldEvent.TheVariants.{Post}
 use Rattle.units.proofs.Lists.Membership.{In, In_cases}
-use Rattle.units.proofs.Lists.OneValue.{one_some}
+use Rattle.units.proofs.Lists.OneValue.{one_some, clash}
 use Rattle.safety.proofs.WorldLemmas.StationsAfterPut.{found_at_node}
 use Rattle.weave.specs.Steps.{IsPostedTo, Waits, next_message, with_message}
-use Rattle.weave.proofs.Lists.{contains_left, contains_last, past_end}
+use Rattle.weave.proofs.Lists.{past_end}
 use Rattle.weave.proofs.Waiting.{IsSameFor, waits_on}
 
 -- ---- one message
@@ -63,13 +65,13 @@ posted_more w n key m is all = record {
   idle = λ k node. let i = all.idle k node in record { at = i.at; is = i.is; runs = i.runs; settled = i.settled };
   own = λ k x below at.
       elim (below_cases k key below) [
-        | inl less ↦ contains_left w.bag (p ∷ []) (record { node = n; key = k; message = x }) (all.own k x less at)
+        | inl less ↦ Contains-append_left w.bag (p ∷ []) (record { node = n; key = k; message = x }) (all.own k x less at)
         | inr same ↦
             let here : Some m ≡ Some x = sym (is_sent w n key m is) ∙ subst (λ z. slice_get (sends (committed_of w n)) z ≡ Some x) same at in
             subst (λ z. Contains (w.bag ++ p ∷ []) (record { node = n; key = z; message = x })) (sym same)
-            (subst (λ z. Contains (w.bag ++ p ∷ []) (record { node = n; key = key; message = z })) (one_some m x here) (contains_last w.bag p))
+            (subst (λ z. Contains (w.bag ++ p ∷ []) (record { node = n; key = key; message = z })) (one_some m x here) (Contains-push w.bag p))
       ];
-  others = λ k i x other at. contains_left w.bag (p ∷ []) (record { node = k; key = i; message = x }) (all.others k i x other at);
+  others = λ k i x other at. Contains-append_left w.bag (p ∷ []) (record { node = k; key = i; message = x }) (all.others k i x other at);
 }
   where
     p : Posted
@@ -103,10 +105,6 @@ all_posted w n key node all none = record {
 
 -- ---- the nodes that go on waiting
 
-or_false : (b : Bool) → (b || false) ≡ b
-or_false true = refl
-or_false false = refl
-
 same_for : (w : World) (n : Node) (key : ℕ) (m : Message) (k : Node) → same_node n k ≡ false → same_node m.to k ≡ false → IsSameFor w (with_message w n key m) k
 same_for w n key m k other_sender other_receiver = record {
   scheme = refl;
@@ -114,7 +112,7 @@ same_for w n key m k other_sender other_receiver = record {
   marked = λ i.
       let q : Posted → Bool = λ p. same_node p.node k && (p.key == i) in
       list_any-append q w.bag (record { node = n; key = key; message = m } ∷ [])
-      ∙ ap (λ b. list_any q w.bag || ((b && (key == i)) || false)) other_sender ∙ or_false (list_any q w.bag);
+      ∙ ap (λ b. list_any q w.bag || ((b && (key == i)) || false)) other_sender ∙ or-false (list_any q w.bag);
   bag = λ p i to.
       elim (In_cases p w.bag (record { node = n; key = key; message = m } ∷ []) i) [
         | inl old ↦ old
@@ -122,9 +120,6 @@ same_for w n key m k other_sender other_receiver = record {
       ];
 }
   where
-    clash : (b : Bool) → b ≡ true → b ≡ false → ⊥
-    clash b t f = let e : true ≡ false = sym t ∙ f in cc (e)
-
     only : (p : Posted) → In p (record { node = n; key = key; message = m } ∷ []) → p.message.to ≡ k → ⊥
     only p (inl e) to =
         let here : m.to ≡ k = ap (λ (z : Posted). z.message.to) e ∙ to in
@@ -136,13 +131,13 @@ pub waits_more : (w : World) (n : Node) (key : ℕ) (m : Message) (journals : No
     → (k : Node) → Contains (pending ++ m.to ∷ []) k ⊎ Waits (with_message w n key m) journals k
 waits_more w n key m journals pending own waits k =
     elim (cases_Bool (same_node n k)) [
-      | inl y ↦ inl (contains_left pending (m.to ∷ []) k (subst (Contains pending) (node_of_same n k y) own))
+      | inl y ↦ inl (Contains-append_left pending (m.to ∷ []) k (subst (Contains pending) (node_of_same n k y) own))
       | inr other ↦
           elim (cases_Bool (same_node m.to k)) [
-            | inl z ↦ inl (subst (Contains (pending ++ m.to ∷ [])) (node_of_same m.to k z) (contains_last pending m.to))
+            | inl z ↦ inl (subst (Contains (pending ++ m.to ∷ [])) (node_of_same m.to k z) (Contains-push pending m.to))
             | inr apart ↦
                 elim (waits k) [
-                  | inl h ↦ inl (contains_left pending (m.to ∷ []) k h)
+                  | inl h ↦ inl (Contains-append_left pending (m.to ∷ []) k h)
                   | inr h ↦ inr (waits_on w (with_message w n key m) k (same_for w n key m k other apart) journals h)
                 ]
           ]

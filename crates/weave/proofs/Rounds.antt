@@ -1,8 +1,9 @@
 -- One look at a node: it rests, or it takes a record and its messages are posted.
-use Rattle.std.proofs.Common.{◌≡◌, ◌≢◌, ℕ, ◌+◌, ◌<◌, ◌≤◌, List, [], ◌∷◌, ◌++◌, true, false, Some, None, Ok, inl, inr, refl, sym, ap, subst, ◌∙◌, length, map, arith, get_or-set_same, get_or-set_other}
-use Rattle.std.specs.Prelude.{is_some, option_map, slice_get, slice_index, Contains, ◌⊎◌, ◌==◌, if◌then◌else◌}
+use Rattle.std.proofs.Common.{◌≡◌, ℕ, ◌+◌, ◌<◌, ◌≤◌, List, [], ◌∷◌, ◌++◌, true, false, Some, None, Ok, inl, inr, refl, sym, ap, subst, ◌∙◌, length, map, arith, get_or-set_same, get_or-set_other}
+use Rattle.std.specs.Prelude.{is_some, option_map, slice_get, slice_index, Contains, ◌⊎◌, if◌then◌else◌}
 use Rattle.std.proofs.Math.ListN.{set, length-set}
-use Rattle.std.proofs.lemmas.Bool.{cases_Bool, eqb-true, eqb-false}
+use Rattle.std.proofs.lemmas.Bool.{cases_eq}
+use Rattle.std.proofs.lemmas.List.Elements.{Contains-push, Contains-append_left}
 use Rattle.std.proofs.lemmas.Option.{slice_get_within}
 use Rattle.units.specs.declared.code.Node.{Node}
 use Rattle.status.specs.declared.id.TransactionId.{TransactionId}
@@ -33,7 +34,6 @@ use Rattle.weave.specs.declared.following.Visit.{Visit}
 use Rattle.weave.specs.declared.following.Visit.TheVariants.{Advanced, Rests}
 use Rattle.protocol.proofs.NodeIndices.{node_of_index, node_there}
 use Rattle.weave.proofs.Followed.{all_placed, fewer, follows_posted, follows_taken, left_journals, left_stations, taken_advances}
-use Rattle.weave.proofs.Lists.{contains_last, contains_left}
 use Rattle.weave.proofs.OneMore.{Advances, posted_to, sent_more}
 use Rattle.weave.proofs.Posting.{all_posted, is_sent, posted_more}
 use Rattle.weave.proofs.Tails.{commit_idle, commit_nodes, commit_whole, fits_idle, is_recorded, next_same, raw_station, station_idle, takes_and_commits, whole_none}
@@ -207,7 +207,7 @@ module _ (scheme : Scheme) (f g : Following) (n : Node) (e : WorldEvent) (at : �
       follows_journals scheme (whole_at f.world) (whole_at g.world) (without_tails g.world) (f.events.items ++ e ∷ Commit n 1 ∷ []) (numbers_of f) f.posted.items (f.pending.items ++ n ∷ []) takes_whole
       (subst (λ (z : World). Follows scheme (whole_at f.world) z (f.events.items ++ e ∷ Commit n 1 ∷ []) (numbers_of f) f.posted.items (f.pending.items ++ n ∷ [])) (sym goes_on)
       (follows_taken scheme (whole_at f.world) (without_tails f.world) f.events.items (numbers_of f) f.posted.items (f.pending.items ++ n ∷ []) follows.follows n by.input tail.0 e (length (there.0.committed ++ [])) quiet left fits.gives recorded
-      (contains_last f.pending.items n)))
+      (Contains-push f.pending.items n)))
 
   pub takes_posting : IsPosting scheme g n (slice_index g.posted.items at)
   takes_posting = record {
@@ -216,7 +216,7 @@ module _ (scheme : Scheme) (f g : Following) (n : Node) (e : WorldEvent) (at : �
       nodes_are = ap (λ (z : World). map (λ (x : Station). x.node) z.stations) t.world ∙ commit_nodes f.world n ∙ follows.nodes_are;
     };
     node = subst (λ (z : Scheme). is_node z n ≡ true) (sym one_input.scheme) one_input.node;
-    pending = subst (λ (ns : List Node). Contains ns n) (sym t.pending) (contains_last f.pending.items n);
+    pending = subst (λ (ns : List Node). Contains ns n) (sym t.pending) (Contains-push f.pending.items n);
     posted = posted_to (without_tails f.world) (without_tails g.world) n by.input one_input quiet (slice_index g.posted.items at) few;
     few = let more = sent_more (without_tails f.world) (without_tails g.world) n by.input one_input n in omega (arith, few);
   }
@@ -267,7 +267,7 @@ module _ (scheme : Scheme) (f g : Following) (n : Node) (key : ℕ) (i : IsPosti
           nodes_are = ap (λ (z : World). map (λ (x : Station). x.node) z.stations) p.world ∙ i.follows.nodes_are;
         };
         node = subst (λ (z : World). is_node z.scheme n ≡ true) (sym p.world) i.node;
-        pending = subst (λ (ns : List Node). Contains ns n) (sym p.pending) (contains_left f.pending.items (p.message.to ∷ []) n i.pending);
+        pending = subst (λ (ns : List Node). Contains ns n) (sym p.pending) (Contains-append_left f.pending.items (p.message.to ∷ []) n i.pending);
         posted = subst (λ (z : World). IsPostedTo (without_tails z) n (key + 1)) (sym p.world) (posted_more (without_tails f.world) n key p.message next i.posted);
         few = subst (λ (z : World). key + 1 ≤ sent_count (without_tails z) n) (sym p.world)
             (let below = slice_get_within (sends (committed_of (without_tails f.world) n)) key p.message (is_sent (without_tails f.world) n key p.message next) in omega (arith, below));
@@ -297,12 +297,9 @@ module _ (scheme : Scheme) (f g : Following) (n : Node) (key : ℕ) (i : IsPosti
     quiet = subst (λ (z : World). IsQuiet (without_tails z)) (sym world_is) quiet;
   }
     where
-      same_or_not : (k j : ℕ) → (k ≡ j) ⊎ (k ≢ j)
-      same_or_not k j = elim (cases_Bool (k == j)) [ inl y ↦ inl (eqb-true k j y) | inr d ↦ inr (eqb-false k j d) ]
-
       counts_set : (k : ℕ) (m : Node) → slice_get (nodes scheme) k ≡ Some m → slice_index (set f.posted.items at key) k ≤ sent_count (without_tails f.world) m
       counts_set k m is =
-          elim (same_or_not k at) [
+          elim (cases_eq k at) [
             | inl e ↦
                 let here : Some n ≡ Some m = sym (node_of_index scheme n at index) ∙ subst (λ z. slice_get (nodes scheme) z ≡ Some m) e is in
                 let written : slice_index (set f.posted.items at key) k ≡ key = subst (λ z. slice_index (set f.posted.items at key) z ≡ key) (sym e) (get_or-set_same f.posted.items at key 0 within) in

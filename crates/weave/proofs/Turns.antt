@@ -12,6 +12,7 @@ use Rattle.protocol.specs.declared.event.Outcome.TheVariants.{Recorded, NotPossi
 use Rattle.protocol.specs.declared.event.Posted.{Posted}
 use Rattle.protocol.specs.declared.event.WorldEvent.{WorldEvent}
 use Rattle.protocol.specs.declared.event.WorldEvent.TheVariants.{Take, Commit, Post, Deliver, Crash, Restart}
+use Rattle.protocol.proofs.MessageForms.{received}
 use Rattle.safety.proofs.WorldLemmas.StationsAfterPut.{at}
 
 -- the node takes the input, whether it is an order or not
@@ -20,7 +21,7 @@ taken w n input = at_node w (station w n) (take_input w.scheme input)
 
 -- ---- an event that gives a node an input
 
-not_possible : (place : ℕ) → NotPossible ≡ Recorded place → ⊥
+pub not_possible : (place : ℕ) → NotPossible ≡ Recorded place → ⊥
 not_possible place e = cc (e)
 
 order_recorded : (w : World) (b : Bool) (x : Stepped) (place : ℕ) → (cond b x (stays w NotPossible)).outcome ≡ Recorded place → cond b x (stays w NotPossible) ≡ x
@@ -64,10 +65,7 @@ never_order w n m moment place e = not_possible place e
 pub message_none : (w : World) (n : Node) (m : Message) (moment : Moment) (e : WorldEvent) (place : ℕ) → ((index : ℕ) (p : Posted) → slice_get w.bag index ≡ Some p → p.message.to ≡ n → p.message ≡ m → ⊥)
     → Gives w e n (Received m moment) → (step w e).outcome ≡ Recorded place → ⊥
 message_none w n m moment (Take k order) place none g r = never_order w k m moment place (subst (λ z. (step w (Take k z)).outcome ≡ Recorded place) g.1 r)
-message_none w n m moment (Deliver index at) place none g r = none index g.0 g.1 g.2 (message_of g.0.message m at moment g.3)
-  where
-    message_of : (a b : Message) (x y : Moment) → Received a x ≡ Received b y → a ≡ b
-    message_of a b x y e = cc (e)
+message_none w n m moment (Deliver index at) place none g r = none index g.0 g.1 g.2 (received g.3)
 message_none w n m moment (Commit k count) place none g r = absurd g
 message_none w n m moment (Post k key) place none g r = absurd g
 message_none w n m moment (Crash k kept) place none g r = absurd g

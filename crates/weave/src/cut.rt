@@ -15,7 +15,7 @@ use scheme::Scheme;
 use std::alloc::Global;
 use units::{NoMemory, Node};
 use wire::Input;
-use world::{Core, World};
+use world::{Core, ReachedWorld, World};
 
 /// The records of a node's journal beyond a cut.
 #[derive(Debug, Drop)]
@@ -113,7 +113,8 @@ pub fn cut_cores<W: Watch>(
     }
     // The cores of that world also have the records beyond the cut.
     drop(world);
-    let world = World::run(alloc, scheme, events.as_slice())?;
+    let reached = ReachedWorld::run(alloc, scheme, events.as_slice())?;
+    let world = reached.into_world();
     Ok(Cut {
         events,
         world,

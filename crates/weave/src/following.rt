@@ -67,7 +67,7 @@ fn apply_post(world: &mut World, node: Node, key: u64) -> Result<Outcome, NoMemo
     ensures { IfOk result (λ o. record { world = world.new; outcome = o } ≡ step world.old (Post node key)) }
 {
     let event = WorldEvent::Post { node, key };
-    let outcome = world.apply(&event);
+    let outcome = world.step(&event);
     drop(event);
     outcome
 }
@@ -87,7 +87,7 @@ impl Following {
         self.events.reserve(2)?;
         self.pending.reserve(1)?;
         let commit = WorldEvent::Commit { node, count: 1 };
-        match self.world.apply(&commit) {
+        match self.world.step(&commit) {
             Ok(_) => Ok(commit),
             Err(NoMemory) => {
                 drop(commit);

@@ -26,7 +26,7 @@ pub struct Woven {
 
 /// A list of events that leads to these journals, one for each node: the log's, then those of the registries in the
 /// scheme's order. The events commit each record at once, and post each message once, as soon as it is sent. Returns
-/// with them the world that they lead to; everything that `World::run` states about its world holds for it.
+/// with them the world that they lead to; everything that `ReachedWorld::run` states about its world holds for it.
 ///
 /// # Errors
 ///

@@ -96,7 +96,7 @@ request_word f d at i is = clash (word_is f d (codes "request") i at is) refl re
 
 -- ---- one input
 
-number_same : (m n : Number) → m.value ≡ n.value → m ≡ n
+pub number_same : (m n : Number) → m.value ≡ n.value → m ≡ n
 number_same m n e = λ i. record { value = e i; short = is_prop→PathP (λ j. e j < 10 ^ 18) (λ j. hlevel le_prop) m.short n.short i }
 
 pub moment_same : (t u : Moment) → t.seconds ≡ u.seconds → t ≡ u

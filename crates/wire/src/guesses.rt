@@ -137,19 +137,48 @@ fn notified_status(text: &str) -> Option<NotifiedStatus> {
     }
 }
 
-fn proposal(alloc: Global, front: &mut Front<'_>) -> Option<Message> {
+/// The fields of a proposal before the acquirer.
+#[derive(Clone, Copy)]
+struct Sides {
+    account: u64,
+    from: Node,
+    status: ProposalStatus,
+    to: Node,
+    to_account: u64,
+}
+
+fn read_sides(front: &mut Front<'_>) -> Option<Sides> {
     let account = front.number()?;
     let _call = front.text()?;
     let from = front.node()?;
     let status = proposal_status(front.text()?)?;
     let to = front.node()?;
     let to_account = front.number()?;
+    Some(Sides {
+        account,
+        from,
+        status,
+        to,
+        to_account,
+    })
+}
+
+fn proposal(alloc: Global, front: &mut Front<'_>) -> Option<Message> {
+    let sides = read_sides(front)?;
     let acquirer = front.code()?;
     let id = front.id()?;
     let units = front.blocks(alloc)?;
-    let content = Content::new(account, acquirer, to_account, units)?;
-    let body = Body::Proposal(Proposal { status, content });
-    Some(Message { from, to, id, body })
+    let content = Content::new(sides.account, acquirer, sides.to_account, units)?;
+    let body = Body::Proposal(Proposal {
+        status: sides.status,
+        content,
+    });
+    Some(Message {
+        from: sides.from,
+        to: sides.to,
+        id,
+        body,
+    })
 }
 
 /// A notification without codes, read from after them.

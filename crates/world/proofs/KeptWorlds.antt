@@ -1,13 +1,14 @@
 -- The fields of the code's world that the protocol's world doesn't have: after a turn of one station, and after a
 -- message is posted.
-use Rattle.std.proofs.Common.{◌≡◌, ℕ, zero, suc, Bool, true, false, List, [], ◌∷◌, ◌++◌, map, Option, Some, None, get_or, inl, inr, refl, sym, ap, ◌∙◌, subst}
+use Rattle.std.proofs.Common.{◌≡◌, ℕ, zero, suc, Bool, true, false, List, [], ◌∷◌, ◌++◌, map, Option, Some, None, get_or, refl, sym, ap, ◌∙◌, subst}
 use Rattle.std.specs.BTreeSet.{contains}
 use Rattle.std.specs.Ordering.{nat_cmp}
 use Rattle.std.specs.Prelude.{All, ◌==◌, ◌&&◌, ◌||◌, is_some, option_and_then}
 use Rattle.std.specs.List.{AllByRecursion, list_any, position_from}
+use Rattle.std.proofs.Math.Bool.{or-false}
 use Rattle.std.proofs.Math.ListN.{set}
 use Rattle.std.proofs.Math.Seq.{map-set_same}
-use Rattle.std.proofs.lemmas.Bool.{cases_Bool}
+use Rattle.std.proofs.lemmas.Bool.{false≢true}
 use Rattle.std.proofs.lemmas.List.Elements.{All-nil, All-cons, All-head, All-tail, All-get_or, All-set, All-push, All-weaker}
 use Rattle.std.proofs.lemmas.List.Folds.{list_any-append, list_any_none}
 use Rattle.units.specs.Apart.{Pairwise}
@@ -20,7 +21,7 @@ use Rattle.protocol.specs.Registries.{is_node, nodes, index_of}
 use Rattle.protocol.specs.World.{Station, posted, sent, station, was_posted}
 use Rattle.protocol.specs.declared.event.Outcome.TheVariants.{Done, NotPossible}
 use Rattle.protocol.specs.declared.event.Posted.{Posted}
-use Rattle.protocol.proofs.NodeIndices.{Differ, node_there, nodes_differ}
+use Rattle.protocol.proofs.NodeIndices.{Differ, node_there, nodes_differ, other_way}
 use Rattle.world.specs.Cores.{node_of, scheme_of}
 use Rattle.world.specs.Kept.{AreKept, IsFresh, IsKept, world_of}
 use Rattle.world.specs.Stations.{station_of}
@@ -51,11 +52,8 @@ marked_here scheme ss bag n at key s k e is =
 other_node : (scheme : Scheme) (n m : Node) (b : Bool) → is_node scheme n ≡ false → is_node scheme m ≡ true → (same_node m n && b) ≡ false
 other_node scheme n m b outside inside = pick (same_node m n) refl
   where
-    clash : false ≡ true → ⊥
-    clash e = cc (e)
-
     pick : (t : Bool) → same_node m n ≡ t → (t && b) ≡ false
-    pick true e = absurd (clash (sym outside ∙ ap (is_node scheme) (sym (node_of_same m n e)) ∙ inside))
+    pick true e = absurd (false≢true (sym outside ∙ ap (is_node scheme) (sym (node_of_same m n e)) ∙ inside))
     pick false e = refl
 
 -- a node that isn't of the scheme posted nothing
@@ -97,15 +95,11 @@ kept_turn scheme ss bag n at old new k e is same = record {
 
 -- ---- a message posted
 
-or_false : (b : Bool) → (b || false) ≡ b
-or_false true = refl
-or_false false = refl
-
 pub one_more : (scheme : Scheme) (bag : List Posted) (p : Posted) (m : Node) (key : ℕ)
     → was_posted (world_of scheme [] (bag ++ p ∷ [])) m key ≡ (was_posted (world_of scheme [] bag) m key || (same_node p.node m && (p.key == key)))
 one_more scheme bag p m key =
     let q : Posted → Bool = λ p. same_node p.node m && (p.key == key) in
-    list_any-append q bag (p ∷ []) ∙ ap (λ b. list_any q bag || b) (or_false (q p))
+    list_any-append q bag (p ∷ []) ∙ ap (λ b. list_any q bag || b) (or-false (q p))
 
 kept_other : (scheme : Scheme) (bag : List Posted) (p : Posted) (s : Kept) → same_node p.node (node_of s.core) ≡ false → IsKept scheme bag s → IsKept scheme (bag ++ p ∷ []) s
 kept_other scheme bag p s other k = record {
@@ -114,7 +108,7 @@ kept_other scheme bag p s other k = record {
       k.marked key
       ∙ sym (one_more scheme bag p (node_of s.core) key
       ∙ ap (λ b. was_posted (world_of scheme [] bag) (node_of s.core) key || (b && (p.key == key))) other
-      ∙ or_false (was_posted (world_of scheme [] bag) (node_of s.core) key));
+      ∙ or-false (was_posted (world_of scheme [] bag) (node_of s.core) key));
 }
 
 kept_others : (scheme : Scheme) (bag : List Posted) (p : Posted) (ss : List Kept) → AllByRecursion (Differ p.node) (map (λ (s : Kept). node_of s.core) ss) → All (IsKept scheme bag) ss → All (IsKept scheme (bag ++ p ∷ [])) ss
@@ -122,16 +116,6 @@ kept_others scheme bag p [] differ k = All-nil (IsKept scheme (bag ++ p ∷ []))
 kept_others scheme bag p (s ∷ ss) differ k =
     All-cons (IsKept scheme (bag ++ p ∷ [])) s ss (kept_other scheme bag p s differ.0 (All-head (IsKept scheme bag) s ss k))
     (kept_others scheme bag p ss differ.1 (All-tail (IsKept scheme bag) s ss k))
-
-pub not_same : (a b : Node) → same_node a b ≡ false → same_node b a ≡ false
-not_same a b e =
-    elim (cases_Bool (same_node b a)) [
-      | inl y ↦ absurd (clash (sym e ∙ ap (λ x. same_node a x) (node_of_same b a y) ∙ same_node-refl a))
-      | inr other ↦ other
-    ]
-  where
-    clash : false ≡ true → ⊥
-    clash e = cc (e)
 
 kept_from : (scheme : Scheme) (bag : List Posted) (p : Posted) (ss : List Kept) (at : ℕ) (new : Kept) → StandsAt ss p.node at → Pairwise Differ (map (λ (s : Kept). node_of s.core) ss) → All (IsKept scheme bag) ss
     → IsKept scheme (bag ++ p ∷ []) new → All (IsKept scheme (bag ++ p ∷ [])) (set ss at new)
@@ -142,7 +126,7 @@ kept_from scheme bag p (s ∷ ss) zero new stands differ k one =
     (kept_others scheme bag p ss (subst (λ m. AllByRecursion (Differ m) (map (λ (s : Kept). node_of s.core) ss)) (node_of_same (node_of s.core) p.node stands) differ.0) (All-tail (IsKept scheme bag) s ss k))
 kept_from scheme bag p (s ∷ ss) (suc at) new stands differ k one =
     All-cons (IsKept scheme (bag ++ p ∷ [])) s (set ss at new)
-    (kept_other scheme bag p s (not_same (node_of s.core) p.node stands.0) (All-head (IsKept scheme bag) s ss k))
+    (kept_other scheme bag p s (other_way (node_of s.core) p.node stands.0) (All-head (IsKept scheme bag) s ss k))
     (kept_from scheme bag p ss at new stands.1 differ.1 (All-tail (IsKept scheme bag) s ss k) one)
 
 -- the station at that index has the key now

@@ -1,39 +1,23 @@
--- A journal after more of it was committed, and the messages that its committed part sends.
-use Rattle.std.proofs.Common.{◌≡◌, ℕ, ◌+◌, ◌-◌, ◌<◌, ◌≤◌, subst, true, List, [], ◌∷◌, ◌++◌, take, drop, length, None, zero, suc, refl, sym, ap, ◌∙◌, arith}
+-- A journal after more of it was committed.
+use Rattle.std.proofs.Common.{◌≡◌, ℕ, ◌+◌, ◌-◌, ◌≤◌, subst, true, List, [], ◌∷◌, ◌++◌, take, drop, length, None, zero, suc, refl, sym, ap, ◌∙◌, arith}
 use Rattle.std.specs.Prelude.{nat_le, slice_get}
 use Rattle.std.proofs.Math.Seq.{take-append-add}
 use Rattle.std.proofs.lemmas.Bool.{cond-true, le-leb}
 use Rattle.std.proofs.lemmas.List.{drop-drop, length-drop, length-take-le, take-append-drop}
 use Rattle.units.specs.declared.code.Node.{Node}
 use Rattle.wire.specs.declared.input.Input.{Input}
-use Rattle.wire.specs.declared.message.Message.{Message}
 use Rattle.scheme.specs.declared.registries.Scheme.{Scheme}
 use Rattle.protocol.specs.declared.event.Outcome.TheVariants.{Done}
 use Rattle.protocol.specs.World.{commit}
-use Rattle.protocol.specs.History.{sends}
-use Rattle.protocol.specs.Verdict.{history}
-use Rattle.protocol.proofs.Histories.{sends_take}
 
 pub take_more : {X : Type 0} (n m : ℕ) (xs : List X) → n ≤ length xs → take (n + m) xs ≡ take n xs ++ take m (drop n xs)
 take_more n m xs l =
     ap (take (n + m)) (sym (take-append-drop n xs)) ∙ ap (λ k. take (k + m) (take n xs ++ drop n xs)) (sym (length-take-le n xs l)) ∙ take-append-add (take n xs) (drop n xs) m
 
-pub within_front : {X : Type 0} (xs ys : List X) (k : ℕ) → k < length xs → slice_get (xs ++ ys) k ≡ slice_get xs k
-within_front [] ys k l = absurd (omega arith)
-within_front (x ∷ xs) ys zero l = refl
-within_front (x ∷ xs) ys (suc k) l = within_front xs ys k (omega arith)
-
 pub beyond : {X : Type 0} (xs : List X) (k : ℕ) → length xs ≤ k → slice_get xs k ≡ None
 beyond [] k l = refl
 beyond (x ∷ xs) zero l = absurd (omega arith)
 beyond (x ∷ xs) (suc k) l = beyond xs k (omega arith)
-
--- a message of the committed part has its key among all messages
-pub sent_so : (scheme : Scheme) (n : Node) (journal : List Input) (committed key : ℕ) → key < length (sends (history scheme n (take committed journal)))
-    → slice_get (sends (history scheme n journal)) key ≡ slice_get (sends (history scheme n (take committed journal))) key
-sent_so scheme n journal committed key l =
-    let more = sends_take scheme n committed journal in
-    ap (λ (ms : List Message). slice_get ms key) more.1 ∙ within_front (sends (history scheme n (take committed journal))) more.0 key l
 
 -- more of the tail is committed
 pub commit_more : (s : Scheme) (n : Node) (journal : List Input) (committed count : ℕ) → committed ≤ length journal → count ≤ length journal - committed

@@ -40,7 +40,16 @@ absent scheme ss bag n f none = sym (ap (λ (x : Option Station). at_node (world
 pub still : (scheme : Scheme) (ss : List Kept) (bag : List Posted) (at : ℕ) (old new : Kept) → old ≡ get_or ss at old → station_of new ≡ station_of old → world_of scheme (set ss at new) bag ≡ world_of scheme ss bag
 still scheme ss bag at old new is e = ap (λ (l : List Station). record (world_of scheme ss bag) { stations = l }) (same_seen ss at old new is e)
 
+-- a node that does something leaves the bag as it was
+pub at_node_bag : (w : World) (o : Option Station) (f : Station → Turn) → (at_node w o f).world.bag ≡ w.bag
+at_node_bag w None f = refl
+at_node_bag w (Some s) f = refl
+
 -- ---- messages
+
+pub delivered_bag : (w : World) (moment : Moment) (o : Option Posted) → (deliver w moment o).world.bag ≡ w.bag
+delivered_bag w moment None = refl
+delivered_bag w moment (Some p) = at_node_bag w (station w p.message.to) (take_input w.scheme (Received p.message moment))
 
 pub delivered : (w : World) (moment : Moment) (o : Option Posted) (m : Message) → option_map (λ (p : Posted). p.message) o ≡ Some m
     → deliver w moment o ≡ at_node w (station w m.to) (take_input w.scheme (Received m moment))

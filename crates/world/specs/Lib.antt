@@ -4,3 +4,4 @@ pub mod Kept
 pub mod RegistryLines
 pub mod Stocks
 pub mod Transfers
+pub mod Reached

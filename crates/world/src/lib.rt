@@ -2,6 +2,7 @@
 #![tactic(auto)]
 
 mod any_core;
+mod reached;
 mod station;
 mod stations;
 mod views;
@@ -9,5 +10,6 @@ mod world;
 
 pub use any_core::Core;
 pub use protocol::{Outcome, Posted, WorldEvent};
+pub use reached::ReachedWorld;
 pub use views::{ProposedTransfer, Stock};
 pub use world::World;

@@ -1,12 +1,8 @@
 //! The world: all nodes, and the bag of all messages that were ever posted.
-ghost use Rattle.std.specs.Prelude.{◌≡◌, All, List, map, slice_get, option_map, option_and_then, option_copied, IfOk, OnErr, OnOk};
+ghost use Rattle.std.specs.Prelude.{◌≡◌, All, map, slice_get, option_map, option_and_then, option_copied, IfOk, OnErr};
 ghost use Rattle.scheme.specs.declared.registries.Scheme.{Scheme};
 ghost use Rattle.protocol.specs.Registries.{nodes};
-ghost use Rattle.protocol.specs.Claims.{DeliversWelcome, committed_of, live_of};
-ghost use Rattle.protocol.specs.Headline.{IsSafe};
-ghost use Rattle.protocol.specs.Owner.{OwnersMove};
-ghost use Rattle.protocol.specs.WayOut.{WayOut};
-ghost use Rattle.protocol.specs.World.{at_node, is_order, is_registry, journal, opening, run, sent, station, step, take_input, was_posted};
+ghost use Rattle.protocol.specs.World.{at_node, is_order, is_registry, journal, opening, sent, station, step, take_input, was_posted};
 ghost use Rattle.protocol.specs.declared.event.WorldEvent.{WorldEvent};
 ghost use Rattle.world.specs.Cores.{journal_of, node_of, scheme_of};
 ghost use Rattle.world.specs.Stations.{uncommitted};
@@ -90,7 +86,7 @@ fn is_registry(node: Node) -> bool
 impl World {
     /// The opening world of a scheme: empty journals, an empty bag, all nodes running. Fails with `NoMemory` where
     /// memory runs out.
-    pub fn new(alloc: Global, scheme: &Scheme) -> Result<World, NoMemory>
+    pub(crate) fn new(alloc: Global, scheme: &Scheme) -> Result<World, NoMemory>
         ensures { IfOk result (λ w. w ≡ opening scheme.now) }
     {
         let stations = opening_stations(alloc, scheme)?;
@@ -106,8 +102,7 @@ impl World {
     /// scheme's order. Each node runs, its core's journal is its tail, nothing is committed, and no message is posted.
     /// Fails with `NoMemory` where memory runs out.
     ///
-    /// This world need not be reachable by a list of events: the guarantees that `apply` gives for worlds that events
-    /// lead to need not hold for it.
+    /// No list of events need lead to this world: the guarantees of a `ReachedWorld` need not hold for it.
     pub fn uncommitted(alloc: Global, scheme: &Scheme, cores: Vec<Core>) -> Result<World, NoMemory>
         requires nodes { map node_of cores.items ≡ nodes scheme.now }
         requires schemes { All (λ core. scheme_of core ≡ scheme.now) cores.items }
@@ -263,8 +258,10 @@ impl World {
         }
     }
 
-    /// Moves the world by an event.
-    fn move_by(&mut self, event: &WorldEvent) -> Result<Outcome, NoMemory>
+    /// Moves the world by an event, and returns the outcome. After `NoMemory` the world is as it was.
+    ///
+    /// Nothing is said of tonnes here, since events need not have led to this world: `ReachedWorld::apply` does.
+    pub fn step(&mut self, event: &WorldEvent) -> Result<Outcome, NoMemory>
         ensures ok { IfOk result (λ o. record { world = self.new; outcome = o } ≡ step self.old event.now) }
         ensures err { OnErr result (self.new ≡ self.old) }
     {
@@ -275,64 +272,6 @@ impl World {
             WorldEvent::Deliver { message, moment } => self.deliver(*message, *moment),
             WorldEvent::Crash { node, kept } => self.crash(*node, *kept),
             WorldEvent::Restart { node } => Ok(self.restart(*node)),
-        }
-    }
-
-    /// Moves the world by an event, and returns the outcome. After `NoMemory` the world is as it was.
-    ///
-    /// Where events led to the world, no tonne is in two places after this event and none is lost, for journals with
-    /// their tails and for committed journals: see `run`. The event moves a unit's owner only by committing Completed
-    /// of a transfer with the unit.
-    pub fn apply(&mut self, event: &WorldEvent) -> Result<Outcome, NoMemory>
-        ensures ok { IfOk result (λ o. record { world = self.new; outcome = o } ≡ step self.old event.now) }
-        ensures err { OnErr result (self.new ≡ self.old) }
-        ensures live { (scheme : Scheme) (events : List WorldEvent) → self.old ≡ run (opening scheme) events
-            → OnOk result (IsSafe scheme (live_of self.new)) }
-        ensures committed { (scheme : Scheme) (events : List WorldEvent) → self.old ≡ run (opening scheme) events
-            → OnOk result (IsSafe scheme (committed_of self.new)) }
-        ensures welcome { (scheme : Scheme) (events : List WorldEvent) → self.old ≡ run (opening scheme) events
-            → OnOk result (DeliversWelcome self.new) }
-        ensures owners_move { (scheme : Scheme) (events : List WorldEvent) → self.old ≡ run (opening scheme) events
-            → OnOk result (OwnersMove scheme (committed_of self.old) (committed_of self.new)) }
-        ensures way_out { (scheme : Scheme) (events : List WorldEvent) → self.old ≡ run (opening scheme) events
-            → OnOk result (WayOut self.new) }
-    {
-        self.move_by(event)
-    }
-
-    /// Moves the world by all these events, one after another.
-    fn apply_all(&mut self, events: &[WorldEvent]) -> Result<(), NoMemory>
-        ensures { OnOk result (self.new ≡ run self.old events.now) }
-    {
-        for event in events {
-            self.apply(event)?;
-        }
-        Ok(())
-    }
-
-    /// The world that all these events lead to from the opening one, one after another, none left out. Fails with
-    /// `NoMemory` where memory runs out.
-    ///
-    /// For journals with their tails and for committed journals, no tonne is in two places and none is lost: an
-    /// allotted unit is held by one registry and owed by no transfer, or held by none and owed by exactly one completed
-    /// transfer; no unit is spendable in two registries; a registry that holds a unit is its owner in the log's book;
-    /// and no node has Completed for a transaction that another one has Rejected, Terminated or Cancelled. No delivery
-    /// to such a world is refused except where a journal is full. And starts, commits and messages alone lead from it
-    /// to a world at rest, where each allotted unit is spendable.
-    pub fn run(alloc: Global, scheme: &Scheme, events: &[WorldEvent]) -> Result<World, NoMemory>
-        ensures world { IfOk result (λ w. w ≡ run (opening scheme.now) events.now) }
-        ensures live { IfOk result (λ w. IsSafe scheme.now (live_of w)) }
-        ensures committed { IfOk result (λ w. IsSafe scheme.now (committed_of w)) }
-        ensures welcome { IfOk result DeliversWelcome }
-        ensures way_out { IfOk result WayOut }
-    {
-        let mut world = World::new(alloc, scheme)?;
-        match world.apply_all(events) {
-            Ok(()) => Ok(world),
-            Err(NoMemory) => {
-                drop(world);
-                Err(NoMemory)
-            }
         }
     }
 }

@@ -27,6 +27,7 @@ use Rattle.protocol.specs.Registries.{allotted, has_member}
 use Rattle.safety.specs.Trust.{BookIsWhole, OnePlaceAmong, coming, leaving, place}
 use Rattle.units.proofs.Lists.Membership.{In}
 use Rattle.units.proofs.Lists.OneValue.{one_some}
+use Rattle.safety.proofs.ListLemmas.FirstFound.{mapped_some}
 use Rattle.safety.proofs.MovesAndHistories.NewestTransitions.{Made, newest_id}
 use Rattle.safety.proofs.MovesAndHistories.TableMoves.{LogMove, checks, passes, cancels, forestalls}
 use Rattle.safety.proofs.MovesAndHistories.TableRows.{log_from}
@@ -118,15 +119,11 @@ module _ (scheme : Scheme) (s : Serial) where
 
   start : Whole []
   start = record {
-    some = first (allotted scheme s);
+    some = mapped_some (λ (h : Holder). h.registry) (allotted scheme s);
     member = λ c h. owner (allotted scheme s) refl c h;
     known = λ x i b k h. absurd i;
   }
     where
-      first : (o : Option Holder) → is_some (option_map (λ (h : Holder). h.registry) o) ≡ is_some o
-      first None = refl
-      first (Some h) = refl
-
       owner : (o : Option Holder) → allotted scheme s ≡ o → (c : Code) → option_map (λ (h : Holder). h.registry) o ≡ Some c → has_member scheme c ≡ true
       owner None e c h = absurd (cc (h))
       owner (Some k) e c h =

@@ -44,7 +44,8 @@ use Rattle.safety.proofs.OneRegistry.UnitsCountedOnce.{Waits, local_history}
 use Rattle.safety.proofs.OneLog.OwnersInLog.{IsBusy}
 use Rattle.units.proofs.Lists.Membership.{In, In_map, In_filter}
 use Rattle.units.proofs.Lists.OneValue.{one_some, clash}
-use Rattle.safety.proofs.ListLemmas.TestsOfSameness.{codes_differ, other_code}
+use Rattle.scheme.proofs.Told.{other_from_test}
+use Rattle.safety.proofs.ListLemmas.TestsOfSameness.{other_code}
 use Rattle.safety.proofs.OwnersOfUnits.UnitsWithOneOwner.{held_or_owed, one_owner, causal_one_owner}
 use Rattle.safety.proofs.OneRegistry.InitiatorStatuses.{IsOwnStatus, own_statuses}
 use Rattle.safety.proofs.MovesAndHistories.TableRows.{word_to}
@@ -152,7 +153,7 @@ module _ (scheme : Scheme) (f : Node → List Entry) (causal : Causal scheme f) 
             let q = stood (newest (at_registry f a) u) Completed (subst (λ k. is_received f u k ≡ true) b.there y) in
             let id = newest_id (at_registry f a) u q.0 q.1 in
             let foreign : same_code q.0.id.code a ≡ false =
-            subst (λ (z : TransactionId). same_code z.code a ≡ false) (sym id.1) (other_code u.code a (λ e. codes_differ a u.code b.acquirer_other (sym e))) in
+            subst (λ (z : TransactionId). same_code z.code a ≡ false) (sym id.1) (other_code u.code a (λ e. other_from_test a u.code b.acquirer_other (sym e))) in
             let k = log_completed scheme f causal refl a q.0 id.0 q.2 foreign in
             let same : k.0 ≡ x = one_some k.0 x (sym (subst (λ z. newest (transitions_of (f Itl)) z ≡ Some k.0) id.1 k.1) ∙ last) in
             absurd (subst IsBusy (ap (λ (z : Transition). z.new) (sym same) ∙ k.2) under)

@@ -24,7 +24,7 @@ use Rattle.wire.specs.declared.input.Input.TheVariants.{Received}
 use Rattle.wire.specs.declared.message.Message.{Message}
 use Rattle.protocol.proofs.MessageForms as message
 use Rattle.wire.specs.declared.message.Body.TheVariants as body
-use Rattle.protocol.proofs.MessageForms.{ProposalMessage, NotificationMessage, one_notified, has_body, apart}
+use Rattle.protocol.proofs.MessageForms.{ProposalMessage, NotificationMessage, one_notified, has_body, apart, received}
 use Rattle.wire.specs.declared.notified.NotifiedStatus.TheVariants as notified
 use Rattle.scheme.specs.declared.registries.Scheme.{Scheme}
 use Rattle.protocol.specs.AtLog.{ledger}
@@ -52,9 +52,6 @@ use Rattle.safety.proofs.WorldLemmas.StationsAfterPut.{found_at_node, at_put, at
 use Rattle.safety.proofs.MovesAndHistories.TableRows.{log_from}
 
 -- ---- what one input makes the log say
-
-one_message : (a b : Message) (s t : Moment) → Received a s ≡ Received b t → a ≡ b
-one_message a b s t e = cc (e)
 
 one_list : (a b : List ℕ) → notified.Terminated a ≡ notified.Terminated b → a ≡ b
 one_list a b e = cc (e)
@@ -209,7 +206,7 @@ module _ (w : World) (sound : Sound w) (placed : AllPlaced w) (old : AllFair (li
   deliver_fair moment None there = old
   deliver_fair moment (Some p) there =
       take_fair p.message.to (Received p.message moment)
-      (λ m at e. subst (λ z. In z (sends (committed_of w z.from))) (one_message p.message m moment at e) (sound.posted p (there p refl) refl))
+      (λ m at e. subst (λ z. In z (sends (committed_of w z.from))) (received e) (sound.posted p (there p refl) refl))
 
   ordered_fair : (n : Node) (i : Input) (b : Bool) → is_order w n i ≡ b → AllFair (live_of (cond b (at_node w (station w n) (take_input w.scheme i)) (stays w NotPossible)).world Itl)
   ordered_fair n i true order = take_fair n i (λ m at e. absurd (order_is_no_message w n i order m at e))

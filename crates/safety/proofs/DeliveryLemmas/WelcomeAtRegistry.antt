@@ -51,7 +51,8 @@ use Rattle.safety.proofs.OneLog.LogSendings.{no_request, passed_on, goes, ToKnow
 use Rattle.safety.proofs.MovesAndHistories.NewestTransitions.{newest_id}
 use Rattle.units.proofs.Lists.Membership.{In}
 use Rattle.units.proofs.Lists.OneValue.{one_some, clash}
-use Rattle.safety.proofs.ListLemmas.TestsOfSameness.{codes_differ, other_code}
+use Rattle.scheme.proofs.Told.{other_from_test}
+use Rattle.safety.proofs.ListLemmas.TestsOfSameness.{other_code}
 use Rattle.safety.proofs.OwnersOfUnits.AccountedUnits.{coming_not_held}
 use Rattle.safety.proofs.OneRegistry.InitiatorStatuses.{IsOwnStatus, own_statuses}
 use Rattle.safety.proofs.MovesAndHistories.TableRows.{known_status, acquirer_offer_row, unless_same}
@@ -144,7 +145,7 @@ module _ {trusted : Node → Bool} (scheme : Scheme) (f : Node → List Entry) (
         let facts = passed_on scheme (f Itl) (causal.made Itl) p h in
         let o = log_offered scheme (f Itl) (causal.made Itl) p h in
         let mine : p.content.acquirer ≡ c = registry_code p.content.acquirer c (sym o.3 ∙ to) in
-        let foreign : same_code p.id.code c ≡ false = other_code p.id.code c (λ e. codes_differ p.content.acquirer p.id.code facts.acquirer_other (mine ∙ sym e)) in
+        let foreign : same_code p.id.code c ≡ false = other_code p.id.code c (λ e. other_from_test p.content.acquirer p.id.code facts.acquirer_other (mine ∙ sym e)) in
         let acquirer : same_code p.content.acquirer c ≡ true = subst (λ z. same_code p.content.acquirer z ≡ true) mine (same_code-refl p.content.acquirer) in
         welcome_refuse (registry_refusals c here (message.proposal p)) _ (
           right_node p.to (Registry c) to,
@@ -320,7 +321,7 @@ module _ {trusted : Node → Bool} (scheme : Scheme) (f : Node → List Entry) (
         other_code t.code c (λ e.
         let b = begun scheme f causal t l (subst (λ z. trusted (Registry z) ≡ true) (sym e) trust) g.is (λ z. let y = sym g.goes.known ∙ z.content in cc (y)) in
         let content : b.content ≡ k = one_some b.content k (sym b.known ∙ g.goes.known) in
-        codes_differ b.content.acquirer t.code b.acquirer_other (ap (λ (z : Content). z.acquirer) content ∙ mine ∙ sym e)) in
+        other_from_test b.content.acquirer t.code b.acquirer_other (ap (λ (z : Content). z.acquirer) content ∙ mine ∙ sym e)) in
         elim g.goes.said [
           | inl e ↦
               let done : l.new ≡ Completed = elim stood [

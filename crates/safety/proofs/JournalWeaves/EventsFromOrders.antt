@@ -28,10 +28,10 @@ use Rattle.protocol.specs.declared.event.WorldEvent.TheVariants.{Take, Commit, P
 use Rattle.units.proofs.Lists.SomePass.{list_any_in}
 use Rattle.units.proofs.Lists.Membership.{In_right}
 use Rattle.units.proofs.Lists.Positions.{In_contains, some_at}
+use Rattle.protocol.proofs.NodeIndices.{other_way}
 use Rattle.safety.proofs.WorldLemmas.QuietWorlds.{Quiet, there, Grown, record_on, bag_on, take_step, post_step, delivers, opening_quiet, quiet_after, run_append}
 use Rattle.safety.proofs.WorldLemmas.ReachedWorlds.{reached, reached_scheme}
 use Rattle.safety.proofs.WorldLemmas.SoundWorlds.{none_committed}
-use Rattle.safety.proofs.WorldLemmas.StationsAfterPut.{other_way}
 use Rattle.safety.proofs.JournalWeaves.RecordOrders.{journals_here, journals_there, sent_later}
 
 -- an acknowledgement that enters is of a message that was sent

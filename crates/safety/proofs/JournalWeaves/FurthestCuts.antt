@@ -4,7 +4,7 @@
 use Rattle.std.proofs.Common.{◌≡◌, ℕ, zero, suc, ◌+◌, ◌<◌, ◌≤◌, List, [], ◌∷◌, ◌++◌, Bool, true, false, true≢false, ◌⊎◌, inl, inr, refl, sym, ap, subst, ◌∙◌, append_assoc, length, arith, length-append}
 use Rattle.std.specs.List.{list_any}
 use Rattle.std.proofs.lemmas.Bool.{cases_Bool}
-use Rattle.std.proofs.lemmas.List.{append-nil, append_cancel_left}
+use Rattle.std.proofs.lemmas.List.{append-nil, append_cancel_left, nil_from_length}
 use Rattle.std.proofs.lemmas.Option.{slice_get_within, get_or_from_slice_get}
 use Rattle.units.proofs.Lists.Membership.{In}
 use Rattle.units.proofs.Lists.Positions.{In_contains, contains_in}
@@ -235,11 +235,7 @@ pub one_cut : (scheme : Scheme) (journals : Node → List Input) (one other : Li
 one_cut scheme journals one other first second n =
     both (committed_by scheme one n) (committed_by scheme other n) (first.furthest other second.within n) (second.furthest one first.within n)
   where
-    none_left : (xs : List Input) → length xs ≤ 0 → xs ≡ []
-    none_left [] e = refl
-    none_left (x ∷ xs) e = absurd (omega (arith, e))
-
     both : (xs ys : List Input) → (rest : List Input) × (xs ≡ ys ++ rest) → (rest : List Input) × (ys ≡ xs ++ rest) → xs ≡ ys
     both xs ys a b =
-        let none : a.0 ≡ [] = none_left a.0 (omega (arith, ap length a.1, ap length b.1, length-append ys a.0, length-append xs b.0)) in
+        let none : a.0 ≡ [] = nil_from_length a.0 (omega (arith, ap length a.1, ap length b.1, length-append ys a.0, length-append xs b.0)) in
         a.1 ∙ ap (λ zs. ys ++ zs) none ∙ append-nil ys

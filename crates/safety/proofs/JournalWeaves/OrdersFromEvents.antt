@@ -32,9 +32,10 @@ use Rattle.units.proofs.Lists.Membership.{In, In_right}
 use Rattle.units.proofs.Lists.OneValue.{one_some}
 use Rattle.safety.proofs.WorldLemmas.NodesWithStation.{AllPlaced, step_placed, opening_placed}
 use Rattle.units.proofs.Lists.Positions.{contains_in, In_take, right_empty}
+use Rattle.protocol.proofs.NodeIndices.{other_way}
 use Rattle.safety.proofs.WorldLemmas.ReachedWorlds.{reached_scheme}
 use Rattle.safety.proofs.WorldLemmas.SoundWorlds.{Sound, step_sound, opening_sound, no_journal, none_committed}
-use Rattle.safety.proofs.WorldLemmas.StationsAfterPut.{found_at_node, at_put, at_elsewhere, other_way}
+use Rattle.safety.proofs.WorldLemmas.StationsAfterPut.{found_at_node, at_put, at_elsewhere}
 use Rattle.safety.proofs.JournalWeaves.RecordOrders.{journals_here, journals_there, never_stuck}
 
 -- a message is for that node

@@ -2,7 +2,7 @@
 -- scheme of two registries and two short journals are written out, and their claims are computed. NZ first records
 -- a cancellation that the log sends only after it has heard NZ's own proposal. So after the one record of JP
 -- neither the log nor NZ has a next record, and by `always_next` no events lead to the journals.
-use Rattle.std.proofs.Common.{◌≡◌, ℕ, List, [], ◌∷◌, ◌++◌, Bool, true, false, cond, inl, inr, refl, sym, ap, subst, ◌∙◌, arith, lit<, lit≤}
+use Rattle.std.proofs.Common.{◌≡◌, List, [], ◌∷◌, ◌++◌, Bool, true, false, cond, inl, inr, refl, sym, subst, ◌∙◌, arith, lit<, lit≤}
 use Rattle.std.proofs.lemmas.Bool.{cond-false, cases_Bool, and_parts}
 use Rattle.units.proofs.Same.{code_of_same}
 use Rattle.units.specs.Apart.{AreApart}
@@ -25,7 +25,7 @@ use Rattle.wire.specs.declared.notified.NotifiedStatus.TheVariants as notified
 use Rattle.scheme.specs.Order.{AreFew, AreMembers}
 use Rattle.scheme.specs.declared.members.SchemeRegistry.{SchemeRegistry}
 use Rattle.scheme.specs.declared.registries.Scheme.{Scheme}
-use Rattle.protocol.proofs.WorkedScheme.{nz, jp, nz_node, nz1, first_of_may, a_day_after, thousand}
+use Rattle.protocol.proofs.WorkedScheme.{nz, jp, nz_node, nz1, first_of_may, a_day_after, thousand, codes_differ}
 use Rattle.protocol.proofs.Replaying.{replays_from}
 use Rattle.protocol.specs.Cores.{Replays}
 use Rattle.protocol.specs.Plausible.{AllSent, IsPlausible}
@@ -48,9 +48,6 @@ member_of c = record { code = c; accounts = 1 ∷ []; allotted = record { accoun
 
 abbrev members : List SchemeRegistry
 members = member_of jp ∷ member_of nz ∷ []
-
-codes_differ : jp ≡ nz → ⊥
-codes_differ e = let same : ◌≡◌ {A = ℕ} 74 78 = ap (λ (c : Code). c.first) e in omega arith
 
 apart : AreApart (one_of jp) (one_of nz)
 apart s a b = codes_differ (code_of_same jp s.origin (and_parts _ _ a).0 ∙ sym (code_of_same nz s.origin (and_parts _ _ b).0))

@@ -2,19 +2,20 @@
 -- there are as many as the blocks have units (`length_pieces`), and each unit is there as often as blocks have it
 -- (`tally_blocks`). Two lists of pieces that have each unit equally often are equally long (`length_by_tally`).
 use Rattle.std.proofs.Common.{◌≡◌, ℕ, zero, suc, ◌-◌, ◌≤◌, List, [], ◌∷◌, ◌++◌, Bool, true, false, cond, inl, inr, refl, sym, ap, subst, ◌∙◌, arith, map, length, length-append}
-use Rattle.std.specs.List.{count_by, sum_by, list_any}
-use Rattle.std.proofs.lemmas.Bool.{cases_Bool, cond-true, cond-false, true≢false, or_parts}
+use Rattle.std.specs.List.{count_by, sum_by}
+use Rattle.std.proofs.lemmas.Bool.{cases_Bool, cond-true, cond-false, true≢false}
 use Rattle.std.proofs.lemmas.List.Sums.{sum_by-cons}
 use Rattle.units.specs.Unit.{has_unit, have_unit}
 use Rattle.units.specs.declared.block.RawBlock.{RawBlock}
 use Rattle.units.specs.declared.block.Unit.{Unit as Serial}
 use Rattle.protocol.specs.Pieces.{Piece, piece, pieces, pieces_of, repeats, same_unit, up_from}
+use Rattle.protocol.proofs.CanonicalBlocks.{repeats_tally}
 use Rattle.protocol.proofs.CountsInLists.{count_yes, count_no, number_none, number_append, number_one, number_some}
 use Rattle.protocol.proofs.UnitsOfBlocks.{unit_of_same, same_unit_refl, In_up, block_of_piece, piece_of_block}
-use Rattle.units.proofs.Lists.Membership.{In, In_map}
-use Rattle.units.proofs.Lists.OneValue.{clash}
-use Rattle.units.proofs.Lists.SomePass.{list_any_none, list_any_not, list_any_some}
+use Rattle.units.proofs.Lists.Membership.{In_map}
+use Rattle.units.proofs.Lists.SomePass.{list_any_not, list_any_some}
 use Rattle.safety.specs.NumberOfUnits.{units_of}
+use Rattle.safety.proofs.ListLemmas.EquallyLong.{parts}
 
 -- how often a unit is there
 abbrev is_at : Serial → Piece → Bool
@@ -24,11 +25,6 @@ abbrev pub tally : Serial → List Piece → ℕ
 tally s ps = count_by (is_at s) ps
 
 -- ---- lists of pieces in which each unit is equally often
-
-parts : {X : Type 0} (x : X) (ys : List X) → In x ys → (front : List X) × (back : List X) × (ys ≡ front ++ x ∷ back)
-parts x [] h = absurd h
-parts x (y ∷ ys) (inl e) = ([], ys, ap (λ z. z ∷ ys) e)
-parts x (y ∷ ys) (inr h) = let r = parts x ys h in (y ∷ r.0, r.1, ap (λ zs. y ∷ zs) r.2)
 
 here : (p : Piece) (ps : List Piece) → 1 ≤ tally p.unit (p ∷ ps)
 here p ps = number_one (is_at p.unit) (p ∷ ps) p (inl refl) (same_unit_refl p.unit)
@@ -126,25 +122,10 @@ same_units bs cs h =
 
 -- ---- blocks without repeats
 
-at_most_one : (ps : List Piece) → repeats ps ≡ false → (s : Serial) → tally s ps ≤ 1
-at_most_one [] none s = omega arith
-at_most_one (p ∷ ps) none s =
-    let a = or_parts (list_any (λ q. same_unit p.unit q.unit) ps) (repeats ps) none in
-    elim (cases_Bool (is_at s p)) [
-      | inl y ↦
-          let u = count_yes (is_at s) p ps y in
-          let rest =
-          number_none (is_at s) ps (list_any_not (is_at s) ps (λ q i t.
-          let same = unit_of_same p.unit s y ∙ sym (unit_of_same q.unit s t) in
-          clash (same_unit p.unit q.unit) (subst (λ z. same_unit p.unit z ≡ true) same (same_unit_refl p.unit)) (list_any_none (λ (z : Piece). same_unit p.unit z.unit) ps q a.0 i))) in
-          omega arith
-      | inr n ↦ let u = count_no (is_at s) p ps n in let r = at_most_one ps a.1 s in omega arith
-    ]
-
 -- they have a unit once or not at all
 pub units_once : (bs : List RawBlock) → repeats (pieces bs) ≡ false → (s : Serial) → count_by (λ b. has_unit b s) bs ≡ cond (have_unit bs s) 1 0
 units_once bs none s =
-    let most = at_most_one (pieces bs) none s in
+    let most = repeats_tally (pieces bs) none s in
     let e = tally_blocks bs s in
     elim (cases_Bool (have_unit bs s)) [
       | inl y ↦

@@ -16,20 +16,18 @@ use Rattle.scheme.specs.declared.registries.Scheme.{Scheme}
 use Rattle.protocol.specs.Checks.{Causes}
 use Rattle.protocol.specs.Deciding.{Verdict, IsRecorded, IsRepeat, IsLate, IsRefused, refuse, recorded_if_room, has_other, by_row}
 use Rattle.protocol.specs.History.{Transition, Entry, newest, is_known}
+use Rattle.protocol.proofs.RefusedBy.{refused_same}
 use Rattle.safety.proofs.MovesAndHistories.TableMoves.{NoneStands}
 
 -- a verdict that is no refusal, or `journal_full`
 abbrev pub Welcome : Verdict → Type 0
 Welcome v = (code : ℕ) → v ≡ IsRefused code → code ≡ journal_full
 
-refused_code : (a b : ℕ) → IsRefused a ≡ IsRefused b → a ≡ b
-refused_code a b e = cc (e)
-
 pub welcome_enters : (scheme : Scheme) (es : List Entry) (xs : List Transition) → Welcome (recorded_if_room scheme es xs)
 welcome_enters scheme es xs code h = go (nat_le scheme.records (length es)) h
   where
     go : (b : Bool) → cond b (IsRefused journal_full) (IsRecorded xs) ≡ IsRefused code → code ≡ journal_full
-    go true e = sym (refused_code journal_full code e)
+    go true e = sym (refused_same journal_full code e)
     go false e = absurd (cc (e))
 
 pub welcome_repeat : Welcome IsRepeat
@@ -39,7 +37,7 @@ pub welcome_late : Welcome IsLate
 welcome_late code e = absurd (cc (e))
 
 -- where no cause holds, the verdict is as it would be without them
-refuse_none : (cs : Causes) (v : Verdict) → NoneStands cs → refuse cs v ≡ v
+pub refuse_none : (cs : Causes) (v : Verdict) → NoneStands cs → refuse cs v ≡ v
 refuse_none [] v n = refl
 refuse_none (c ∷ cs) v n = cond-false c.0 (IsRefused c.1) (refuse cs v) n.0 ∙ refuse_none cs v n.1
 

@@ -6,7 +6,7 @@
 use Rattle.std.proofs.Common.{◌≡◌, ℕ, List, [], ◌∷◌, Bool, true, false, not, cond, Option, Some, None, ◌⊎◌, inl, inr, refl, sym, ap, subst, ◌∙◌}
 use Rattle.std.specs.Prelude.{filter, ◌&&◌, nat_le, length, ◌+◌}
 use Rattle.std.specs.Ordering.{is_lt}
-use Rattle.std.proofs.lemmas.Bool.{or_parts, not-false, cond-true, cond-false, cases_Bool}
+use Rattle.std.proofs.lemmas.Bool.{or_parts, not-false, cond-true, cond-false, cases_Bool, and_parts}
 use Rattle.units.specs.Code.{same_code}
 use Rattle.units.specs.RefusalCodes.{journal_full}
 use Rattle.units.specs.declared.code.Code.{Code}
@@ -288,17 +288,13 @@ module _ (scheme : Scheme) (c : Code) (es : List Entry) where
         | inr i ↦ enters_made scheme es [] x i.1
       ]
 
-  and_first : (a b : Bool) → (a && b) ≡ true → a ≡ true
-  and_first true b h = refl
-  and_first false b h = absurd (cc (h))
-
   pub registry_moves : (input : Input) (x : Transition) → In x (transitions_made (registry_verdict scheme c es input)) → RegistryMove scheme c es input x
   registry_moves (Propose o) x h =
       let g = refuse_made (propose_refusals scheme c (holding scheme c es) o) _ x h in
       offer_made o x (id_at c (proposals es + 1)) refl g.0 g.1
   registry_moves (Request t) x h =
       let g = refuse_made (request_refusals c es t) (in_role scheme c es t (newest (transitions_of es) t) 0 (request_column es t)) x h in
-      let own = and_first (same_code t.code c) _ (not-false _ g.0.0) in
+      let own = (and_parts (same_code t.code c) _ (not-false _ g.0.0)).0 in
       request_made t (newest (transitions_of es) t) (is_requested es t) x refl own g.1
   registry_moves (OpenAccount n) x h = let g = refuse_made (open_refusals scheme c es n.value) (recorded_if_room scheme es []) x h in absurd (enters_made scheme es [] x g.1)
   registry_moves (CloseAccount n) x h = let g = refuse_made (close_refusals scheme c es n.value) (recorded_if_room scheme es []) x h in absurd (enters_made scheme es [] x g.1)
@@ -344,6 +340,18 @@ In_by_id x (q ∷ qs) h =
       | inl e ↦ inl e
       | inr i ↦ inr (In_by_id x qs i)
     ]
+
+-- the newest of each is the newest
+pub In_newest : (x : Transition) (xs : List Transition) → In x (newest_of_each xs) → newest xs x.id ≡ Some x
+In_newest x [] h = absurd h
+In_newest x (p ∷ ps) (inl e) = subst (λ (z : Transition). newest (p ∷ ps) z.id ≡ Some z) e (cond-true (same_id p.id p.id) (Some p) (newest ps p.id) (same_id-refl p.id))
+In_newest x (p ∷ ps) (inr h) =
+    let i = In_filter (λ y. not (same_id y.id p.id)) (newest_of_each ps) x h in
+    let other : same_id p.id x.id ≡ false = elim (cases_Bool (same_id p.id x.id)) [
+      | inl y ↦ absurd (let z : same_id x.id p.id ≡ true = subst (λ w. same_id w p.id ≡ true) (id_of_same p.id x.id y) (same_id-refl p.id) in let v : not true ≡ true = ap not (sym z) ∙ i.1 in cc (v))
+      | inr n ↦ n
+    ] in
+    cond-false (same_id p.id x.id) (Some p) (newest ps x.id) other ∙ In_newest x ps i.0
 
 module _ (scheme : Scheme) (es : List Entry) where
   proposal_made : (p : ProposalMessage) (moment : Moment) (last : Option Transition) (found : List ℕ) (x : Transition) → p.from ≡ Registry p.id.code → p.status ≡ proposal.Proposed → newest (transitions_of es) p.id ≡ last
@@ -424,18 +432,6 @@ module _ (scheme : Scheme) (es : List Entry) where
       let g = refuse_made (log_refusals scheme es (message.request r)) _ x h in
       let own = node_of_same r.from (Registry r.id.code) (not-false _ g.0.1.1.0) in
       log_request_made r moment (newest (transitions_of es) r.id) x own refl g.0.1.0 g.1
-
-  -- the newest of each is the newest
-  In_newest : (x : Transition) (xs : List Transition) → In x (newest_of_each xs) → newest xs x.id ≡ Some x
-  In_newest x [] h = absurd h
-  In_newest x (p ∷ ps) (inl e) = subst (λ (z : Transition). newest (p ∷ ps) z.id ≡ Some z) e (cond-true (same_id p.id p.id) (Some p) (newest ps p.id) (same_id-refl p.id))
-  In_newest x (p ∷ ps) (inr h) =
-      let i = In_filter (λ y. not (same_id y.id p.id)) (newest_of_each ps) x h in
-      let other : same_id p.id x.id ≡ false = elim (cases_Bool (same_id p.id x.id)) [
-        | inl y ↦ absurd (let z : same_id x.id p.id ≡ true = subst (λ w. same_id w p.id ≡ true) (id_of_same p.id x.id y) (same_id-refl p.id) in let v : not true ≡ true = ap not (sym z) ∙ i.1 in cc (v))
-        | inr n ↦ n
-      ] in
-      cond-false (same_id p.id x.id) (Some p) (newest ps x.id) other ∙ In_newest x ps i.0
 
   clean_made : (xs : List Transition) (x : Transition) → In x (transitions_made (clean_up scheme es xs)) → In x xs
   clean_made [] x h = absurd h

@@ -4,7 +4,7 @@ use Rattle.std.specs.List.{AllByRecursion}
 use Rattle.std.specs.Prelude.{filter}
 use Rattle.std.specs.Ordering.{is_lt, ordering_reverse}
 use Rattle.std.specs.declared.cmp.Ordering.TheVariants.{Equal, Greater, Less}
-use Rattle.std.proofs.lemmas.Bool.{cond-false, cond-true, false_from_ne_true, not-true}
+use Rattle.std.proofs.lemmas.Bool.{false_from_ne_true, not-true}
 use Rattle.units.specs.Apart.{Pairwise}
 use Rattle.status.proofs.IdOrder.{exact_ids, ids_total}
 use Rattle.status.proofs.Ids.{id_of_same, same_id-refl}
@@ -14,6 +14,7 @@ use Rattle.protocol.specs.AtLog.{by_id, newest_of_each, put_transition}
 use Rattle.protocol.specs.History.{Transition, newest}
 use Rattle.units.proofs.Lists.Membership.{In, In_filter, filter_In}
 use Rattle.units.proofs.Lists.OneValue.{clash}
+use Rattle.units.proofs.UnitLines.{less_true}
 use Rattle.safety.proofs.OneRegistry.UnitsCountedOnce.{newest_cons}
 use Rattle.safety.proofs.MovesAndHistories.TableMoves.{In_by_id, In_put}
 
@@ -23,11 +24,6 @@ pub ids_irreflexive : (a : TransactionId) → id_cmp a a ≡ Less → ⊥
 ids_irreflexive a h =
     let turned : Less ≡ Greater = sym h ∙ ids_total.antisymm a a ∙ ap ordering_reverse h in
     cc (turned)
-
-less_is : (o : Ordering) → is_lt o ≡ true → o ≡ Less
-less_is Less h = refl
-less_is Equal h = absurd (cc (h))
-less_is Greater h = absurd (cc (h))
 
 -- of two different ones, the one that isn't less is the other
 pub ids_turned : (a b : TransactionId) → is_lt (id_cmp a b) ≡ false → (a ≡ b → ⊥) → id_cmp b a ≡ Less
@@ -63,14 +59,6 @@ another p y h same = clash (same_id y.id p.id) (subst (λ u. same_id u p.id ≡ 
 pub differ_newest : (xs : List Transition) → Differ (newest_of_each xs)
 differ_newest [] = tt
 differ_newest (p ∷ ps) = ((λ y i. another p y (In_filter (of_another p) (newest_of_each ps) y i).1), differ_filter (of_another p) (newest_of_each ps) (differ_newest ps))
-
-pub each_newest : (x : Transition) (xs : List Transition) → In x (newest_of_each xs) → newest xs x.id ≡ Some x
-each_newest x [] h = absurd h
-each_newest x (p ∷ ps) (inl e) = subst (λ (z : Transition). newest (p ∷ ps) z.id ≡ Some z) e (cond-true (same_id p.id p.id) (Some p) (newest ps p.id) (same_id-refl p.id))
-each_newest x (p ∷ ps) (inr h) =
-    let i = In_filter (of_another p) (newest_of_each ps) x h in
-    let other = false_from_ne_true (same_id p.id x.id) (λ y. another p x i.1 (id_of_same p.id x.id y)) in
-    cond-false (same_id p.id x.id) (Some p) (newest ps x.id) other ∙ each_newest x ps i.0
 
 pub newest_each : (x : Transition) (xs : List Transition) → newest xs x.id ≡ Some x → In x (newest_of_each xs)
 newest_each x [] h = absurd (cc (h))
@@ -110,7 +98,7 @@ ascend_put x (y ∷ ys) h differ = go (is_lt (id_cmp x.id y.id)) refl (ascend_pu
   where
     go : (b : Bool) → is_lt (id_cmp x.id y.id) ≡ b → Ascend (put_transition x ys) → Ascend (cond b (x ∷ y ∷ ys) (y ∷ put_transition x ys))
     go true e rest =
-        let first = less_is (id_cmp x.id y.id) e in (
+        let first = less_true (id_cmp x.id y.id) e in (
           (λ z i. elim i [
             | inl same ↦ subst (λ (w : Transition). id_cmp x.id w.id ≡ Less) same first
             | inr later ↦ ids_total.trans x.id y.id z.id first (h.0 z later)

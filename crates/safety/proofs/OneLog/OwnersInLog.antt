@@ -6,6 +6,7 @@
 use Rattle.std.specs.List.{count_by}
 use Rattle.std.proofs.Common.{◌≡◌, ℕ, ◌+◌, List, [], ◌∷◌, ◌++◌, Bool, true, false, cond, Option, Some, None, ◌⊎◌, inl, inr, refl, sym, ap, subst, ◌∙◌, arith}
 use Rattle.std.specs.Prelude.{◌&&◌, ◌||◌, option_map, is_none}
+use Rattle.std.proofs.Math.Bool.{and-true}
 use Rattle.std.proofs.lemmas.Bool.{and_from, and_left, and_right, not-false, cond-true, cond-false, cases_Bool}
 use Rattle.units.proofs.Same.{code_of_same}
 use Rattle.units.specs.Code.{same_code}
@@ -32,7 +33,7 @@ use Rattle.protocol.specs.Pieces.{Piece, pieces}
 use Rattle.protocol.specs.Registries.{allotted}
 use Rattle.protocol.specs.Verdict.{verdict, transitions_made as made_of, extend, history_from, history}
 use Rattle.safety.specs.Trust.{brings, brings_to}
-use Rattle.safety.proofs.MovesAndHistories.TransitionForms.{checked, checked_status, told_to, moved}
+use Rattle.safety.proofs.MovesAndHistories.TransitionForms.{checked, told_to, moved}
 use Rattle.units.proofs.Lists.NoRepeats.{NoRepeat}
 use Rattle.units.proofs.Lists.SomePass.{list_any_none, list_any_in}
 use Rattle.protocol.proofs.CountsInLists.{picked, In_picked, count_no, count_yes}
@@ -43,7 +44,7 @@ use Rattle.safety.proofs.OneRegistry.UnitsCountedOnce.{newest_cons}
 use Rattle.safety.proofs.OneLog.LogInputs.{AllCancelled, each_log_move, none_stand}
 use Rattle.units.proofs.Lists.Membership.{In, In_cases}
 use Rattle.safety.proofs.MovesAndHistories.TableMoves.{LogMove, checks, passes, cancels, forestalls, log_moves}
-use Rattle.safety.proofs.OneRegistry.TransactionEnds.{proposer}
+use Rattle.safety.proofs.OneRegistry.TransactionEnds.{proposer, checked_open}
 use Rattle.units.proofs.Lists.Positions.{In_contains}
 use Rattle.safety.proofs.MovesAndHistories.TableRows.{log_from}
 use Rattle.protocol.proofs.UnitsOfBlocks.{piece_of}
@@ -66,10 +67,6 @@ pub record InBook (scheme : Scheme) (s : Serial) (xs : List Transition) : Type 0
   pub owner : (t : TransactionId) → Busy s xs t → book_owner scheme xs s ≡ Some t.code
   pub one : (t u : TransactionId) → Busy s xs t → Busy s xs u → t ≡ u
   pub counts : (c : Code) → at_start scheme c s + count_by (brings c s) xs ≡ count_by (gives c s) xs + cond (is_owner (book_owner scheme xs s) c) 1 0
-
-and_true : (b : Bool) → (b && true) ≡ b
-and_true true = refl
-and_true false = refl
 
 one_more : (p : Transition → Bool) (x : Transition) (xs : List Transition) (b : Bool) → p x ≡ b → count_by p (x ∷ xs) ≡ cond b 1 0 + count_by p xs
 one_more p x xs true e = let u = count_yes p x xs e in omega arith
@@ -96,10 +93,6 @@ with_initiator (Some holder) o c h g = not-false (is_owner o c) g
 pub owner_is : (o : Option Code) (c : Code) → is_owner o c ≡ true → o ≡ Some c
 owner_is None c h = absurd (cc (h))
 owner_is (Some d) c h = ap Some (code_of_same d c h)
-
-not_completed : (found : List ℕ) → checked_status found ≡ Completed → ⊥
-not_completed [] h = cc (h)
-not_completed (c ∷ cs) h = cc (h)
 
 start_count : (o : Option Holder) (c : Code) → cond (is_with c o) 1 0 + 0 ≡ 0 + cond (is_owner (option_map (λ (h : Holder). h.registry) o) c) 1 0
 start_count None c = refl
@@ -179,10 +172,10 @@ module _ (scheme : Scheme) (s : Serial) where
       let done' : same_status x.new Completed ≡ true = subst (λ z. same_status z Completed ≡ true) (sym done) refl in
       let i : count_by (brings c s) (x ∷ xs) ≡ cond (same_code k.acquirer c) 1 0 + count_by (brings c s) xs =
       one_more (brings c s) x xs (same_code k.acquirer c)
-      (ap (λ z. z && (brings_to x.content c && carries x s)) done' ∙ ap (λ z. brings_to z c && carries x s) is ∙ ap (λ z. same_code k.acquirer c && z) has ∙ and_true (same_code k.acquirer c)) in
+      (ap (λ z. z && (brings_to x.content c && carries x s)) done' ∙ ap (λ z. brings_to z c && carries x s) is ∙ ap (λ z. same_code k.acquirer c && z) has ∙ and-true (same_code k.acquirer c)) in
       let o : count_by (gives c s) (x ∷ xs) ≡ cond (same_code d c) 1 0 + count_by (gives c s) xs =
       one_more (gives c s) x xs (same_code d c)
-      (ap (λ z. z && (same_code x.id.code c && carries x s)) done' ∙ ap (λ z. same_code z c && carries x s) same ∙ ap (λ z. same_code d c && z) has ∙ and_true (same_code d c)) in
+      (ap (λ z. z && (same_code x.id.code c && carries x s)) done' ∙ ap (λ z. same_code z c && carries x s) same ∙ ap (λ z. same_code d c && z) has ∙ and-true (same_code d c)) in
       let u : cond {A = ℕ} (is_owner (book_owner scheme xs s) c) 1 0 ≡ cond (same_code d c) 1 0 = ap (λ (z : Option Code). cond {A = ℕ} (is_owner z c) 1 0) before in
       let v : cond {A = ℕ} (is_owner (book_owner scheme (x ∷ xs) s) c) 1 0 ≡ cond (same_code k.acquirer c) 1 0 = ap (λ (z : Option Code). cond {A = ℕ} (is_owner z c) 1 0) after in
       omega arith
@@ -275,6 +268,15 @@ module _ (scheme : Scheme) (s : Serial) where
 
 -- ---- what has ended stays
 
+pub end_not_busy : (s : Status) → IsEnd s → IsBusy s → ⊥
+end_not_busy Rejected e b = b
+end_not_busy Terminated e b = b
+end_not_busy Cancelled e b = b
+end_not_busy Completed e b = b
+end_not_busy Proposed e b = e
+end_not_busy Checked e b = e
+end_not_busy Accepted e b = e
+
 module _ (scheme : Scheme) where
   -- a transition of the log moves a transfer that is under way
   pub log_live : (es : List Entry) (input : Input) (x y : Transition) → LogMove scheme es input x → newest (transitions_of es) x.id ≡ Some y → IsBusy y.new
@@ -293,15 +295,6 @@ module _ (scheme : Scheme) where
       let e = sym w ∙ h in
       let same : q ≡ y = cc (e) in
       subst (λ (z : Transition). IsBusy z.new) same (subst IsBusy (sym stood) tt)
-
-  end_not_busy : (s : Status) → IsEnd s → IsBusy s → ⊥
-  end_not_busy Rejected e b = b
-  end_not_busy Terminated e b = b
-  end_not_busy Cancelled e b = b
-  end_not_busy Completed e b = b
-  end_not_busy Proposed e b = e
-  end_not_busy Checked e b = e
-  end_not_busy Accepted e b = e
 
   end_stays : (es : List Entry) (more : List Input) (t : TransactionId) (x : Transition) → Made scheme Itl es → IsEnd x.new → newest (transitions_of es) t ≡ Some x
       → newest (transitions_of (history_from scheme Itl es more)) t ≡ Some x
@@ -338,7 +331,7 @@ module _ (scheme : Scheme) where
 
   completed_owned : (es : List Entry) (input : Input) (x : Transition) → Made scheme Itl es → LogMove scheme es input x → x.new ≡ Completed → (s : Serial) → carries x s ≡ true
       → book_owner scheme (transitions_of es) s ≡ Some x.id.code
-  completed_owned es input x transitions_made (checks p moment found f st is none member) done s has = absurd (not_completed found done)
+  completed_owned es input x transitions_made (checks p moment found f st is none member) done s has = absurd (checked_open found done)
   completed_owned es input x transitions_made (passes n moment q held new was kept member right move) done s has =
       let w : newest (transitions_of es) q.id ≡ Some q = subst (λ z. newest (transitions_of es) z ≡ Some q) (sym (newest_id (transitions_of es) n.id q was).1) was in
       (in_book scheme s es transitions_made).owner q.id (record { last = q; is = w; new = log_live es input x q (passes n moment q held new was kept member right move) w; has = has })

@@ -15,6 +15,7 @@ use Rattle.units.specs.declared.code.Code.{Code}
 use Rattle.safety.proofs.OwnersOfUnits.SumsOverRegistries.{CodesRise, allotted_code, codes_rise, holder_member, other_member}
 use Rattle.scheme.specs.Order.{HasAccount, all_blocks, blocks_of}
 use Rattle.scheme.specs.declared.members.Holder.{Holder}
+use Rattle.units.proofs.Lists.FirstIndices.{none_from_test}
 use Rattle.units.proofs.Lists.Membership.{In, In_find}
 use Rattle.accounts.specs.declared.unit_holding.UnitHolding.{UnitHolding}
 use Rattle.scheme.specs.declared.members.SchemeRegistry.{SchemeRegistry}
@@ -30,7 +31,7 @@ use Rattle.accounts.specs.Holdings.{free_unit_holding, kind_in}
 use Rattle.protocol.specs.History.{is_with}
 use Rattle.protocol.specs.Held.{allotted_unit_holding}
 use Rattle.protocol.specs.Held.{unit_holding_at, unit_holding_in, account_status_at}
-use Rattle.safety.proofs.ListLemmas.FirstFound.{any_found, none_is}
+use Rattle.safety.proofs.ListLemmas.FirstFound.{any_found, mapped_some}
 use Rattle.units.proofs.Lists.OneValue.{clash, one_some}
 use Rattle.std.specs.Option.{option_or}
 use Rattle.safety.proofs.ListLemmas.TestsOfSameness.{other_code}
@@ -96,10 +97,6 @@ holder_unit_holding code (a ∷ parts) s = go (find (λ (b : Block). has_unit b.
     go None e = e
     go (Some b) e = refl
 
-mapped_some : {X Y : Type 0} (f : X → Y) (o : Option X) → is_some (option_map f o) ≡ is_some o
-mapped_some f None = refl
-mapped_some f (Some x) = refl
-
 -- they hold the units of their blocks
 pub allotted_covers : (parts : List Allotment) (s : Serial) → is_some (allotted_unit_holding parts s) ≡ covers (blocks_of parts) s
 allotted_covers [] s = refl
@@ -111,7 +108,7 @@ allotted_covers (a ∷ parts) s =
     ∙ sym (list_any-append (λ (b : Block). has_unit b.raw s) a.units (blocks_of parts))
 
 unheld : (parts : List Allotment) (s : Serial) → (covers (blocks_of parts) s ≡ true → ⊥) → allotted_unit_holding parts s ≡ None
-unheld parts s none = none_is (allotted_unit_holding parts s) (allotted_covers parts s ∙ false_from_ne_true (covers (blocks_of parts) s) none)
+unheld parts s none = none_from_test (allotted_unit_holding parts s) (allotted_covers parts s ∙ false_from_ne_true (covers (blocks_of parts) s) none)
 
 -- ---- the registry among those of the scheme
 

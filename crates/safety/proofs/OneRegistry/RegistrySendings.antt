@@ -29,7 +29,7 @@ use Rattle.safety.proofs.MovesAndHistories.TableMoves.{RegistryMove, proposes, a
 use Rattle.safety.proofs.MovesAndHistories.TableRows.{acquirer_from}
 use Rattle.safety.proofs.OneRegistry.RegistryHearings.{concluded_notified, arrived_notified_status}
 
-arrived_answers : (found : List ℕ) → (arrived_status found ≡ Accepted) ⊎ (arrived_status found ≡ Rejected)
+pub arrived_answers : (found : List ℕ) → (arrived_status found ≡ Accepted) ⊎ (arrived_status found ≡ Rejected)
 arrived_answers [] = inl refl
 arrived_answers (n ∷ ns) = inr refl
 

@@ -11,6 +11,7 @@ use Rattle.units.specs.declared.block.Unit.{Unit as Serial}
 use Rattle.safety.proofs.OneRegistry.SoundHistories.{Sound}
 use Rattle.status.specs.declared.id.TransactionId.{TransactionId}
 use Rattle.safety.proofs.OneRegistry.UnitsCountedOnce.{waits_older, Waits, free_content}
+use Rattle.units.proofs.Lists.FirstIndices.{none_from_test}
 use Rattle.units.proofs.Lists.OneValue.{clash, one_some}
 use Rattle.std.proofs.lemmas.Bool.{ne_eqb, cond-false, cond-true, false_from_ne_true, and_from, and_left, and_right, cases_Bool, eq-eqb, eqb-false}
 use Rattle.std.specs.List.{count_by}
@@ -21,7 +22,7 @@ use Rattle.protocol.specs.Held.{unit_holding_at, unit_holding_in}
 use Rattle.units.specs.Intervals.{labels_that}
 use Rattle.std.specs.Prelude.{option_map, find}
 use Rattle.safety.proofs.OneRegistry.UnitHoldingsOfUnits.{reserver_same, unit_holding_of_unheld, none_waits, reserver_none, reserver_waits, waits_reserver, unheld_reserver}
-use Rattle.safety.proofs.ListLemmas.FirstFound.{any_found, none_is}
+use Rattle.safety.proofs.ListLemmas.FirstFound.{any_found}
 use Rattle.units.specs.Code.{same_code}
 use Rattle.status.specs.Id.{same_id}
 use Rattle.status.specs.declared.status.Status.TheVariants.{Completed, Proposed}
@@ -96,7 +97,7 @@ find_raws (b ∷ bs) s = go (has_unit b.raw s) (find_raws bs s)
     go false e = e
 
 kind_uncovered : (blocks : List Block) (s : Serial) → covers blocks s ≡ false → kind_in blocks s ≡ None
-kind_uncovered blocks s h = none_is (kind_in blocks s) (sym (any_found (λ (b : Block). has_unit b.raw s) (λ (b : Block). b.raw.kind) blocks) ∙ h)
+kind_uncovered blocks s h = none_from_test (kind_in blocks s) (sym (any_found (λ (b : Block). has_unit b.raw s) (λ (b : Block). b.raw.kind) blocks) ∙ h)
 
 -- a unit of the content, as it was credited
 credited_unit_holding : (k : Content) (blocks : List Block) → raws blocks ≡ k.units → (s : Serial) → option_map (unit_holding_in None) (credited_position s k) ≡ option_map (free_unit_holding k.to_account) (kind_in blocks s)

@@ -376,7 +376,7 @@ pub record Forestalled (es : List Entry) (t : TransactionId) (x : Transition) : 
 forestalled_later : (e : Entry) (es : List Entry) (t : TransactionId) (x : Transition) → Forestalled es t x → Forestalled (e ∷ es) t x
 forestalled_later e es t x b = record { new = b.new; content = b.content; request = b.request; got = inr b.got; sender = b.sender; about = b.about }
 
-checked_open : (found : List ℕ) → checked_status found ≡ Completed → ⊥
+pub checked_open : (found : List ℕ) → checked_status found ≡ Completed → ⊥
 checked_open [] h = cc (h)
 checked_open (n ∷ ns) h = cc (h)
 

@@ -4,8 +4,6 @@ use Rattle.safety.proofs.MovesAndHistories.TableRows.{initiator_from, acquirer_f
 use Rattle.std.proofs.Common.{◌≡◌, List, [], ◌∷◌, Some, inl, inr, refl, sym, ap, subst, ◌∙◌}
 use Rattle.units.specs.declared.code.Node.TheVariants.{Itl, Registry}
 use Rattle.status.specs.declared.id.TransactionId.{TransactionId}
-use Rattle.status.specs.declared.status.Status.{Status}
-use Rattle.status.specs.declared.status.Status.TheVariants.{Proposed, Checked, Accepted, Rejected, Terminated, Cancelled, Completed}
 use Rattle.scheme.specs.declared.registries.Scheme.{Scheme}
 use Rattle.protocol.specs.Claims.{IsEnd}
 use Rattle.protocol.specs.History.{Entry, Transition, newest, transitions_of}
@@ -17,16 +15,7 @@ use Rattle.units.specs.declared.code.Code.{Code}
 use Rattle.wire.specs.declared.input.Input.{Input}
 use Rattle.protocol.specs.Verdict.{verdict, history_from, extend, transitions_made}
 use Rattle.safety.proofs.MovesAndHistories.TableMoves.{RegistryMove, proposes as proposes_move, asks, arrives, bares, concludes, finishes}
-use Rattle.safety.proofs.OneLog.OwnersInLog.{IsBusy, log_live}
-
-end_not_busy : (s : Status) → IsEnd s → IsBusy s → ⊥
-end_not_busy Rejected e b = b
-end_not_busy Terminated e b = b
-end_not_busy Cancelled e b = b
-end_not_busy Completed e b = b
-end_not_busy Proposed e b = e
-end_not_busy Checked e b = e
-end_not_busy Accepted e b = e
+use Rattle.safety.proofs.OneLog.OwnersInLog.{log_live, end_not_busy}
 
 module _ (scheme : Scheme) where
   -- what has ended at a registry moves no more

@@ -30,7 +30,6 @@ use Rattle.safety.proofs.MovesAndHistories.NewestTransitions.{newest_id, newest_
 use Rattle.units.proofs.Lists.Membership.{In}
 use Rattle.units.proofs.Lists.OneValue.{one_some}
 use Rattle.safety.proofs.OneTransfer.SentByTransitions.{SaysAtLog, SaysOther, SaysOwn, log_has_said, other_said, own_said, transition_sends, own_offered, cancelled_said, Tells}
-use Rattle.safety.proofs.WorldLemmas.StationsAfterPut.{other_way}
 use Rattle.safety.proofs.OneTransfer.MessageRows.{Last}
 use Rattle.safety.proofs.WorldLemmas.NodesWithStation.{Unplaced}
 use Rattle.safety.proofs.MovesAndHistories.TableRows.{word_to}
@@ -43,6 +42,7 @@ use Rattle.safety.proofs.OneRegistry.RegistryHearings.{Cause, IsTaken, told, Own
 use Rattle.wire.specs.declared.message.ProposalStatus.TheVariants as proposal
 use Rattle.wire.specs.declared.notified.NotifiedStatus.TheVariants as notified
 use Rattle.protocol.proofs.MessageForms as message
+use Rattle.protocol.proofs.NodeIndices.{other_way}
 
 -- the newest transition of the transfer at its initiator
 pub record Stage (scheme : Scheme) (f : Node → List Entry) (t : TransactionId) (x : Transition) (k : Content) : Type 0 where

@@ -25,11 +25,11 @@ use Rattle.protocol.specs.Claims.{at_registry, HolderOwns}
 use Rattle.protocol.specs.History.{Transition, Entry, transitions_of, newest, stands_at, is_status, has_serial, carries, gives, credits, at_start, holds, reserved, book_owner}
 use Rattle.safety.specs.Trust.{brings, brings_to, is_coming, coming, leaving, Accounted, HolderOwnsAmong, SpentOnceAmong}
 use Rattle.protocol.proofs.CountsInLists.{picked, length_picked, In_picked, picked_In, number_one, number_parts}
-use Rattle.units.proofs.Lists.NoRepeats.{same_length}
 use Rattle.units.proofs.Lists.Membership.{In}
 use Rattle.units.proofs.Lists.OneValue.{one_some, clash}
 use Rattle.safety.proofs.AgreementOfNodes.CausalHistories.{Causal, CausalAmong, heard_sent}
 use Rattle.safety.proofs.AgreementOfNodes.CompletionsAgree.{done_status, given, credited, is_given, is_credited, stood, completed_once, initiator_has, log_has, log_completed}
+use Rattle.safety.proofs.ListLemmas.EquallyLong.{same_length}
 use Rattle.safety.proofs.ListLemmas.TestsOfSameness.{status_of_same}
 use Rattle.safety.proofs.MovesAndHistories.NewestTransitions.{Heard, Offered, newest_id}
 use Rattle.safety.proofs.OneLog.LogHearings.{log_offered}

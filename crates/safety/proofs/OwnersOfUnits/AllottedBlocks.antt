@@ -1,8 +1,7 @@
 -- The blocks that a scheme allots: which units they have, each once, and how many at most.
-use Rattle.std.proofs.Common.{◌≡◌, ℕ, ◌*◌, ◌≤◌, ◌<◌, List, [], ◌∷◌, ◌++◌, Bool, true, false, cond, Option, Some, None, option_map, is_some, inl, inr, refl, sym, ap, subst, ◌∙◌, arith, length}
+use Rattle.std.proofs.Common.{◌≡◌, ℕ, ◌*◌, ◌≤◌, ◌<◌, List, [], ◌∷◌, ◌++◌, Bool, true, false, cond, option_map, is_some, inl, inr, refl, sym, ap, subst, ◌∙◌, arith, length}
 use Rattle.std.specs.Prelude.{◌||◌}
 use Rattle.std.specs.List.{AllByRecursion, count_by, list_any, sum_by, find}
-use Rattle.std.specs.Option.{option_or}
 use Rattle.std.proofs.lemmas.Bool.{cases_Bool}
 use Rattle.std.proofs.lemmas.List.Sums.{sum_by-cons}
 use Rattle.units.specs.Apart.{AllApart, AreApart}
@@ -21,13 +20,10 @@ use Rattle.protocol.proofs.CountsInLists.{count_yes, count_no, number_none}
 use Rattle.units.proofs.Lists.Membership.{In}
 use Rattle.units.proofs.Lists.SomePass.{list_any_not}
 use Rattle.safety.proofs.ListLemmas.FirstFound.{any_found}
+use Rattle.safety.proofs.OneRegistry.UsedAccounts.{or_some}
 use Rattle.safety.specs.NumberOfUnits.{units_of, allotted_units}
 
 -- ---- which units they have
-
-some_or : {X : Type 0} (a b : Option X) → is_some (option_or a b) ≡ (is_some a || is_some b)
-some_or None b = refl
-some_or (Some x) b = refl
 
 any_append : {X : Type 0} (p : X → Bool) (xs ys : List X) → list_any p (xs ++ ys) ≡ (list_any p xs || list_any p ys)
 any_append p [] ys = refl
@@ -47,14 +43,14 @@ module _ (s : Serial) where
   some_in : (c : Code) (shares : List Allotment) → is_some (start.allotted_in c shares s) ≡ list_any has (blocks_of shares)
   some_in c [] = refl
   some_in c (a ∷ rest) =
-      some_or (option_map (λ (b : Block). start.holder c a.account b.raw.kind) (find has a.units)) (start.allotted_in c rest s)
+      or_some (option_map (λ (b : Block). start.holder c a.account b.raw.kind) (find has a.units)) (start.allotted_in c rest s)
       ∙ or_same _ _ _ _ (sym (any_found has (λ (b : Block). start.holder c a.account b.raw.kind) a.units)) (some_in c rest)
       ∙ sym (any_append has a.units (blocks_of rest))
 
   some_among : (ms : List SchemeRegistry) → is_some (start.allotted ms s) ≡ list_any has (all_blocks ms)
   some_among [] = refl
   some_among (m ∷ ms) =
-      some_or (start.allotted_in m.code m.allotted s) (start.allotted ms s)
+      or_some (start.allotted_in m.code m.allotted s) (start.allotted ms s)
       ∙ or_same _ _ _ _ (some_in m.code m.allotted) (some_among ms)
       ∙ sym (any_append has (blocks_of m.allotted) (all_blocks ms))
 

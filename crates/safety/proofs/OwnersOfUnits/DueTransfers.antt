@@ -25,10 +25,11 @@ use Rattle.protocol.specs.Table.{ProposedTransfer, due, is_due, proposed}
 use Rattle.protocol.specs.World.{opening, run}
 use Rattle.protocol.specs.declared.event.WorldEvent.{WorldEvent}
 use Rattle.units.proofs.Lists.Membership.{In, In_filter, filter_In, In_map, map_In}
-use Rattle.units.proofs.Lists.NoRepeats.{NoRepeat, same_length}
+use Rattle.units.proofs.Lists.NoRepeats.{NoRepeat}
 use Rattle.units.proofs.Lists.OneValue.{one_some}
 use Rattle.protocol.proofs.CountsInLists.{number_append, picked, length_picked, In_picked, picked_In}
 use Rattle.safety.proofs.AgreementOfNodes.CompletionsAgree.{done_status, given, is_given, stood, completed_once}
+use Rattle.safety.proofs.ListLemmas.EquallyLong.{same_length}
 use Rattle.safety.proofs.MovesAndHistories.NewestTransitions.{Made, newest_id}
 use Rattle.safety.proofs.OneRegistry.ProposedTransfers.{ids, proposals_In, proposed_once, proposed_stands, transfer_in, was_proposed}
 use Rattle.safety.proofs.OneRegistry.TransactionEnds.{offered, ends_last}

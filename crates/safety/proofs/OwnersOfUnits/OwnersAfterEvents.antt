@@ -41,7 +41,8 @@ use Rattle.safety.proofs.MovesAndHistories.NewestTransitions.{Offered, newest_id
 use Rattle.safety.proofs.OneRegistry.UnitsCountedOnce.{Waits, local_history}
 use Rattle.units.proofs.Lists.Membership.{In, In_left, In_right}
 use Rattle.units.proofs.Lists.OneValue.{one_some, clash}
-use Rattle.safety.proofs.ListLemmas.TestsOfSameness.{status_of_same, codes_differ, other_code}
+use Rattle.scheme.proofs.Told.{other_from_test}
+use Rattle.safety.proofs.ListLemmas.TestsOfSameness.{status_of_same, other_code}
 use Rattle.safety.proofs.OwnersOfUnits.UnitsWithOneOwner.{held_or_owed, one_owner}
 use Rattle.safety.proofs.OneRegistry.InitiatorStatuses.{IsOwnStatus, own_statuses}
 use Rattle.safety.proofs.WorldLemmas.SchemesKept.{step_scheme}
@@ -169,7 +170,7 @@ module _ (scheme : Scheme) (f g : Node → List Entry) (cf : Causal scheme f) (c
       elim (cases_Bool (stands_at (at_registry g a) x.id Completed)) [
         | inr none ↦ none
         | inl y ↦
-            let apart : same_code c a ≡ false = other_code c a (λ e. codes_differ a c other (sym e)) in
+            let apart : same_code c a ≡ false = other_code c a (λ e. other_from_test a c other (sym e)) in
             let same : g (Registry a) ≡ f (Registry a) = elsewhere (Registry a) (subst (λ z. same_node z (Registry a) ≡ false) (sym at) apart) in
             let q = stood (newest (at_registry f a) x.id) Completed (subst (λ (es : List Entry). stands_at (transitions_of es) x.id Completed ≡ true) same y) in
             let id = newest_id (at_registry f a) x.id q.0 q.1 in
@@ -255,7 +256,7 @@ module _ (scheme : Scheme) (f g : Node → List Entry) (cf : Causal scheme f) (c
                     | inl u ↦ is_waiting a t waits (more ∙ u) received
                     | inr u ↦
                         let same : u.0 ≡ x.0 = one_some u.0 x.0 (sym (more ∙ u.3) ∙ x.1) in
-                        taken_in s t o a x.0 at k.acquirer_known (other_code t.code a (λ e. codes_differ a t.code k.acquirer_other (sym e))) last (subst (λ z. In z front) same u.1) x.1 x.2
+                        taken_in s t o a x.0 at k.acquirer_known (other_code t.code a (λ e. other_from_test a t.code k.acquirer_other (sym e))) last (subst (λ z. In z front) same u.1) x.1 x.2
                   ]
             ]
       ]

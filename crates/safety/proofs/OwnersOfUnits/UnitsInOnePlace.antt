@@ -23,14 +23,16 @@ use Rattle.protocol.specs.History.{Transition, Entry, transitions_of, newest, st
 use Rattle.protocol.specs.Registries.{allotted, has_member}
 use Rattle.safety.proofs.AgreementOfNodes.CausalHistories.{Causal}
 use Rattle.safety.proofs.AgreementOfNodes.CompletionsAgree.{done_status, given, credited, is_given, is_credited, stood, completed_once, transfer, initiator_completed}
-use Rattle.units.proofs.Lists.NoRepeats.{NoRepeat, same_length}
+use Rattle.units.proofs.Lists.NoRepeats.{NoRepeat}
 use Rattle.protocol.proofs.CountsInLists.{number_two, picked, length_picked, In_picked, picked_In, number_parts}
+use Rattle.safety.proofs.ListLemmas.EquallyLong.{same_length}
 use Rattle.safety.proofs.OneRegistry.TransactionEnds.{ends_last, own_contents}
 use Rattle.safety.proofs.MovesAndHistories.NewestTransitions.{newest_id}
 use Rattle.safety.proofs.OneRegistry.UnitsCountedOnce.{local_history}
 use Rattle.units.proofs.Lists.Membership.{In, In_flat_map}
 use Rattle.units.proofs.Lists.OneValue.{one_some}
-use Rattle.safety.proofs.ListLemmas.TestsOfSameness.{codes_differ, other_code}
+use Rattle.scheme.proofs.Told.{other_from_test}
+use Rattle.safety.proofs.ListLemmas.TestsOfSameness.{other_code}
 use Rattle.safety.proofs.WorldLemmas.NodesWithStation.{Unplaced}
 use Rattle.safety.proofs.OwnersOfUnits.SumsOverRegistries.{over_parts, over_same, over_balance, over_start, start_member, one_above, one_or_none, some_member, codes_rise, In_flat, length_flat, no_repeat_flat}
 
@@ -60,7 +62,7 @@ module _ (scheme : Scheme) (f : Node → List Entry) (causal : Causal scheme f) 
       let y = stood (newest (at_registry f a) x.0.id) Completed (subst (λ k. is_received f x.0.id k ≡ true) own.is parts.1) in
       let id = newest_id (at_registry f a) x.0.id y.0 y.1 in
       let foreign : same_code x.0.id.code a ≡ false =
-      other_code x.0.id.code a (λ e. codes_differ a m.code own.acquirer_other (sym e ∙ code_of_same x.0.id.code m.code out.1)) in
+      other_code x.0.id.code a (λ e. other_from_test a m.code own.acquirer_other (sym e ∙ code_of_same x.0.id.code m.code out.1)) in
       let tr = transfer scheme f causal a x.0.id y.0 y.1 foreign y.2 in
       let last : newest (at_registry f x.0.id.code) x.0.id ≡ Some x.0 =
       subst (λ z. newest (at_registry f z) x.0.id ≡ Some x.0) (sym (code_of_same x.0.id.code m.code out.1)) (ends_last scheme m.code (f (Registry m.code)) (causal.made (Registry m.code)) x.0 x.1 out.0) in
@@ -187,7 +189,7 @@ spent_once scheme f unplaced place s c d spend_c spend_d =
           let k = some_member scheme d (holding_member scheme f unplaced s d b) in
           let two =
           number_two (λ (m : SchemeRegistry). holds scheme m.code (at_registry f m.code) s) scheme.members m.0 k.0 m.1 k.1 (subst (λ z. holds scheme z (at_registry f z) s ≡ true) (sym m.2) a)
-          (subst (λ z. holds scheme z (at_registry f z) s ≡ true) (sym k.2) b) (λ e. codes_differ c d other (sym m.2 ∙ ap (λ (z : SchemeRegistry). z.code) e ∙ k.2)) in
+          (subst (λ z. holds scheme z (at_registry f z) s ≡ true) (sym k.2) b) (λ e. other_from_test c d other (sym m.2 ∙ ap (λ (z : SchemeRegistry). z.code) e ∙ k.2)) in
           let p = place s in
           let q = one_or_none (is_some (allotted scheme s)) in
           absurd (omega arith)

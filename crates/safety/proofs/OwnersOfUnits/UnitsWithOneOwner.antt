@@ -28,7 +28,7 @@ use Rattle.protocol.proofs.CountsInLists.{number_one, number_some, number_two}
 use Rattle.safety.proofs.OneRegistry.TransactionEnds.{ends_last, proposer}
 use Rattle.safety.proofs.MovesAndHistories.NewestTransitions.{newest_id}
 use Rattle.units.proofs.Lists.Membership.{In}
-use Rattle.safety.proofs.ListLemmas.TestsOfSameness.{codes_differ}
+use Rattle.scheme.proofs.Told.{other_from_test}
 use Rattle.safety.proofs.OwnersOfUnits.UnitsInOnePlace.{causal_one_place}
 use Rattle.safety.proofs.OwnersOfUnits.SumsOverRegistries.{one_or_none, over_least, over_some, over_two, some_member, is_member}
 
@@ -96,7 +96,7 @@ module _ (scheme : Scheme) (f : Node → List Entry) (causal : Causal scheme f) 
   two_holders s c d h k other =
       let m = holder_counts s c h in
       let n = holder_counts s d k in
-      let two = number_two (holds_at s) scheme.members m.0 n.0 m.1 n.1 m.3 n.3 (λ e. codes_differ c d other (sym m.2 ∙ ap (λ (z : SchemeRegistry). z.code) e ∙ n.2)) in
+      let two = number_two (holds_at s) scheme.members m.0 n.0 m.1 n.1 m.3 n.3 (λ e. other_from_test c d other (sym m.2 ∙ ap (λ (z : SchemeRegistry). z.code) e ∙ n.2)) in
       let top = one_at_most s in
       omega arith
 
@@ -113,7 +113,7 @@ module _ (scheme : Scheme) (f : Node → List Entry) (causal : Causal scheme f) 
             number_two (owes f t.code s) (at_registry f t.code) o.last p.last x.inside (subst (λ z. In p.last (at_registry f z)) (sym e) y.inside) x.counts
             (subst (λ z. owes f z s p.last ≡ true) (sym e) y.counts) (λ d. ids_differ t u other (sym x.id ∙ ap (λ (z : Transition). z.id) d ∙ y.id)) in
             over_least (owed_by s) scheme.members m.0 2 m.1 (subst (λ z. 2 ≤ count_by (owes f z s) (at_registry f z)) (sym m.2) both)
-        | inr apart ↦ over_two (owed_by s) scheme.members m.0 n.0 m.1 n.1 (λ e. codes_differ t.code u.code apart (sym m.2 ∙ e ∙ n.2)) m.3 n.3
+        | inr apart ↦ over_two (owed_by s) scheme.members m.0 n.0 m.1 n.1 (λ e. other_from_test t.code u.code apart (sym m.2 ∙ e ∙ n.2)) m.3 n.3
       ] in
       let top = one_at_most s in
       omega arith

@@ -1,11 +1,11 @@
 -- A transfer that is open nowhere reserves nothing and owes nothing.
 use Rattle.units.proofs.Lists.Positions.{In_contains}
 use Rattle.safety.proofs.OneRegistry.TransactionEnds.{ends_last}
-use Rattle.std.specs.Prelude.{Bool, ◌&&◌, not, option_map}
+use Rattle.std.specs.Prelude.{◌&&◌, not, option_map}
 use Rattle.safety.specs.Rounds.{HasEnded}
 use Rattle.safety.proofs.AgreementOfNodes.CausalHistories.{Causal}
-use Rattle.std.proofs.Common.{◌≡◌, List, true, false, Some, inl, inr, refl, ap, subst, ◌∙◌}
-use Rattle.std.proofs.lemmas.Bool.{cases_Bool, and_parts}
+use Rattle.std.proofs.Common.{◌≡◌, List, false, Some, inl, inr, refl, ap, subst, ◌∙◌}
+use Rattle.std.proofs.lemmas.Bool.{cases_Bool, and_parts, not-true}
 use Rattle.units.specs.Code.{same_code}
 use Rattle.units.specs.declared.block.Unit.{Unit as Serial}
 use Rattle.units.specs.declared.code.Node.{Node}
@@ -19,10 +19,6 @@ use Rattle.protocol.specs.WayOut.{IsOpen}
 use Rattle.safety.proofs.AgreementOfNodes.CompletionsAgree.{stood, given}
 use Rattle.units.proofs.Lists.Membership.{In}
 use Rattle.safety.proofs.OneTransfer.OwedUnits.{owed_open}
-
-turned : (b : Bool) → not b ≡ true → b ≡ false
-turned true e = absurd (cc (e))
-turned false e = refl
 
 pub has_ended : (scheme : Scheme) (f : Node → List Entry) → Causal scheme f → (t : TransactionId) → (IsOpen f t → ⊥) → HasEnded f t
 has_ended scheme f causal t closed = record {
@@ -51,5 +47,5 @@ has_ended scheme f causal t closed = record {
               let p = and_parts (gives t.code s x) (not (is_received f x.id x.content)) y in
               let g = given t.code s x p.0 in
               let last = ends_last scheme t.code (f (Registry t.code)) (causal.made (Registry t.code)) x i g.0 in
-              absurd (owed_open scheme f causal t x (subst (λ u. newest (at_registry f t.code) u ≡ Some x) e last) g.0 (subst (λ u. is_received f u x.content ≡ false) e (turned (is_received f x.id x.content) p.1)) closed)
+              absurd (owed_open scheme f causal t x (subst (λ u. newest (at_registry f t.code) u ≡ Some x) e last) g.0 (subst (λ u. is_received f u x.content ≡ false) e (not-true (is_received f x.id x.content) p.1)) closed)
         ]

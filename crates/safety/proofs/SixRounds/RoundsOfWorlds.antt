@@ -1,5 +1,6 @@
 -- Rounds of worlds are rounds of the families of their committed histories.
 
+use Rattle.safety.proofs.ListLemmas.FirstFound.{some_is}
 use Rattle.safety.proofs.SixRounds.RoundsLeft.{RoundsTo, by_statuses, later_on, six_left}
 use Rattle.safety.specs.RoundsLeft.{EndsInTime, rounds_left}
 use Rattle.safety.proofs.OneTransfer.StagesAtNodes.{Stage}
@@ -33,7 +34,7 @@ use Rattle.protocol.specs.declared.event.WorldEvent.{WorldEvent}
 use Rattle.safety.proofs.AgreementOfNodes.CausalHistories.{Causal}
 use Rattle.safety.proofs.MovesAndHistories.LongerHistories.{made_history, sends_append}
 use Rattle.safety.proofs.WorldLemmas.CommittingEvents.{step_commits}
-use Rattle.safety.proofs.WorldLemmas.NodesWithStation.{AllPlaced, Unplaced, opening_placed, run_placed, committed_unplaced, live_unplaced, some_there}
+use Rattle.safety.proofs.WorldLemmas.NodesWithStation.{AllPlaced, Unplaced, opening_placed, run_placed, committed_unplaced, live_unplaced}
 use Rattle.safety.proofs.WorldLemmas.QuietWorlds.{run_append}
 use Rattle.safety.proofs.WorldLemmas.ReachedWorlds.{reached_sound}
 use Rattle.safety.proofs.WorldLemmas.SchemesKept.{run_scheme}
@@ -156,7 +157,7 @@ pub six_rounds_end : (scheme : Scheme) (events : List WorldEvent) → RoundsEnd 
 six_rounds_end scheme events more h t k =
     let w = run (opening scheme) events in
     let g = reached scheme events in
-    let x = some_there (newest (transitions_of (committed_of w (Registry t.code))) t) k in
+    let x = some_is (newest (transitions_of (committed_of w (Registry t.code))) t) k in
     let s = stage w.scheme (committed_of w) (family w.scheme g).causal (family w.scheme g).unplaced t x.0 x.1 in
     ended_by w.scheme g 6 more h t (λ v r. six_left w.scheme t s.0 (family w.scheme g) v r (own_offer w.scheme (committed_of w) (family w.scheme g).causal t x.0 s.0 s.1))
 

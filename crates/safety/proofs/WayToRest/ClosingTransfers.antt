@@ -25,9 +25,10 @@ use Rattle.protocol.specs.Claims.{committed_of, IsEnd}
 use Rattle.protocol.specs.Effects.{notifies, proposes}
 use Rattle.protocol.specs.History.{Transition, newest, sends, transitions_of}
 use Rattle.protocol.specs.World.{World, run}
-use Rattle.safety.proofs.MovesAndHistories.TransitionForms.{arrived, arrived_status, concluded_messages, checked, checked_status, told_to, moved}
+use Rattle.safety.proofs.MovesAndHistories.TransitionForms.{arrived, concluded_messages, checked, checked_status, told_to, moved}
 use Rattle.safety.proofs.AgreementOfNodes.CausalHistories.{Causal, completed_agrees, ended, heard_sent, log_said}
 use Rattle.safety.proofs.AgreementOfNodes.CompletionsAgree.{stands_so, log_has, initiator_has}
+use Rattle.safety.proofs.OneRegistry.RegistrySendings.{arrived_answers}
 use Rattle.safety.proofs.OneRegistry.TransactionEnds.{completed_sent, ends_last, proposer, proposer_of}
 use Rattle.safety.proofs.MovesAndHistories.NewestTransitions.{newest_id}
 use Rattle.units.proofs.Lists.Membership.{In}
@@ -226,10 +227,6 @@ module _ (scheme : Scheme) (moment : Moment) (t : TransactionId) where
   close_checked : (w : World) (x l : Transition) (k : Content) → Stage scheme w t x k → Room scheme w 2 3 → x.new ≡ Proposed → Last (committed_of w) Itl t l → l.new ≡ Checked → Closes scheme w t 2 3
   close_checked w x l k s room waits log is_checked = by (newest (transitions_of (committed_of w (Registry k.acquirer))) t) refl
     where
-      answered_as : (found : List ℕ) → (arrived_status found ≡ Accepted) ⊎ (arrived_status found ≡ Rejected)
-      answered_as [] = inl refl
-      answered_as (n ∷ ns) = inr refl
-
       log_not : (st : Status) → (st ≡ Checked → ⊥) → (st ≡ Accepted → ⊥) → (q : Transition) × Last (committed_of w) Itl t q × ((q.new ≡ st) ⊎ ((st ≡ Accepted) × (q.new ≡ Completed))) → ⊥
       log_not st a b q =
           let same : q.0 ≡ l = one_some q.0 l (sym q.1 ∙ log) in
@@ -266,7 +263,7 @@ module _ (scheme : Scheme) (moment : Moment) (t : TransactionId) where
           let next = stage_next scheme t w (Registry k.acquirer) y x k g s (foreign scheme (committed_of w) (cau scheme t w x k s) t x k s.known) in
           then_registry scheme t w k.acquirer y 2 2 g
           (acquirer_answered (run w g.events) x l y k next (room_registry scheme t w k.acquirer y 2 2 g room) waits (newest_next scheme t w (Registry k.acquirer) Itl y (Some l) g refl log) is_checked g.now
-          (answered_as (acquirer_findings scheme k.acquirer (holding scheme k.acquirer (committed_of w (Registry k.acquirer))) k)))
+          (arrived_answers (acquirer_findings scheme k.acquirer (holding scheme k.acquirer (committed_of w (Registry k.acquirer))) k)))
 
   -- proposed at the initiator
   close_proposed : (w : World) (x : Transition) (k : Content) → Stage scheme w t x k → Room scheme w 3 3 → x.new ≡ Proposed → Closes scheme w t 3 3

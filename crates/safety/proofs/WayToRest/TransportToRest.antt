@@ -16,13 +16,11 @@ use Rattle.status.specs.Id.{same_id}
 use Rattle.status.specs.declared.id.TransactionId.{TransactionId}
 use Rattle.status.specs.declared.moment.Moment.{Moment}
 use Rattle.status.specs.declared.status.Status.TheVariants.{Proposed}
-use Rattle.wire.specs.declared.input.Input.{Input}
 use Rattle.scheme.specs.declared.registries.Scheme.{Scheme}
 use Rattle.protocol.specs.Claims.{at_registry, committed_of, live_of, whole}
 use Rattle.protocol.specs.History.{Entry, Transition, carries, holds, newest, reserved, spendable, stands_at, transitions_of}
 use Rattle.protocol.specs.Owner.{At, Due, Owner, Owns}
 use Rattle.protocol.specs.Registries.{has_member}
-use Rattle.protocol.specs.Verdict.{extend, history_from}
 use Rattle.protocol.specs.WayOut.{AtRest, IsOpen, WayOut}
 use Rattle.protocol.specs.World.{World, run, station}
 use Rattle.safety.proofs.WayToRest.ClosingTransfers.{close_one}
@@ -30,6 +28,7 @@ use Rattle.safety.proofs.OneTransfer.OwedUnits.{owed_open}
 use Rattle.safety.proofs.AgreementOfNodes.CompletionsAgree.{stood}
 use Rattle.units.proofs.Lists.SomePass.{list_any_some}
 use Rattle.units.proofs.Lists.Membership.{In}
+use Rattle.protocol.proofs.Histories.{length_from}
 use Rattle.safety.proofs.OwnersOfUnits.UnitsWithOneOwner.{causal_one_owner}
 use Rattle.safety.proofs.WorldLemmas.NodesWithStation.{AllPlaced}
 use Rattle.safety.proofs.WorldLemmas.QuietWorlds.{Quiet, there}
@@ -114,16 +113,12 @@ module _ (w : World) (quiet : Quiet w) (closed : (t : TransactionId) → IsOpen 
 
 -- ---- the way out
 
-length_history : (scheme : Scheme) (n : Node) (es : List Entry) (xs : List Input) → length (history_from scheme n es xs) ≡ length es + length xs
-length_history scheme n es [] = omega arith
-length_history scheme n es (x ∷ xs) = let a = length_history scheme n (extend scheme n es x) xs in omega arith
-
 pub way_out : (w : World) → Sound w → AllPlaced w → WayOut w
 way_out w sound all ts listed room =
     let q = quieted w sound all in
     let calm : Calm w.scheme (run w q.events) = record { quiet = q.quiet; same = run_scheme w q.events } in
     let roomy : (n : Node) → length (committed_of (run w q.events) n) + 3 * length ts ≤ w.scheme.records = λ n.
-    let x = room n in let y = length_history w.scheme n [] (whole (station w n)) in let z = ap length (q.same n) in omega arith in
+    let x = room n in let y = length_from w.scheme n [] (whole (station w n)) in let z = ap length (q.same n) in omega arith in
     let a = close_all w.scheme ts (run w q.events) calm (roomy Itl, λ c. roomy (Registry c)) in
     let reach = reaches_on w (run w q.events) a.world (q.events, refl, q.transport) a.reaches in
     let closed : (t : TransactionId) → IsOpen (committed_of a.world) t → ⊥ = λ t o.

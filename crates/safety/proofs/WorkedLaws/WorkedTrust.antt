@@ -21,7 +21,8 @@ use Rattle.protocol.specs.Claims.{StandsAt, at_registry, committed_of, live_of}
 use Rattle.protocol.specs.History.{Entry, Transition, book_owner, holds, transitions_of}
 use Rattle.protocol.specs.Verdict.{verdict}
 use Rattle.protocol.specs.World.{World, opening, run, step}
-use Rattle.protocol.proofs.WorkedScheme.{all_units, block, commit, deliver, first_of_may, jp, jp_node, notification, nz, nz1, nz_node, post, propose, scheme_s, unit}
+use Rattle.protocol.proofs.MessageForms.{received}
+use Rattle.protocol.proofs.WorkedScheme.{all_units, block, commit, deliver, first_of_may, jp, jp_node, notification, nz, nz1, nz_node, post, propose, scheme_s, unit, codes_differ}
 use Rattle.safety.specs.Strangers.{AreStrange, opening_among}
 use Rattle.safety.specs.Trust.{Accounted, AgreesAmong, BookIsWhole, DeliversWelcomeAmong, HolderOwnsAmong, IsHandover, OnePlaceAmong, SpentOnceAmong, coming, leaving, place}
 use Rattle.safety.proofs.WorkedLaws.WorkedMessages.{all_made, completes, first_unit, jp1, one_entry, proposes, to_jp, to_nz}
@@ -91,12 +92,6 @@ places = (refl, refl, refl, refl, refl)
 
 -- ---- messages of strangers
 
-one_message : (m n : Message) (at then : Moment) → Received m at ≡ Received n then → m ≡ n
-one_message m n at then e = cc (e)
-
-pub codes_differ : nz ≡ jp → ⊥
-codes_differ e = let first : ◌≡◌ {A = ℕ} 78 74 = ap (λ (c : Code). c.first) e in omega arith
-
 nodes_differ : jp_node ≡ nz_node → ⊥
 nodes_differ e = let b : false ≡ true = ap (λ n. same_node n nz_node) e in cc (b)
 
@@ -152,7 +147,7 @@ by_a_request moment h = let e : Request nz1 ≡ Received h.message h.moment = h.
 -- the completion of a stranger moves nothing of NZ
 pub by_the_acquirer : (d : Code) → IsHandover scheme_s [] (Received (notification jp_node Itl nz1 notified.Completed) first_of_may) (unit 1) nz d → ⊥
 by_the_acquirer d h =
-    let same : notification jp_node Itl nz1 notified.Completed ≡ h.message = one_message (notification jp_node Itl nz1 notified.Completed) h.message first_of_may h.moment h.is in
+    let same : notification jp_node Itl nz1 notified.Completed ≡ h.message = received h.is in
     let e : jp_node ≡ nz_node = ap (λ (z : Message). z.from) same ∙ h.from in
     nodes_differ e
 
@@ -165,10 +160,10 @@ pub of_a_stranger_and_held : OnePlaceAmong trusts scheme_s (all_made brought [] 
 of_a_stranger_and_held h = let e : ◌≡◌ {A = ℕ} 2 1 = h (unit 1) in omega arith
 
 pub spendable_twice : SpentOnceAmong trusts_all scheme_s (all_made [] [] brought) → ⊥
-spendable_twice h = codes_differ (h (unit 1) nz jp refl refl refl refl)
+spendable_twice h = codes_differ (sym (h (unit 1) nz jp refl refl refl refl))
 
 pub held_and_not_owned : HolderOwnsAmong trusts_all scheme_s (all_made [] [] brought) → ⊥
-held_and_not_owned h = codes_differ (ap code_in (h (unit 1) jp refl refl))
+held_and_not_owned h = codes_differ (sym (ap code_in (h (unit 1) jp refl refl)))
 
 -- ---- deliveries
 

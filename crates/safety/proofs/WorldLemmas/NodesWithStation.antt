@@ -2,6 +2,7 @@
 use Rattle.std.proofs.Common.{◌≡◌, ℕ, List, [], ◌∷◌, Bool, true, false, cond, Option, Some, None, inl, inr, refl, sym, ap, subst, ◌∙◌, map}
 use Rattle.std.specs.Prelude.{nat_le, is_some, length, option_and_then, slice_get}
 use Rattle.std.proofs.lemmas.Bool.{cases_Bool}
+use Rattle.units.proofs.Lists.FirstIndices.{none_from_test}
 use Rattle.units.proofs.Same.{node_of_same}
 use Rattle.units.specs.Code.{same_node, same_code}
 use Rattle.units.specs.declared.code.Code.{Code}
@@ -121,17 +122,9 @@ opening_placed scheme (Registry c) = opening_members c scheme.members
 
 -- ---- what stands where
 
-none_there : {X : Type 0} (o : Option X) → is_some o ≡ false → o ≡ None
-none_there None e = refl
-none_there (Some x) e = absurd (cc (e))
-
-pub some_there : {X : Type 0} (o : Option X) → is_some o ≡ true → (x : X) × (o ≡ Some x)
-some_there None e = absurd (cc (e))
-some_there (Some x) e = (x, refl)
-
 -- where no node of the scheme is, no station is
 unplaced : (w : World) → AllPlaced w → (n : Node) → is_node w.scheme n ≡ false → station w n ≡ None
-unplaced w all n h = none_there (station w n) (all n ∙ h)
+unplaced w all n h = none_from_test (station w n) (all n ∙ h)
 
 -- nodes that are none have no history
 abbrev pub Unplaced : Scheme → (Node → List Entry) → Type 0

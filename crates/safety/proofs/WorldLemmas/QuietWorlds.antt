@@ -28,7 +28,8 @@ use Rattle.protocol.specs.declared.event.WorldEvent.{WorldEvent}
 use Rattle.protocol.specs.declared.event.WorldEvent.TheVariants.{Take, Commit, Post, Deliver}
 use Rattle.units.proofs.Lists.Membership.{In, In_find, In_map}
 use Rattle.units.proofs.Lists.OneValue.{one_some}
-use Rattle.safety.proofs.WorldLemmas.NodesWithStation.{AllPlaced, run_placed, opening_placed, some_there}
+use Rattle.safety.proofs.ListLemmas.FirstFound.{some_is}
+use Rattle.safety.proofs.WorldLemmas.NodesWithStation.{AllPlaced, run_placed, opening_placed}
 use Rattle.units.proofs.Lists.Positions.{index_of, last_at}
 use Rattle.safety.proofs.WorldLemmas.SoundWorlds.{Sound, run_sound, opening_sound}
 use Rattle.safety.proofs.WorldLemmas.StationsAfterPut.{found_at_node, at_put, at_elsewhere}
@@ -40,7 +41,7 @@ pub record Quiet (w : World) : Type 0 where
   pub idle : (n : Node) (s : Station) → station w n ≡ Some s → (s.runs ≡ true) × (s.tail ≡ [])
 
 pub there : (w : World) → Quiet w → (n : Node) → is_node w.scheme n ≡ true → (s : Station) × (station w n ≡ Some s)
-there w quiet n node = some_there (station w n) (quiet.placed n ∙ node)
+there w quiet n node = some_is (station w n) (quiet.placed n ∙ node)
 
 -- after the events the node has committed one input more, it is idle, and all other nodes are as they were
 pub record Grown (w : World) (events : List WorldEvent) (n : Node) (input : Input) : Type 0 where

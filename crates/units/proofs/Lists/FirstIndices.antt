@@ -37,12 +37,12 @@ index_there p k (x ∷ xs) = pick (index_there p (k + 1) xs) (p x)
     pick rest true = refl
     pick rest false = rest
 
+pub none_from_test : {X : Type 0} (o : Option X) → is_some o ≡ false → o ≡ None
+none_from_test None e = refl
+none_from_test (Some x) e = absurd (cc (e))
+
 pub index_nowhere : {X : Type 0} (p : X → Bool) (xs : List X) → position_from p 0 xs ≡ None → find p xs ≡ None
-index_nowhere p xs e = nothing (find p xs) (sym (index_there p 0 xs) ∙ ap is_some e)
-  where
-    nothing : {Y : Type 0} (o : Option Y) → is_some o ≡ false → o ≡ None
-    nothing None h = refl
-    nothing (Some y) h = absurd (cc (h))
+index_nowhere p xs e = none_from_test (find p xs) (sym (index_there p 0 xs) ∙ ap is_some e)
 
 pub index_map : {X Y : Type 0} (f : X → Y) (p : Y → Bool) (k : ℕ) (xs : List X) → position_from p k (map f xs) ≡ position_from (λ x. p (f x)) k xs
 index_map f p k [] = refl

@@ -1,16 +1,12 @@
-use Rattle.std.proofs.Common.{◌≡◌, ℕ, ◌∷◌, [], take, get_or, arith, Bool, true, false, ◌||◌, cond, eqb, Some, None, refl, sym, ap, ◌∙◌}
+use Rattle.std.proofs.Common.{◌≡◌, ◌∷◌, [], take, get_or, Bool, true, false, ◌||◌, cond, eqb, Some, None, refl, sym, ap, ◌∙◌}
 use Rattle.std.specs.BTreeMap as tree
 use Rattle.std.specs.List.{list_any}
 use Rattle.std.specs.Ordering.{nat_cmp}
-use Rattle.std.proofs.lemmas.Bool.Decides.{nat_tests}
 use Rattle.std.proofs.lemmas.List.{take_more}
 use Rattle.std.proofs.lemmas.List.Folds.{list_any-append}
 use Rattle.accounts.specs.Accounts.{opened}
-use Rattle.accounts.proofs.AccountStatuses.{tied}
+use Rattle.accounts.proofs.AccountStatuses.{tied, turned}
 use Rattle.accounts.proofs.account.open_accounts.Goals as goal
-
-turned : (m n : ℕ) → eqb m n ≡ eqb n m
-turned m n = grind (arith, nat_tests)
 
 -- one more number
 one_more : (here before : Bool) → cond here (Some opened) (cond before (Some opened) None) ≡ cond (before || (here || false)) (Some opened) None

@@ -1,12 +1,13 @@
 use Rattle.std.proofs.Common.{◌≡◌, ◌∙◌, ◌++◌, ◌∷◌, List, [], ap, arith, length, subst, sym, OnOk}
 use Rattle.std.proofs.lemmas.List.{length-map}
 use Rattle.std.proofs.lemmas.List.Elements.{All-push}
+use Rattle.weave.proofs.Lists.{one_done, all_done}
 use Rattle.desk.specs.Keeping.{StoredView}
 use Rattle.command_faults.specs.Faults.{of_store}
 use Rattle.audit.specs.Ended.{stored_in}
 use Rattle.audit.proofs.Reporting.{on_ok}
 use Rattle.commands.specs.Commands.{AreClosed}
-use Rattle.commands.proofs.Closing.{all_done, at_next, one_done, part_done}
+use Rattle.commands.proofs.Closing.{at_next, part_done}
 use Rattle.commands.proofs.running.close_stores.Goals as goal
 
 pub loop-ended-preserved-in-Ok : goal.loop-ended-preserved-in-Ok

@@ -1,6 +1,6 @@
 use Rattle.std.proofs.Common.{◌∙◌, ◌++◌, inr, map, refl, sym, ap}
 use Rattle.std.proofs.lemmas.Result.{err_from_is_err_and}
-use Rattle.commands.proofs.Closing.{all_done, one_done}
+use Rattle.weave.proofs.Lists.{one_done, all_done}
 use Rattle.commands.proofs.running.open_all.Goals as goal
 
 pub loop-stored-init : goal.loop-stored-init

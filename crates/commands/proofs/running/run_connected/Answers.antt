@@ -25,8 +25,8 @@ pub returns-clause-ok : goal.returns-clause-ok
 returns-clause-ok g c =
     let scheme = c.args.scheme.now in
     both_ok c.run_script-ended.result
-    (λ v told ended. record {
-      well = subst (λ (l : List (StoredView g.row.S.Denot)). HaveEnded g.S.NodeStore (IsLoadedAmong g.S.NodeStore scheme l) scheme (stored_in v.items)) c.in_ok-nodes.ensures.ok ended;
+    (λ r told ended. record {
+      well = subst (λ (l : List (StoredView g.row.S.Denot)). HaveEnded g.S.NodeStore (IsLoadedAmong g.S.NodeStore scheme l) scheme (stored_in r.nodes.items)) c.in_ok-nodes.ensures.ok ended;
       text = told.0;
       report = told.1;
       written = told.2;

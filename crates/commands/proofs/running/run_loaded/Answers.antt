@@ -3,11 +3,20 @@ use Rattle.audit.specs.Ended.{stored_in}
 use Rattle.audit.proofs.Reporting.{if_err, on_ok}
 use Rattle.commands.proofs.running.run_loaded.Goals as goal
 
-pub returns-in-Ok-clause-ok : goal.returns-in-Ok-clause-ok
-returns-in-Ok-clause-ok g c = on_ok c.close_stores.result (λ closed. ((stored_in c.in-Ok.ended.items), c.in-Ok.ensures.ok, closed)) c.close_stores.ensures.ok
+pub returns-in-Ok-close_stores-clause-ok : goal.returns-in-Ok-close_stores-clause-ok
+returns-in-Ok-close_stores-clause-ok g c =
+    let run = c.in-Ok.field-0 in
+    on_ok c.judged.result (λ strict. (run.undone, (stored_in run.nodes.items, c.in-Ok.ensures.ok, c.in-Ok-close_stores.ensures.ok), strict)) c.judged.ensures.ok
 
-pub returns-in-Ok-clause-err : goal.returns-in-Ok-clause-err
-returns-in-Ok-clause-err g c = if_err c.close_stores.result (λ e h. inr (inr ((stored_in c.in-Ok.ended.items), c.in-Ok.ensures.ok, h))) c.close_stores.ensures.err
+pub returns-in-Ok-close_stores-clause-err : goal.returns-in-Ok-close_stores-clause-err
+returns-in-Ok-close_stores-clause-err g c =
+    let run = c.in-Ok.field-0 in
+    if_err c.judged.result (λ e h. inr (inr (inr (run.undone, (stored_in run.nodes.items, c.in-Ok.ensures.ok, c.in-Ok-close_stores.ensures.ok), h)))) c.judged.ensures.err
+
+pub returns-in-Err-close_stores-clause-err : goal.returns-in-Err-close_stores-clause-err
+returns-in-Err-close_stores-clause-err g c =
+    let run = c.in-Ok.field-0 in
+    inr (inr (inl (run.undone, stored_in run.nodes.items, c.in-Ok.ensures.ok, c.in-Err-close_stores.ensures.err)))
 
 pub returns-in-Err-clause-err : goal.returns-in-Err-clause-err
 returns-in-Err-clause-err g c =

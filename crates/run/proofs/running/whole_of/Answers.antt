@@ -4,6 +4,7 @@ use Rattle.std.proofs.lemmas.Result.{err_from_is_err_and}
 use Rattle.units.specs.declared.code.Node.{Node}
 use Rattle.protocol.specs.Registries.{nodes}
 use Rattle.audit.specs.Ended.{seats_in, states_in, stored_in}
+use Rattle.run.specs.Answers.{first_undone}
 use Rattle.run.specs.Gathered.{AreGathered}
 use Rattle.run.specs.Runs.{HaveEnded, HaveOthers, IsRunReport}
 use Rattle.audit.specs.declared.ended.EndedNode.{EndedNode}
@@ -27,7 +28,7 @@ returns-in-Ok-clause-ok g c =
     let value : c.as_slice.result.now ≡ c.in_ok-ended.ended.items = c.as_slice.ensures.value in
     let gathered : AreGathered g.T.Taking.takes c.args.seats.items (seats_in c.as_slice.result.now) = rw value c.in_ok-ended.ensures.seats in
     let each : length c.args.seats.items ≡ length (nodes scheme) = sym c.args.seats.ok.0 ∙ c.requires.seats in
-    λ lines told played answers. subst (λ (ns : List (EndedNode g.row.N-Store.Denot)). IsRunReport scheme lines (states_in ns) (string_bytes c.in-Ok.text) × HaveOthers g.T.Taking.takes scheme (states_in ns)) value
+    λ lines told played answers. subst (λ (ns : List (EndedNode g.row.N-Store.Denot)). IsRunReport scheme lines (states_in ns) (first_undone 1 lines told) (string_bytes c.in-Ok.text) × HaveOthers g.T.Taking.takes scheme (states_in ns)) value
     (c.in-Ok.ensures.ok c.args.seats.items each gathered lines told played answers)
 
 pub returns-in_err-ended-clause-err : goal.returns-in_err-ended-clause-err

@@ -1,4 +1,5 @@
-use Rattle.std.proofs.Common.{◌≡◌, List, ℕ, inl, inr, map, refl, subst, sym, rules}
+use Rattle.std.proofs.Common.{arith, ◌≡◌, List, ℕ, inl, inr, map, refl, subst, sym, rules}
+use Rattle.std.proofs.lemmas.Grind.{common_steps}
 use Rattle.sqlite.specs.State.{HasCleanDisk, State, Survives}
 use Rattle.sqlite.specs.Held.{state}
 use Rattle.sqlite.specs.Tree.{Trees}
@@ -47,3 +48,9 @@ returns-in_err-put_all-clause-crash g c clean db left =
     let whole = survives_then old mid end _ _ (λ (t : Trees). ⊥) (λ _ t none. none) (λ _ t none. none) inside c.drop-tx.ensures.survives in
     let ready = c.requires.ready (was_clean old end _ whole late) in
     none_of old end (map items c.args.batch.now) ready (λ t. g.met.S.Store.settled held.store t ready.is_open) whole late db (subst (λ h. (state g.S.Store h).may_leave db) (sym same) left)
+
+pub returns-clause-ready : goal.returns-clause-ready
+returns-clause-ready g c = grind arith
+
+pub returns-clause-full : goal.returns-clause-full
+returns-clause-full g c = grind (arith, common_steps)

@@ -1,4 +1,5 @@
 use Rattle.std.proofs.Common.{◌≡◌, inl, inr, ◌∷◌, [], ◌++◌, ◌∙◌, Err, IfErr, map, take, subst, sym, ap, rules, arith}
+use Rattle.std.proofs.lemmas.Grind.{elements}
 use Rattle.std.proofs.lemmas.List.{map_more}
 use Rattle.sqlite.specs.Held.{state}
 use Rattle.sqlite.proofs.StateLemmas.{survives_then}
@@ -42,3 +43,9 @@ returns-in_err-put-clause-full g c clean =
       | inl more ↦ inl (omega (arith, up, more))
       | inr refused ↦ inr (refused-at c.args.batch.now c.loop-body.body-index c.body-item.result (omega arith) (subst IsRefused (c.deref.ensures.value ∙ ap items c.body-item.is) refused))
     ])
+
+pub put-requires-clause-place : goal.put-requires-clause-place
+put-requires-clause-place g c = grind (arith, elements)
+
+pub returns-clause-more : goal.returns-clause-more
+returns-clause-more g c = grind (arith, elements)

@@ -1,4 +1,5 @@
 use Rattle.std.proofs.Common.{arith}
+use Rattle.std.proofs.lemmas.Grind.{elements}
 use Rattle.streams.proofs.Streams.{none_free, ends_line, over_at, over_left, cut_up}
 use Rattle.streams.proofs.splitter.cut_lines.Goals as goal
 
@@ -22,3 +23,6 @@ pub returns : goal.returns
 returns c =
     let at = c.loop-end in
     rw (c.from_vec-2.ensures) (cut_up c.args.limit c.args.held.now c.args.piece.now at.lines.items at.begun.now at.left.now (none_free at.left.now c.in_default.ensures) (omega (arith, at.invariant.within.1)) at.invariant)
+
+pub overflow_add-left : goal.overflow_add-left
+overflow_add-left c = grind (arith, elements)

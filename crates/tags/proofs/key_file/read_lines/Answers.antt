@@ -9,7 +9,7 @@ loop-preserved c =
     let size = length-append old (ok.0 ∷ []) in
     let count = c.loop.invariant.count in
     record {
-      reads = rw ok.1 (reads_next c.args.text.now old c.loop.left.now c.first_line.result.0.now c.first_line.result.1.now ok.0 c.loop.invariant.reads c.first_line.ensures ok.2 ok.3);
+      reads = rw ok.1 (reads_next c.args.text.now old c.loop.left.now c.first_line.result.0.now c.first_line.result.1.now ok.0 c.loop.invariant.reads c.first_line.ensures ok.2 ok.3 ok.4);
       count = rw ok.1 (omega (arith, size, count));
     }
 

@@ -1,14 +1,6 @@
-use Rattle.std.proofs.Common.{◌≡◌, ◌∙◌, ◌++◌, ◌∷◌, [], List, map, length, refl, sym, ap, append_assoc, append-nil, arith}
+use Rattle.std.proofs.Common.{◌∙◌, ◌++◌, map, refl, sym, ap}
+use Rattle.weave.proofs.Lists.{one_done, all_done}
 use Rattle.test_runs.proofs.nodes.opened.Goals as goal
-
--- one more of those left is done
-one_done : {X : Type 0} (all done left rest : List X) (x : X) → all ≡ done ++ left → left ≡ x ∷ rest → all ≡ (done ++ x ∷ []) ++ rest
-one_done {X} all done left rest x split is = split ∙ (ap (λ (xs : List X). done ++ xs) is ∙ sym (append_assoc done (x ∷ []) rest))
-
--- none is left
-all_done : {X : Type 0} (all done left : List X) → all ≡ done ++ left → length left ≡ 0 → all ≡ done
-all_done all done [] split none = split ∙ append-nil done
-all_done all done (x ∷ xs) split none = absurd (omega (arith, none))
 
 pub loop-stored-init : goal.loop-stored-init
 loop-stored-init g c = rw (c.new-nodes.ensures.items, c.into_iter-stored-iterator.ensures.into_iter_gives.0) refl

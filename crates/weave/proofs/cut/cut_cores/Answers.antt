@@ -30,4 +30,4 @@ returns g c =
     let count = length-map c.args.cores.items node_cores.journal_of ∙ sym (length-map c.args.cores.items node_cores.node_of) ∙ ap (λ (l : List Node). length l) c.requires.nodes in
     let among = c.as_slice.ensures.value ∙ c.in_ok-nodes.ensures in
     let rests = subst (λ (ns : List Node). AreRests f.world ns c.in_ok-rests.rests.items) among (c.in_ok-rests.ensures.nodes, c.in_ok-rests.ensures.each) in
-    is_cut scheme js f c.in_ok-world.ensures.follows c.in_ok-world.ensures.done c.in_ok-world.ensures.whole count (record { events = f.events; world = c.in_ok-world-2.world; rests = c.in_ok-rests.rests }) refl (c.in_ok-world-2.ensures.world ∙ ap (λ es. run (opening scheme) es) c.as_slice-2.ensures.value) rests
+    is_cut scheme js f c.in_ok-world.ensures.follows c.in_ok-world.ensures.done c.in_ok-world.ensures.whole count (record { events = f.events; world = c.into_world-world.result; rests = c.in_ok-rests.rests }) refl (c.into_world-world.ensures ∙ c.in_ok-reached.ensures.world ∙ ap (λ es. run (opening scheme) es) c.as_slice-2.ensures.value) rests

@@ -15,7 +15,7 @@ returns-in_ok-add_record c =
     let does = ap (after next) (sym came) ∙ c.in_ok-outcome.ensures.ok in
     let same = c.in_ok-add_record.ensures.same in
     gave t c.add_record.new.self e next (Recorded place) c.requires.sent does c.args.node c.requires.given same.0 same.3 same.1 same.2
-    (λ r g at. c.in_ok-add_record.ensures.lines t.world r at (recorded_at t.world next e r c.args.node (Recorded place) place does refl g at) c.status-before.ensures c.requires.sent)
+    (λ r g at. c.in_ok-add_record.ensures.lines t.world r at (recorded_at t.world next e r c.args.node (Recorded place) place does refl g at) (rw c.as_world.ensures at c.status-before.ensures) c.requires.sent)
 
 pub returns-in_default : goal.returns-in_default
 returns-in_default c =

@@ -3,8 +3,9 @@ use Rattle.std.proofs.lemmas.Bool.{cond-false, cond-true}
 use Rattle.std.specs.Prelude.{slice_get}
 use Rattle.protocol.specs.History.{sends}
 use Rattle.protocol.specs.Verdict.{history}
+use Rattle.protocol.proofs.Histories.{sent_so}
 use Rattle.world.specs.Cores.{journal_of, node_of, scheme_of}
-use Rattle.world.proofs.TailsOfJournals.{beyond, sent_so}
+use Rattle.world.proofs.TailsOfJournals.{beyond}
 use Rattle.world.proofs.station.Station.sent.Goals.{else-self-via-then-self+else-key-sent_by, else-self-via-else-self}
 use Rattle.world.proofs.station.Station.sent.Goals as goal
 

@@ -1,8 +1,11 @@
 """Checks the ends of programs that a bench starts. If one is wrong, the bench exits with status 1."""
 
+import re
 import subprocess
 import sys
 
+# A line on standard error about a store that a command creates.
+NEW_STORE = re.compile(r"^kyoto-link: \S+\.db doesn't exist, and is created as an empty store\n", re.MULTILINE)
 # The number of the last characters of a program's messages that are printed.
 MOST_SAID = 2_000
 
@@ -23,3 +26,8 @@ def run_to_end(words, **given):
     ended = subprocess.run(words, check=False, **given)
     check_end(words, ended.returncode, said=ended.stderr)
     return ended
+
+
+def without_new_stores(said):
+    """Returns a program's messages without those about stores that it creates."""
+    return NEW_STORE.sub("", said)

@@ -11,6 +11,7 @@ import time
 
 import paths
 from cuts import formats
+from endings import without_new_stores
 from rehearse import program
 
 # The most seconds of a command.
@@ -33,9 +34,11 @@ def compare(found, wanted, text):
 
 
 def do(*words, given=None, wanted=(0,)):
-    """Runs the program with these words and returns its result. Its status must be one of the wanted ones."""
+    """Runs the program with these words and returns its result, without messages about new stores. Its status must be
+    one of the wanted ones."""
     words = [program(), *map(str, words)]
     ended = subprocess.run(words, input=given, capture_output=True, text=True, check=False, timeout=SECONDS)
+    ended.stderr = without_new_stores(ended.stderr)
     differ(ended.returncode not in wanted, f"{words[1]} ended with status {ended.returncode}: {ended.stderr.strip()}")
     return ended
 

@@ -30,7 +30,7 @@ import time
 
 import paths
 from building import build_c
-from endings import run_to_end
+from endings import run_to_end, without_new_stores
 from kills import tonnes
 from rehearse import codes_of, program, scheme
 
@@ -171,6 +171,7 @@ def start(folder, stores, case, library):
 
 def wrong_end(case, folder, process, text, said):
     """Returns a text about the run's end, if it is wrong, or None."""
+    said = without_new_stores(said)
     if case.killed_after is not None:
         return None if process.returncode in ENDED else f"status {process.returncode}"
     if process.returncode == 0:

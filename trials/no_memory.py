@@ -3,30 +3,36 @@
 
     no_memory.py [--tests TEXT] [--seconds N] [--within N]
 
-Each test of `test_values`, `test_stores`, `test_runs` and `test_nodes` runs alone, once for each of its allocations, of
-which that one is refused (`no_memory.c`, loaded before the C library). The test must pass, as it repeats a call that
+Each test of `test_values` and `test_runs` runs alone, once for each of its allocations, of which that one is refused
+(`no_memory.c`, loaded before the C library). The test must pass, as it repeats a call that
 found no memory, after it has checked the state; or it stops while it reads its own texts. If the runs of a test would
 take longer than `--seconds` together, allocations are skipped at equal distances. The tests of EXEMPT are left out.
 
 `rehearse` reads the input of each example of its own, `chart` the examples with a diagram, the command lines of the
-examples that have one are read, and `audit` reads the stores of a whole transfer and of one whose proposal comes too
-late. Each command runs once with all its memory and must write the outputs in its folder, and then once for each of its
-allocations. Each time it must write the same as the first run, or nothing, with `out of memory` on standard error and
-exit status 5. If the command fails with a fault and has no memory for its line, it may write `out of memory` with the
-status of that fault. The stores must keep their records.
+examples that have one are read, `audit` reads the stores of a whole transfer and of one whose proposal comes too late,
+and `show` migrates a store of format 1. Each command runs once with all its memory and must write the outputs in its
+folder, and then once for each of its allocations. Each time it must write the same as the first run, or nothing, with
+`out of memory` on standard error and exit status 5. If the command fails with a fault and has no memory for its line,
+it may write `out of memory` with the status of that fault. The stores must keep their records.
 
-With --within the commands come first, and the tests share the seconds that are left: each has as many as the tests after
-it. A test is named, and its allocations aren't refused, if none is left for it or its share is too short to count them.
+`node` gets two lines of a peer and carries out its operator's lines, at a registry and at the log, once for each
+allocation. Each reply must be the one that it has with all its memory, or `refused` with 50. The node must end with
+status 0, and the number of records in its last line must be that of its store; or with `out of memory` and status 5.
+Each record that it reported, and each message to which it replied `received`, must be in its store.
+
+With --within the tests of ASKED come first, then commands, nodes, and the other tests. Each of these parts has the
+share of the seconds that PARTS gives it, of which each command, node or test has as many as those after it. If they are
+too few for all its allocations, these are skipped at equal distances. A test is named, and its allocations aren't
+refused, if no time is left for it or too little to count them.
 
 A line is printed for each test and each command, and one for each run that failed. The exit status is 1 if one failed.
 """
 
 import argparse
+import collections.abc
 import concurrent.futures
-import functools
-import itertools
+import dataclasses
 import json
-import os
 import pathlib
 import shutil
 import signal
@@ -38,35 +44,33 @@ import time
 
 import paths
 from audit import MOMENT, write_stores
-from building import build_c
 from endings import check_end, run_to_end
 from examples import EXAMPLES, end_of
-from records import FORMAT
-from rehearse import program
+from migrate import shown, texts
+from records import FORMAT, write_store
+from refused_nodes import LINES, refuse_each_of_node
+from refusing import MOST_OTHERS, OUT_OF_MEMORY, PROCESSORS, Refusing, Share, allocations_of, built, distance, in_turn
 
 TOP = pathlib.Path(__file__).resolve().parent.parent
-SOURCE = TOP / "trials" / "no_memory.c"
-OUT_OF_MEMORY = (5, b"", b"kyoto-link: out of memory\n")
-TESTS = ("test_values", "test_stores", "test_runs", "test_nodes")
+TESTS = ("test_values", "test_runs")
 # The message of a test that found no memory for its own texts, and the status of a test that fails.
 READING = b"the test's own texts"
 FAILED = -signal.SIGABRT
-# The most seconds of a run of a test.
-LONGEST = 120
 # The number of runs in which the allocations of a test are counted, nearly.
 COUNTING = 30
-PROCESSORS = os.cpu_count() or 1
-# Tests of threads that wait for one another end differently in each run. An endless session, an input at its limit and
-# millions of interrupted calls take too long to run thousands of times.
+# Millions of interrupted calls take too long to run thousands of times.
 EXEMPT = {
-    "threaded_run::",
-    "endless_line::",
-    "limit_rows::an_input_has_sixteen_mebibytes",
     "limit_rows::an_input_is_read_so_often",
     "limit_rows::a_write_is_interrupted_so_often",
 }
+# The tests whose subject is a refused allocation: holdings and their pieces, and a weave.
+ASKED = ("accounts_rows::", "weave_rows::")
+# With --within, the part of the seconds after which each part of the runs should have ended.
+PARTS = {"asked": 0.2, "commands": 0.6, "nodes": 0.7, "tests": 1.0}
 # The inputs of these examples are of other commands.
 OF_OTHER_COMMANDS = {"as_json", "furthest_cut", "trace"}
+# The number of records of the store that is migrated.
+OLD_RECORDS = 20
 UNITS = ["NZ:1:1-100:AAU"]
 # A clean-up a day after the moment of all messages.
 CLEANED_UP = {"input": "clean_up", "moment": MOMENT + 86_400}
@@ -127,105 +131,95 @@ def texts_of(journals):
 
 
 def records_in(folder):
-    """Returns the rows of all stores."""
+    """Returns the owner and the records of each store, without their format."""
     found = {}
     for path in sorted(folder.glob("*.db")):
         store = sqlite3.connect(path)
-        found[path.name] = (store.execute("SELECT * FROM about").fetchall(), store.execute("SELECT * FROM entries").fetchall())
+        bodies = store.execute("SELECT place, replace(body, ',\"v\":2}', '}') FROM entries ORDER BY place").fetchall()
+        found[path.name] = (store.execute("SELECT node FROM about").fetchall(), bodies)
         store.close()
     return found
 
 
-@functools.cache
-def built():
-    """Returns the path of the program. The launcher is asked for it once."""
-    return program()
+@dataclasses.dataclass
+class Command:
+    """A command: its words over a folder of stores, its input, that folder, and the end that it must have."""
+
+    name: str
+    words: collections.abc.Callable
+    text: bytes = b""
+    folder: pathlib.Path | None = None
+    wanted: tuple | None = None
+
+    def run(self, refusing, number, thread=0):
+        """Runs the command over a copy of the stores, and returns its end, whether an allocation was refused, and the
+        records that the copy then has."""
+        with tempfile.TemporaryDirectory(dir=refusing.room) as room:
+            own = pathlib.Path(shutil.copytree(self.folder, f"{room}/stores")) if self.folder else None
+            ended, refused = refusing.run(self.words(own), self.text, number, thread=thread)
+            return ended, refused, own and records_in(own)
 
 
-class Refusing:
-    """Runs programs with one allocation refused. Each thread has a folder of its own."""
-
-    def __init__(self, room):
-        self.room = pathlib.Path(room)
-        self.library = self.room / "no_memory.so"
-        build_c(SOURCE, self.library, "-std=gnu11", "-shared", "-fPIC", "-ldl")
-
-    def run(self, words, text, number, test=None, thread=0):
-        """Returns the end of a run of the program or of a test's program, and whether an allocation was refused. With
-        the number 0 none is refused. The run has a folder of its own, since some tests make stores in their folder."""
-        mark = self.room / f"refused-{thread}"
-        mark.unlink(missing_ok=True)
-        given = os.environ | {"LD_PRELOAD": str(self.library), "REFUSE": str(number), "REFUSED": str(mark)}
-        # The program names itself in its help as it was called.
-        words = [test or "kyoto-link", *words]
-        with tempfile.TemporaryDirectory(dir=self.room) as own:
-            try:
-                ended = subprocess.run(words, executable=test or built(), input=text, capture_output=True, env=given, cwd=own, timeout=LONGEST, check=False)
-            except subprocess.TimeoutExpired:
-                return (None, b"", b"no end"), mark.exists()
-        return (ended.returncode, ended.stdout, ended.stderr), mark.exists()
-
-
-def refuse_each(name, refusing, words, text, folder, wanted=None):
+def refuse_each(command, refusing, seconds=None):
     """Returns whether each run wrote all or nothing, and whether the first one, with all its memory, has the wanted
-    end. Several threads take the numbers of allocations in turn."""
-    whole, _ = refusing.run(words(folder), text, 0)
-    if wanted is None:
-        check_end([built(), *words(folder)], whole[0], (0,), whole[2])
-    elif whole != wanted:
-        print(f"{name}: status {whole[0]}, {len(whole[1])} bytes written, {whole[2]!r}, other than the outputs in its folder")
+    end."""
+    begin = time.monotonic()
+    whole, _, _ = command.run(refusing, 0)
+    each = time.monotonic() - begin
+    if command.wanted is None:
+        check_end([built(), *command.words(command.folder)], whole[0], (0,), whole[2])
+    elif whole != command.wanted:
+        print(f"{command.name}: status {whole[0]}, {len(whole[1])} bytes written, {whole[2]!r}, other than the outputs in its folder")
         return False
     # The end of a fault without memory for its line.
     untold = (whole[0], *OUT_OF_MEMORY[1:]) if whole[0] else whole
-    before = records_in(folder) if folder else None
-    numbers = itertools.count(1)
+    before = command.folder and records_in(command.folder)
+    step = 1 if seconds is None else distance(allocations_of(lambda number: command.run(refusing, number)[1]), each, seconds)
 
-    def take(thread):
-        """Returns the number of this thread's runs with a refused allocation, the number of those out of memory, and
-        texts about other ends."""
-        own = pathlib.Path(shutil.copytree(folder, f"{folder}-{thread}")) if folder else None
-        runs, unwritten, others = 0, 0, []
-        while True:
-            number = next(numbers)
-            came, refused = refusing.run(words(own), text, number, thread=thread)
-            ends = (whole, OUT_OF_MEMORY, untold) if refused else (whole,)
-            if came not in ends or (own and records_in(own) != before):
-                allocation = f"allocation {number}" if refused else "none"
-                others.append(f"with {allocation} refused: status {came[0]}, {len(came[1])} bytes written, {came[2]!r}")
-            if not refused:
-                return runs, unwritten, others
-            runs += 1
-            unwritten += came in (OUT_OF_MEMORY, untold) and came != whole
+    def take(number, thread):
+        """Returns whether the program was out of memory, or a text about another end."""
+        came, refused, after = command.run(refusing, number, thread)
+        if came not in ((whole, OUT_OF_MEMORY, untold) if refused else (whole,)) or after != before:
+            allocation = f"allocation {number}" if refused else "none"
+            return f"with {allocation} refused: status {came[0]}, {len(came[1])} bytes written, {came[2]!r}"
+        return came != whole if refused else None
 
-    with concurrent.futures.ThreadPoolExecutor(PROCESSORS) as threads:
-        ended = list(threads.map(take, range(PROCESSORS)))
-    for text in [text for _, _, others in ended for text in others]:
-        print(f"{name}: {text}")
-    runs, unwritten = (sum(it[part] for it in ended) for part in (0, 1))
-    print(f"{name}: {runs} allocations; out of memory {unwritten} times, otherwise all was written", flush=True)
-    return not any(others for _, _, others in ended)
+    ended = in_turn(take, step)
+    others = [it for it in ended if isinstance(it, str)]
+    print(*(f"{command.name}: {it}" for it in others[:MOST_OTHERS]), sep="\n", end="\n" if others else "")
+    told = f"{len(ended)} allocations" if step == 1 else f"{len(ended)} allocations, 1 in {step}"
+    print(f"{command.name}: {told}; out of memory {ended.count(True)} times, otherwise all was written", flush=True)
+    return not others
 
 
-def refuse_each_of_examples(refusing):
-    """Returns whether the runs of all examples wrote all or nothing."""
-    kept = True
-    folders = sorted(it for it in [*EXAMPLES.iterdir(), *EXAMPLES.glob("*/*")] if it.is_dir())
-    for example in folders:
+def commands_of_examples():
+    """Yields the commands of all examples."""
+    for example in sorted(it for it in [*EXAMPLES.iterdir(), *EXAMPLES.glob("*/*")] if it.is_dir()):
         name = example.relative_to(EXAMPLES)
         if name.parts[0] in OF_OTHER_COMMANDS:
             continue
         given = example / "input"
         if given.exists():
-            text = given.read_bytes()
-            kept = refuse_each(f"rehearse {name}", refusing, lambda _: ["rehearse"], text, None, end_of(example)) and kept
+            yield Command(f"rehearse {name}", lambda _: ["rehearse"], given.read_bytes(), wanted=end_of(example))
         drawn = example / "chart.mmd"
         if drawn.exists():
-            kept = refuse_each(f"chart {name}", refusing, lambda _: ["chart"], text, None, (0, drawn.read_bytes(), b"")) and kept
+            yield Command(f"chart {name}", lambda _: ["chart"], given.read_bytes(), wanted=(0, drawn.read_bytes(), b""))
         line = example / "words"
         if line.exists():
-            words = line.read_text().split()
-            kept = refuse_each(f"words {name}", refusing, lambda _: words, b"", None, end_of(example)) and kept
-    return kept
+            yield Command(f"words {name}", lambda _, words=line.read_text().split(): words, wanted=end_of(example))
+
+
+def commands_over_stores(room, scheme):
+    """Yields audits of stores, and the migration of a store of format 1."""
+    for name, journals in (("one_transfer", WHOLE), ("stale_proposal", STALE)):
+        folder = room / name
+        folder.mkdir()
+        write_stores(folder, texts_of(journals))
+        yield Command(f"audit {name}", lambda stores: ["audit", scheme, stores], folder=folder)
+    folder = room / "format_one"
+    folder.mkdir()
+    write_store(folder, "NZ", texts(OLD_RECORDS), form=1)
+    yield Command("show format_one", lambda stores: ["show", scheme, stores, "NZ"], folder=folder, wanted=(0, "".join(shown(OLD_RECORDS)).encode(), b""))
 
 
 def test_programs():
@@ -245,17 +239,6 @@ def tests_of(test):
     return [line.removesuffix(": test") for line in listed.splitlines() if line.endswith(": test")]
 
 
-def allocations_of(refusing, test, name):
-    """Returns the number of allocations that the test asks for."""
-    low, high = 0, 1
-    while refusing.run([name], b"", high, test)[1]:
-        low, high = high, high * 2
-    while high - low > 1:
-        middle = (low + high) // 2
-        low, high = (middle, high) if refusing.run([name], b"", middle, test)[1] else (low, middle)
-    return low
-
-
 def refuse_each_of_test(refusing, threads, test, name, seconds, least_runs=0):
     """Returns whether the test passed with all its memory, and passed or stopped while reading with each allocation
     refused, or with the ones that the time allows. Returns also the number of allocations, of those refused, of passes
@@ -267,9 +250,8 @@ def refuse_each_of_test(refusing, threads, test, name, seconds, least_runs=0):
     if least_runs * each > seconds:
         print(f"test {name}: {seconds:.1f} seconds are too few for it")
         return True, (0, 0, 0, 0)
-    count = allocations_of(refusing, test, name)
-    most = max(1, int(seconds * PROCESSORS / each))
-    step = -(-count // most) or 1
+    count = allocations_of(lambda number: refusing.run([name], b"", number, test)[1])
+    step = distance(count, each, seconds)
     numbers = range(1, count + 1, step)
 
     def take(number):
@@ -290,41 +272,44 @@ def refuse_each_of_test(refusing, threads, test, name, seconds, least_runs=0):
     return not others, (count, len(numbers), passed, reading)
 
 
-def refuse_each_of_tests(refusing, only, seconds, end=None):
-    """Returns whether all tests passed, or stopped while reading, each time. Prints the sums of each program. A test has
-    that number of seconds, or if the moment `end` is given, an equal share of the seconds until then."""
+def refuse_each_of_tests(refusing, is_chosen, seconds, end=None):
+    """Returns whether all chosen tests passed, or stopped while reading, each time. Prints the sums of each program. A
+    test has that number of seconds, or if the moment `end` is given, an equal share of the seconds until then."""
     programs = test_programs()
-    names = {crate: [it for it in tests_of(test) if only in it and not any(it.startswith(exempt) for exempt in EXEMPT)] for crate, test in programs.items()}
-    kept, left = True, sum(map(len, names.values()))
+    names = {crate: [it for it in tests_of(test) if is_chosen(it) and not any(it.startswith(exempt) for exempt in EXEMPT)] for crate, test in programs.items()}
+    kept, share = True, Share(sum(map(len, names.values())), end, seconds)
     with concurrent.futures.ThreadPoolExecutor(PROCESSORS) as threads:
         for crate, test in programs.items():
             ended = []
             for name in names[crate]:
-                share = seconds if end is None else (end - time.monotonic()) / left
-                left -= 1
-                if share > 0:
-                    ended.append(refuse_each_of_test(refusing, threads, test, name, share, COUNTING if end else 0))
+                given = share.next()
+                if given > 0:
+                    ended.append(refuse_each_of_test(refusing, threads, test, name, given, COUNTING if end else 0))
                 else:
                     print(f"test {name}: no time is left for it")
             kept = all(is_kept for is_kept, _ in ended) and kept
             counts, refused, passed, reading = (sum(it[part] for _, it in ended) for part in range(4))
-            print(f"{crate}: {len(ended)} tests, {counts} allocations, {refused} of them refused; passed {passed} times, stopped while "
-                  f"reading {reading} times", flush=True)
+            if names[crate]:
+                print(f"{crate}: {len(ended)} tests, {counts} allocations, {refused} of them refused; passed {passed} times, stopped while "
+                      f"reading {reading} times", flush=True)
     return kept
 
 
-def refuse_each_of_audits(refusing, room):
-    """Returns whether the audits wrote all or nothing, and the stores kept their records."""
-    scheme = pathlib.Path(room) / "scheme"
+def refuse_each_of_commands(refusing, room, end_of_part):
+    """Returns whether the runs of all commands wrote all or nothing, the stores kept their records, and nodes ended
+    well."""
+    scheme = room / "scheme"
     text = (EXAMPLES / "stale_proposal" / "input").read_bytes()
     scheme.write_bytes(text.split(b"\n", 1)[0] + b"\n")
-    kept = True
-    for name, journals in (("one_transfer", WHOLE), ("stale_proposal", STALE)):
-        folder = pathlib.Path(room) / name
-        folder.mkdir()
-        write_stores(folder, texts_of(journals))
-        kept = refuse_each(f"audit {name}", refusing, lambda stores: ["audit", scheme, stores], b"", folder) and kept
-    return kept
+    commands = [*commands_of_examples(), *commands_over_stores(room, scheme)]
+    of_commands, of_nodes = Share(len(commands), end_of_part("commands")), Share(len(LINES), end_of_part("nodes"))
+    ended = [refuse_each(it, refusing, of_commands.next()) for it in commands]
+    ended += [refuse_each_of_node(refusing, scheme, node, of_nodes.next()) for node in LINES]
+    return all(ended)
+
+
+def is_asked(name):
+    return name.startswith(ASKED)
 
 
 def main():
@@ -333,14 +318,19 @@ def main():
     words.add_argument("--seconds", type=float, default=20, help="the most seconds of the runs of one test together (20)")
     words.add_argument("--within", metavar="SECONDS", type=float, help="the most seconds of all runs together, nearly")
     given = words.parse_args()
-    end = None if given.within is None else time.monotonic() + given.within
+    begin = time.monotonic()
+
+    def end_of_part(name):
+        return None if given.within is None else begin + given.within * PARTS[name]
+
     with tempfile.TemporaryDirectory() as room:
         refusing, kept = Refusing(room), True
         if given.tests is None:
             built()
-            kept = refuse_each_of_examples(refusing)
-            kept = refuse_each_of_audits(refusing, room) and kept
-        kept = refuse_each_of_tests(refusing, given.tests or "", given.seconds, end) and kept
+            kept = refuse_each_of_tests(refusing, is_asked, given.seconds, end_of_part("asked"))
+            kept = refuse_each_of_commands(refusing, pathlib.Path(room), end_of_part) and kept
+        is_chosen = (lambda name: given.tests in name) if given.tests is not None else (lambda name: not is_asked(name))
+        kept = refuse_each_of_tests(refusing, is_chosen, given.seconds, end_of_part("tests")) and kept
     print("all or nothing each time" if kept else "other texts were written, a store changed, or a test failed")
     return 0 if kept else 1
 

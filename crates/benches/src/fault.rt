@@ -12,7 +12,7 @@ use thiserror::Error;
 #[derive(Debug, Drop, Error)]
 pub enum Fault {
     /// The words don't name a kind of work with its arguments, or a number is too small or too large.
-    #[error("wanted: transfers, accounts, log, clean-ups, eligibility, map, outbox or scheme with a number of at least 9; memory, alone, sends or exchanges with a number; file PATH RECORDS; or store PATH RECORDS SIZE LOADS")]
+    #[error("wanted: map, outbox or scheme with a number of at least 9; memory, alone, sends or exchanges with a number; file PATH RECORDS; or store PATH RECORDS SIZE LOADS")]
     Words,
     /// The text of a number, a code or an order of an input isn't valid.
     #[error("an input can't be made")]

@@ -1,25 +1,11 @@
 //! How long parts of this repository take for many inputs.
 //!
-//! `benches transfers INPUTS` gives a registry INPUTS inputs of whole transfers: an order to transfer a block out of
-//! its allotted one, and Accepted for it; a proposal of another registry, and Completed for it; an acknowledgement of
-//! each message that it sends; and then Accepted and the proposal again, which are repeats. A round has nine inputs,
-//! and seven of them are recorded. `benches accounts INPUTS` has it close and open an account without units, INPUTS
-//! times in all.
-//!
-//! `benches log INPUTS` gives the log of 31 registries INPUTS inputs of whole transfers from each registry to the next:
-//! a proposal, Accepted and Completed, an acknowledgement of each message that it sends, and then Accepted and
-//! Completed again, which are repeats. A round has eight inputs, and six of them are recorded. `benches clean-ups
-//! INPUTS` gives it 100,000 proposals, and then INPUTS clean-ups at which none of them has expired; `benches
-//! eligibility INPUTS` gives it orders on a registry's eligibility instead of the clean-ups.
-//!
 //! `benches map INTERVALS` makes a map of INTERVALS intervals of ten units, and 10,000 times gives 16 blocks in it
 //! another kind and then their own again. `benches outbox MESSAGES` makes an outbox of MESSAGES messages, every other
 //! one acknowledged, and looks 10,000 times for the next message that waits.
 //!
-//! For each of these it prints a line with the time in microseconds and the number of inputs that were recorded, or of
-//! look-ups that found a message: `TIME COUNT`. The inputs of transfers are made before the time is taken, and the
-//! proposals are given before it; other inputs are given again and again. Each number is 9 to 10,000,000, but a journal
-//! takes at most 1,000,000 records; for 9 it prints nothing.
+//! For each of these it prints a line with the time in microseconds and the number of calls, or of look-ups that found a
+//! message: `TIME COUNT`. Each number is 9 to 10,000,000; for 9 it prints nothing.
 //!
 //! `benches scheme ROUNDS` (9 to 10,000,000) reads a text from standard input to its end. Then, ROUNDS times, it reads
 //! the text as a JSON value and drops the value, reads it as a scheme and drops the scheme, and prints a line of the
@@ -37,27 +23,24 @@
 //! The registry refuses the message each time without a record. The program prints the time of all exchanges. Each of
 //! these lines is one time in microseconds. Where the number is 0 nothing is made or printed.
 //!
-//! The exit status is 2 where the words are wrong; 3 where an input is refused, a store has a fault, the text is no
-//! scheme, or not all is recorded, loaded or noted as it should be; 5 for lack of memory; and 1 where the system
-//! failed, or a message had another reply. No contract is about time: the proofs show that the program is safe, and
-//! that it ends unless a thread waits forever.
+//! The exit status is 2 where the words are wrong; 3 where a store has a fault, the text is no scheme, or not all is
+//! recorded, loaded or noted as it should be; 5 for lack of memory; and 1 where the system failed, or a message had
+//! another reply. No contract is about time: the proofs show that the program is safe, and that it ends unless a thread
+//! waits forever.
 #![tactic(auto)]
 
-mod cores;
 mod exchange_times;
 mod fault;
 mod file_times;
-mod log_rounds;
 mod maps;
 mod nz;
 mod outboxes;
-mod rounds;
+mod proposals;
 mod schemes;
 mod sends;
 mod threads;
 mod work;
 
-use crate::cores::{at_log, at_registry};
 use crate::exchange_times::exchanges_time;
 use crate::fault::Fault;
 use crate::file_times::path_times;
@@ -88,8 +71,6 @@ fn print_taken(rt: &impl Print, count: u32, taken: Taken) -> Result<(), Fault> {
 fn measure_inputs(rt: &HostRuntime, inputs: Inputs, count: u32) -> Result<(), Fault> {
     let alloc = rt.alloc();
     let taken = match inputs {
-        Inputs::Transfers | Inputs::Accounts => at_registry(rt, alloc, inputs, count)?,
-        Inputs::Log | Inputs::CleanUps | Inputs::Eligibility => at_log(rt, alloc, inputs, count)?,
         Inputs::Map => in_map(rt, alloc, count)?,
         Inputs::Outbox => in_outbox(rt, alloc, count)?,
         Inputs::Scheme => return print_rounds(rt, count),

@@ -2,10 +2,9 @@
 
 ghost use Rattle.std.specs.Prelude.{◌<◌};
 
-use crate::cores::log_of;
 use crate::fault::Fault;
-use crate::log_rounds::{REGISTRIES, codes, proposals_of};
 use crate::nz::stored_over;
+use crate::proposals::{REGISTRIES, codes, log_of, proposals_of};
 use log_core::LogCore;
 use protocol::units::{Code, Node};
 use protocol::wire::Input;

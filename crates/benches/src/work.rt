@@ -7,7 +7,7 @@ use crate::file_times::Batches;
 use std::alloc::Global;
 use std::time::Duration;
 
-/// One round of inputs.
+/// The least number of calls, for which nothing is printed.
 pub const LEAST_INPUTS: u32 = 9;
 
 const MOST_INPUTS: u32 = 10_000_000;
@@ -22,19 +22,9 @@ const MOST_KEYS: u32 = 1_000_000;
 
 const MOST_EXCHANGES: u32 = 1_000_000;
 
-/// The kind of the inputs or calls, to a core or one of its parts.
+/// The kind of the calls, to a part of a core.
 #[derive(Clone, Copy)]
 pub enum Inputs {
-    /// Whole transfers, at a registry in both roles.
-    Transfers,
-    /// Orders to close and to open an account.
-    Accounts,
-    /// Whole transfers, at the log.
-    Log,
-    /// Clean-ups at which nothing has expired.
-    CleanUps,
-    /// Orders on the eligibility of a registry.
-    Eligibility,
     /// Calls on a map of many intervals of units.
     Map,
     /// Look-ups in an outbox of many messages.
@@ -43,20 +33,15 @@ pub enum Inputs {
     Scheme,
 }
 
-/// The word for each kind of inputs.
+/// The word for each kind of calls.
 const INPUT_WORDS: &[(&str, Inputs)] = &[
-    ("transfers", Inputs::Transfers),
-    ("accounts", Inputs::Accounts),
-    ("log", Inputs::Log),
-    ("clean-ups", Inputs::CleanUps),
-    ("eligibility", Inputs::Eligibility),
     ("map", Inputs::Map),
     ("outbox", Inputs::Outbox),
     ("scheme", Inputs::Scheme),
 ];
 
 impl Inputs {
-    /// The inputs that the word names.
+    /// The calls that the word names.
     fn read(word: &str) -> Option<Inputs> {
         for (name, inputs) in INPUT_WORDS {
             if word == *name {
@@ -70,7 +55,7 @@ impl Inputs {
 /// The work that is asked for.
 #[derive(Drop)]
 pub enum Work<'a> {
-    /// That number of inputs or calls.
+    /// That number of calls.
     Inputs(Inputs, u32),
     /// A store that is made at that path.
     Store(&'a str, Batches),
@@ -157,7 +142,7 @@ impl Work<'_> {
     }
 }
 
-/// The time that some inputs or calls took, and how many of them were recorded, or found something.
+/// The time that some calls took, and how many of them found something.
 #[derive(Clone, Copy)]
 pub struct Taken {
     pub time: Duration,

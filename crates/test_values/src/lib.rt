@@ -1,5 +1,5 @@
-//! Tests of sets of units, holdings, schemes and outboxes, and of whole registries and the log; of messages, records,
-//! lines, replies, scripts, the command line, `rehearse` and `show`. They cover values and texts from outside that no
+//! Tests of sets of units, holdings, schemes and outboxes, of whole registries and the log, and of a store in memory; of
+//! messages, records, lines, replies, scripts, `rehearse` and `show`. They cover values and texts from outside that no
 //! equation of `test_definitions` and no example has, each public function with enough memory, streams that fail
 //! midway, and behaviour that no clause specifies.
 #![tactic(auto)]
@@ -19,11 +19,11 @@ mod log_rows;
 #[cfg(test)]
 mod logs;
 #[cfg(test)]
+mod memory_store_rows;
+#[cfg(test)]
 mod message_rows;
 #[cfg(test)]
 mod named;
-#[cfg(test)]
-mod node_word_rows;
 #[cfg(test)]
 mod outbox_rows;
 #[cfg(test)]
@@ -39,6 +39,8 @@ mod reply_rows;
 #[cfg(test)]
 mod same;
 #[cfg(test)]
+mod sample_records;
+#[cfg(test)]
 mod scheme_rows;
 #[cfg(test)]
 mod script_rows;
@@ -46,6 +48,8 @@ mod script_rows;
 mod show_rows;
 #[cfg(test)]
 mod status_rows;
+#[cfg(test)]
+mod store_calls;
 #[cfg(test)]
 mod tag_rows;
 #[cfg(test)]

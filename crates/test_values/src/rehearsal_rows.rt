@@ -1,7 +1,6 @@
 use crate::limit_rows::{EVENT, SCHEME};
 use crate::same::{assert_same, room};
 use command_faults::{Cause, OpFault};
-use operator::{Action, Extent, Form, UsageFault, parse_words};
 use rehearse::rehearse;
 use std::alloc::Global;
 use std::io::{self, ErrorKind, Read, Write};
@@ -22,19 +21,6 @@ registry NZ held 0 spendable 0
 owed 0
 end
 ";
-
-#[test]
-fn writes_a_report(rt: HostRuntime) {
-    let alloc = rt.alloc();
-    let input = input(&rt, alloc);
-    let mut writer = room(&rt, alloc);
-    let ended = again!(
-        rehearse(alloc, &mut input.as_bytes(), &mut writer),
-        Err(OpFault::NoMemory) => assert!(rt; writer.is_empty())
-    );
-    assert_same(&rt, ended, Ok(()));
-    assert!(rt; writer.as_slice() == REPORT.as_bytes());
-}
 
 /// A reader that gives its bytes one by one, with an error before the byte at `at`.
 #[derive(Drop)]
@@ -195,110 +181,4 @@ fn writes_on_after_interruptions(rt: HostRuntime) {
     );
     assert_same(&rt, ended, Ok(()));
     assert_same(&rt, writer.taken, REPORT.len());
-}
-
-/// The action that the words of a command line ask for, or why they ask for none.
-#[derive(Clone, Copy, PartialEq, Eq, Debug)]
-pub(crate) enum Outcome {
-    Rehearse,
-    Chart,
-    Show(Form),
-    Audit(Extent, Form),
-    Events(Form),
-    Trace(Form),
-    Explain,
-    Run,
-    Node,
-    Help,
-    Usage,
-    NoMemory,
-}
-
-fn parsed_once(alloc: Global, words: &[&str]) -> Outcome {
-    let parsed = parse_words(alloc, words);
-    let outcome = match &parsed {
-        Ok(Action::Rehearse) => Outcome::Rehearse,
-        Ok(Action::Chart) => Outcome::Chart,
-        Ok(Action::Show { form, .. }) => Outcome::Show(*form),
-        Ok(Action::Audit { extent, form, .. }) => Outcome::Audit(*extent, *form),
-        Ok(Action::Events { form, .. }) => Outcome::Events(*form),
-        Ok(Action::Trace { form, .. }) => Outcome::Trace(*form),
-        Ok(Action::Explain { .. }) => Outcome::Explain,
-        Ok(Action::Run { .. }) => Outcome::Run,
-        Ok(Action::Node(_)) => Outcome::Node,
-        Err(UsageFault::Help(_)) => Outcome::Help,
-        Err(UsageFault::Usage(_)) => Outcome::Usage,
-        Err(UsageFault::NoMemory) => Outcome::NoMemory,
-    };
-    drop(parsed);
-    outcome
-}
-
-pub(crate) fn outcome_of(alloc: Global, words: &[&str]) -> Outcome {
-    again!(parsed_once(alloc, words), Outcome::NoMemory => ())
-}
-
-const COMMANDS: &[(&[&str], Outcome)] = &[
-    (&["kyoto-link", "rehearse"], Outcome::Rehearse),
-    (&["kyoto-link", "chart"], Outcome::Chart),
-    (&["kyoto-link", "-h"], Outcome::Help),
-    (&["kyoto-link", "help"], Outcome::Help),
-    (&["kyoto-link", "run", "s.json", "d", "l"], Outcome::Run),
-    (
-        &["kyoto-link", "audit", "s.json", "d"],
-        Outcome::Audit(Extent::Whole, Form::Lines),
-    ),
-    (
-        &["kyoto-link", "audit", "--cut", "s.json", "d"],
-        Outcome::Audit(Extent::Furthest, Form::Lines),
-    ),
-    (
-        &["kyoto-link", "audit", "s.json", "d", "--cut"],
-        Outcome::Audit(Extent::Furthest, Form::Lines),
-    ),
-    (
-        &["kyoto-link", "trace", "s.json", "d", "NZ1"],
-        Outcome::Trace(Form::Lines),
-    ),
-    (&["kyoto-link", "explain", "106"], Outcome::Explain),
-    (
-        &["kyoto-link", "events", "s.json", "d"],
-        Outcome::Events(Form::Lines),
-    ),
-    (
-        &["kyoto-link", "events", "s.json", "--json", "d"],
-        Outcome::Events(Form::Json),
-    ),
-    (
-        &["kyoto-link", "audit", "--json", "s.json", "d", "--cut"],
-        Outcome::Audit(Extent::Furthest, Form::Json),
-    ),
-    (
-        &["kyoto-link", "trace", "--json", "s.json", "d", "NZ1"],
-        Outcome::Trace(Form::Json),
-    ),
-    (
-        &["kyoto-link", "show", "s.json", "d", "NZ", "--json"],
-        Outcome::Show(Form::Json),
-    ),
-    (
-        &["kyoto-link", "run", "--json", "s.json", "d", "l"],
-        Outcome::Usage,
-    ),
-    (&["kyoto-link", ""], Outcome::Usage),
-    (&["kyoto-link", "rehearse", "input"], Outcome::Usage),
-    (&["kyoto-link", "chart", "input"], Outcome::Usage),
-];
-
-#[test]
-fn command_words(rt: HostRuntime) {
-    for (words, wanted) in COMMANDS {
-        assert_same(&rt, outcome_of(rt.alloc(), words), *wanted);
-    }
-}
-
-/// The action that the words of a command line ask for.
-pub(crate) fn action(rt: &impl Abort, alloc: Global, words: &[&str]) -> Action {
-    let parsed = again!(parse_words(alloc, words), Err(UsageFault::NoMemory) => ());
-    parsed.ok().expect(rt, "an action")
 }

@@ -1,5 +1,5 @@
 use crate::same::assert_same;
-use command_faults::{Cause, OpFault};
+use command_faults::OpFault;
 use input_lines::{ScriptLine, WordsFault, read_script, script_line_of};
 use protocol::wire::Input;
 use std::alloc::Global;
@@ -41,15 +41,6 @@ fn kind_of(line: &ScriptLine) -> Kind {
 fn script(alloc: Global, text: &str) -> Result<Vec<ScriptLine>, OpFault> {
     let mut reader = text.as_bytes();
     read_script(alloc, &mut reader)
-}
-
-/// The first line with a fault, and the fault.
-fn fault_in(alloc: Global, text: &str) -> Result<(u64, Cause), Fail> {
-    let read = again!(script(alloc, text), Err(OpFault::NoMemory) => ());
-    match read.err() {
-        Some(OpFault::Input { line, cause }) => Ok((line, cause)),
-        _ => Err("no fault".into()),
-    }
 }
 
 const LINES: &str = "propose NZ 1 JP 7 NZ:1:1-100:AAU
@@ -111,25 +102,4 @@ fn reads_a_line_by_itself(rt: HostRuntime) {
     }
     let fault = line_of(rt.alloc(), "ack NZ 0").err();
     assert_same(&rt, fault, Some(WordsFault::Order));
-}
-
-const FAULTS: &[(&str, u64, Cause)] = &[
-    ("", 1, Cause::Truncated),
-    ("status NZ NZ1", 1, Cause::Truncated),
-    ("\n", 1, Cause::Order),
-    ("status NZ NZ1\nack NZ 0\n", 2, Cause::Order),
-    ("status NZ NZ1\npost NZ 0\nack NZ 0\n", 2, Cause::Order),
-    ("status NZ NZ0\n", 1, Cause::Order),
-    ("status  NZ NZ1\n", 1, Cause::Order),
-    ("until NZ NZ1 Completed 0\n", 1, Cause::Order),
-    ("until NZ NZ1 Completed 1000001\n", 1, Cause::Order),
-    ("until NZ NZ1 Done 1\n", 1, Cause::Order),
-];
-
-#[test]
-fn finds_each_fault(rt: HostRuntime) -> Result<(), Fail> {
-    for (text, line, cause) in FAULTS {
-        assert_same(&rt, fault_in(rt.alloc(), text)?, (*line, *cause));
-    }
-    Ok(())
 }

@@ -1,11 +1,11 @@
-use crate::calls::{append, append_two, assert_kept, assert_pages, assert_two, load, loaded};
 use crate::same::assert_same;
 use crate::sample_records::{are_two, two};
-use desk::stores::{Kept, MemoryStore, NodeStore, StoreFault};
+use crate::store_calls::{append, append_two, assert_kept, assert_pages, assert_two, load, loaded};
 use protocol::units::{Code, Node};
 use protocol::wire::{Input, Number};
 use std::alloc::Global;
 use std::process::Abort;
+use stores::{Kept, MemoryStore, NodeStore, StoreFault};
 use test_support::{READING, again};
 
 fn nz(rt: &impl Abort) -> Node {

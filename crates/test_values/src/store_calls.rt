@@ -4,10 +4,10 @@ ghost use Rattle.std.specs.Prelude.{◌≤◌};
 
 use crate::same::assert_same;
 use crate::sample_records::{ACCEPTED, PROPOSE, are_two, has_text, two};
-use desk::stores::{NodeStore, StoreFault};
 use protocol::wire::Input;
 use std::alloc::Global;
 use std::process::Abort;
+use stores::{NodeStore, StoreFault};
 use test_support::again;
 
 /// The records of the store. Where memory ran out, the store goes on as it was.
@@ -18,14 +18,6 @@ pub fn load<S: NodeStore>(store: &mut S) -> Result<Vec<Input>, StoreFault> {
 /// The records of a store without a fault.
 pub fn loaded<S: NodeStore>(rt: &impl Abort, store: &mut S) -> Vec<Input> {
     load(store).expect(rt, "no fault of the store")
-}
-
-/// The number of records in the store.
-pub fn count<S: NodeStore>(rt: &impl Abort, store: &mut S) -> usize {
-    let records = loaded(rt, store);
-    let count = records.len();
-    drop(records);
-    count
 }
 
 /// Asserts that the store has the two records.

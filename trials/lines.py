@@ -10,7 +10,7 @@ each at nodes of its own:
 - session: an empty line, a message, and one that is cut; lines of 8,192 bytes and of one more.
 - single: lines that come together have their replies one after another, and a part of a line has none.
 - ends: a peer that ends before its line, within it, and after it.
-- slow: while a line comes byte by byte, other lines have their replies within half a second.
+- slow: while a line comes byte by byte, other lines have their replies within a second.
 - parts: while a peer has sent a part of its proposal, the log replies to the same proposal of another one.
 - idle: 1,030 idle connections don't keep out a further one, and the one that has waited longest is closed.
 - late: a connection whose line isn't whole after ten seconds is closed, and only it.
@@ -62,8 +62,9 @@ COMPLETED_RUN = "1 recorded 0\n2 status Completed\n3 recorded 3\n"
 STOPPED_RUN = "1 recorded 0\n2 refused 48\n3 refused 48\n"
 LONGEST_LINE, MOST_IDLE, MOST_FAILING = 8_192, 1_030, 100
 SPARE_HANDLES = 300
-# The seconds after which a line or a reply must be whole, the most of a reply, and some in which nothing may come.
-LINE_SECONDS, REPLY_SECONDS, QUIET_SECONDS = 10, 5, 0.3
+# The seconds after which a line or a reply must be whole, the most of a reply at all and of a quick one, and some in
+# which nothing may come.
+LINE_SECONDS, REPLY_SECONDS, QUICK_SECONDS, QUIET_SECONDS = 10, 5, 1, 0.3
 
 
 def refused(code):
@@ -210,7 +211,7 @@ def try_slow(place):
         begin = time.monotonic()
         Client(port).send(b"quick\n").expect(NO_MESSAGE).close()
         passed = time.monotonic() - begin
-        differ(passed > 0.5, f"a reply took {passed:.2f} s beside a slow line")
+        differ(passed > QUICK_SECONDS, f"a reply took {passed:.2f} s beside a slow line")
         time.sleep(0.02)
     slow.expect(refused(47)).close()
     place.stop(process, 0)
@@ -232,7 +233,7 @@ def try_idle(place):
     begin = time.monotonic()
     Client(port).send(UNKNOWN).expect(refused(47)).close()
     passed = time.monotonic() - begin
-    differ(passed > 1, f"a reply took {passed:.2f} s beside idle connections")
+    differ(passed > QUICK_SECONDS, f"a reply took {passed:.2f} s beside idle connections")
     if count == MOST_IDLE:
         with contextlib.suppress(ConnectionResetError):
             differ(idle[0].recv(1), "a byte came over an idle connection")

@@ -1,13 +1,14 @@
 #!/usr/bin/env python3
 """Runs the gate, and writes the processor seconds of each crate's code, tests and edits into docs/log/times.md.
 
-    gate.py [WORDS ..]    runs `rt ci` with these words
-    gate.py --last        runs nothing, and says what the page has: the sum of all seconds as a multiple of those of
-                          `units`, the longest chain of crates of which each waits for the one before it, and the
-                          crates that take longer than by the page before it, as multiples of `units` too
+    gate.py           runs `rt ci`
+    gate.py --last    runs nothing, and says what the page has: the sum of all seconds as a multiple of those of
+                      `units`, the longest chain of crates of which each waits for the one before it, and the crates
+                      that take longer than by the page before it, as multiples of `units` too
 
 The seconds are those of the prover. Its processes are sampled once a second, so a check of less than two seconds may be
-missing. A crate that `rt` did not check again keeps its row and its date, and a run that checked none leaves the page.
+missing. After a run that was cut off, a crate that it did not check keeps its row and its date. A crate that crates.txt
+doesn't list loses its row, and a run that checked none leaves the page.
 The sum in the head of the page is measured by the system, and includes the time of `rt` and of the compiler. The output
 of `rt` goes to gate.log in the folder for temporary files. The exit status is that of `rt`.
 """
@@ -67,7 +68,8 @@ def rows_of(page):
 
 def rows(seconds, today):
     """Returns for each crate its name, its three numbers of seconds, and the date on which they were measured."""
-    known = rows_of(TIMES.read_text()) if TIMES.exists() else {}
+    listed, page = uses(), rows_of(TIMES.read_text()) if TIMES.exists() else {}
+    known = {name: row for name, row in page.items() if name in listed}
     for name in {crate for crate, _ in seconds}:
         known[name] = (*(round(seconds[name, kind]) for kind in KINDS), today)
     return sorted(known.items(), key=lambda row: -sum(row[1][:3]))
@@ -151,17 +153,15 @@ def text(seconds, lines):
 def main():
     parser = argparse.ArgumentParser(description=__doc__.splitlines()[0])
     parser.add_argument("--last", action="store_true", help="say what the page has, and run nothing")
-    parser.add_argument("words", metavar="WORDS", nargs="*", help="words after rt ci, as names of crates")
     given = parser.parse_args()
     if given.last:
         tell_last()
         return
-    words = given.words
-    lines = head("tools/gate.py", words)
+    lines = head("tools/gate.py", [])
     begin = time.time()
     log = pathlib.Path(tempfile.gettempdir()) / "gate.log"
     with log.open("w", encoding="utf-8") as out:
-        run = subprocess.Popen(["rt", "ci", *words], cwd=TOP, stdout=out, stderr=subprocess.STDOUT, start_new_session=True)
+        run = subprocess.Popen(["rt", "ci"], cwd=TOP, stdout=out, stderr=subprocess.STDOUT, start_new_session=True)
         gate = Gate(run.pid)
         try:
             while run.poll() is None:
@@ -176,7 +176,7 @@ def main():
     measured = len({crate for crate, _ in gate.seconds})
     lines.append(f"last run: status {run.returncode}, {(time.time() - begin) / 60:.0f} minutes, "
                  f"{used.ru_utime + used.ru_stime:.0f} processor seconds in all, {measured} crates measured")
-    # A run that checked nothing, as after wrong words or with every crate kept, has nothing to say about times.
+    # A run that checked nothing, as one whose files are refused, has nothing to say about times.
     if gate.seconds:
         TIMES.write_text("".join(text(gate.seconds, lines)), encoding="utf-8")
     print(f"{lines[-1]}; the output of rt is in {log}")

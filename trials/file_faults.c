@@ -1,7 +1,8 @@
 /* A library for LD_PRELOAD that fails calls on a file of a store: FAIL_COUNT of the reads, writes, syncs, changes and
    readings of the length of each file whose path ends with FAIL, from the one with the number FAIL_FROM on, counted
-   from 1. At such a call it makes the file that FAILED names, and aborts the program if it can't be made. After each
-   sync that succeeds, the folder SYNCED has a copy of the file, with the bytes that a loss of power would leave. */
+   from 1. At such a call it makes the file that FAILED names, and aborts the program if it can't be made. A sync of such
+   a file waits while there is a file at the path HELD, but for a minute at most. After each sync that succeeds, the
+   folder SYNCED has a copy of the file, with the bytes that a loss of power would leave. */
 
 #define _GNU_SOURCE
 #include <dlfcn.h>
@@ -18,6 +19,8 @@
 
 /* More handles than a run has. */
 #define HANDLES 1024
+/* The most milliseconds for which a sync waits. */
+#define MOST_HELD 60000
 
 /* For each handle the path of its file, if that is a file of a store. */
 static char paths[HANDLES][PATH_MAX];
@@ -70,6 +73,12 @@ static int fails(int file) {
         abort();
     errno = EIO;
     return 1;
+}
+
+static void hold(int file) {
+    const char *mark = getenv("HELD");
+    for (int waited = 0; mark && is_watched(file) && access(mark, F_OK) == 0 && waited < MOST_HELD; waited++)
+        usleep(1000);
 }
 
 /* Copies a file that was synced. Nobody changes it meanwhile, since its store's thread is here. */
@@ -125,6 +134,7 @@ int ftruncate(int file, off_t length) {
 }
 
 int fsync(int file) {
+    hold(file);
     if (fails(file) || next_fsync(file) != 0)
         return -1;
     if (is_watched(file))
@@ -133,6 +143,7 @@ int fsync(int file) {
 }
 
 int fdatasync(int file) {
+    hold(file);
     if (fails(file) || next_fdatasync(file) != 0)
         return -1;
     if (is_watched(file))

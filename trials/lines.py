@@ -3,8 +3,8 @@
 
     lines.py [--only NAME ..]
 
-`kyoto-link node` runs the log or NZ of the example `one_transfer`, without keys. These parts are tried at the same time,
-each at nodes of its own:
+`kyoto-link node` runs the log or NZ of the example `one_transfer`, without keys except in the parts of tags. These parts
+are tried at the same time, each at nodes of its own:
 
 - messages: texts with something wrong in them, which the log must refuse with 41, and others that are messages.
 - session: an empty line, a message, and one that is cut; lines of 8,192 bytes and of one more.
@@ -17,6 +17,11 @@ each at nodes of its own:
 - endless: a line without an end doesn't keep a node from stopping.
 - stopped: while a node is held, another one replies.
 - accepts: the nodes of a run go on after 99 accepts in a row that fail, and stop after a hundred (`hard_run.c`).
+- commits: a message and an order have their replies only once the files of the store are synced (`file_faults.c`).
+- together: eight peers send the log a hundred proposals at the same time, and each is recorded once.
+- tags: the log refuses a line whose tag is wrong, turned, of another key, in upper case or missing, and reads one
+  message over a connection; its replies have their tags.
+- tagged: a message is sent with its tag, and again after each reply that hasn't the tag of its message.
 - sending: a message is sent again if its peer was down, closed the connection or gave a bad reply. It is sent no more
   once it was received.
 - waiting: a peer that replies a byte now and then holds its sender for ten seconds.
@@ -27,6 +32,8 @@ A line is printed for each part. The exit status is 1 if a part differed.
 import argparse
 import concurrent.futures
 import contextlib
+import hashlib
+import hmac
 import os
 import pathlib
 import random
@@ -47,7 +54,7 @@ from node_group import HOST, free_ports, raise_handles
 from node_process import NodeProcess
 from rehearse import program
 
-FAILING = pathlib.Path(__file__).resolve().with_name("hard_run.c")
+FAILING, HOLDING = (pathlib.Path(__file__).resolve().with_name(it) for it in ("hard_run.c", "file_faults.c"))
 SCHEME = (EXAMPLES / WORKED / "input").read_bytes().splitlines(keepends=True)[0]
 PEERS = {"ITL": ("JP", "NZ"), "NZ": ("ITL",), "JP": ("ITL",)}
 ORDER = "propose 1 JP 7 NZ:1:1-100:AAU"
@@ -72,6 +79,14 @@ def refused(code):
 
 
 NO_MESSAGE = refused(41)
+# The keys of the log's links.
+KEYS = {"JP": bytes(range(32)), "NZ": bytes(range(32, 64))}
+
+
+def tagged(key, start, text):
+    """Returns a line behind its tag: the HMAC under the key of what the tag's own text begins with, and the line."""
+    digits = hmac.new(key, start + text.removesuffix(b"\n"), hashlib.sha256).hexdigest()
+    return digits.encode() + b" " + text
 
 
 class Client:
@@ -126,12 +141,18 @@ class Place:
         (self.room / "scheme").write_bytes(SCHEME)
         (self.room / "stores").mkdir()
 
-    def start(self, node, log=None, before=()):
-        """Starts a node, whose messages go to that port, and returns its process and its own port."""
+    def start(self, node, log=None, before=(), keys=None):
+        """Starts a node, whose messages go to that port, perhaps with the text of a file of keys, and returns its
+        process and its own port. The words in `before` come ahead of its command."""
         port, other = free_ports(2, self.chance)
         words = [*before, program(), "node", self.room / "scheme", self.room / "stores", node, "--listen", f"{HOST}:{port}"]
         for peer in PEERS[node]:
             words += ["--peer", f"{peer}={HOST}:{log or other}"]
+        if keys:
+            path = self.room / f"{node}.keys"
+            path.touch(0o600)
+            path.write_text(keys, encoding="utf-8")
+            words += ["--keys", path]
         process = NodeProcess(node, words, self.room / f"{node}.said")
         self.running.append(process)
         process.wait_ready()
@@ -297,6 +318,76 @@ def try_accepts(place):
         differ(ended.returncode != 0 or found != wanted, f"with {count} failed accepts run ended with {ended.returncode}, {found!r}")
 
 
+def try_commits(place):
+    library, held = place.room / "file_faults.so", place.room / "held"
+    build_c(HOLDING, library, "-std=gnu11", "-shared", "-fPIC", "-ldl")
+    before = ("env", f"LD_PRELOAD={library}", f"HELD={held}")
+    (log, port), (registry, _) = (place.start(node, before=before) for node in ("ITL", "NZ"))
+    held.touch()
+    client = Client(port).send(PROPOSED).expect_nothing()
+    registry.send(ORDER)
+    registry.send("status NZ1")
+    client.expect_nothing(QUICK_SECONDS)
+    differ(registry.answers, f"{registry.answers} came before a sync")
+    held.unlink()
+    client.expect(RECEIVED).close()
+    registry.wait_until(lambda: not registry.waiting(), REPLY_SECONDS, "result")
+    differ(registry.answers != ["recorded 0", "status Proposed"], f"{registry.answers} came after a sync")
+    place.stop(log, 1)
+    place.stop(registry, 1)
+
+
+def try_together(place):
+    process, port = place.start("ITL")
+    units, number = "NZ:1:1-100:AAU", '"NZ1"'
+    text = MESSAGES["proposal"]
+    differ(text.count(units) != 1 or text.count(number) != 1, f"{text} isn't as it was")
+    lines = [text.replace(units, f"NZ:1:{it}-{it}:AAU").replace(number, f'"NZ{it}"').encode() + b"\n" for it in range(1, 101)]
+
+    def send(mine):
+        client = Client(port)
+        for line in mine:
+            client.send(line).expect(RECEIVED)
+        client.close()
+
+    with concurrent.futures.ThreadPoolExecutor(8) as peers:
+        list(peers.map(send, [lines[at::8] for at in range(8)]))
+    place.stop(process, 100)
+
+
+def try_tags(place):
+    process, port = place.start("ITL", keys="".join(f"{node} {key.hex()}\n" for node, key in KEYS.items()))
+    key, other, text = KEYS["JP"], KEYS["NZ"], ACCEPTED
+    right = tagged(key, b"JP ITL ", text)
+    # Typed from another program's output, so that both programs have the same tags.
+    typed = b"47b10b070cc541cc60c48dbe8644c5c1e222977c6e600ec85af7772f9266326f "
+    differ(right != typed + text, f"{right!r} has another tag than {typed!r}")
+    unknown = tagged(key, b"ITL JP " + text, refused(47))
+    odd, padded, sent = b'{"from":"JP"}\n', text[:-1].ljust(LONGEST_LINE) + b"\n", tagged(key, b"ITL JP ", CANCELLED)
+    for line, reply in (
+        (right, unknown),
+        (right + right, unknown),
+        (tagged(key, b"JP ITL ", odd), tagged(key, b"ITL JP " + odd, NO_MESSAGE)),
+        (tagged(key, b"JP ITL ", padded), tagged(key, b"ITL JP " + padded, refused(47))),
+        (b"0" + right[1:], NO_MESSAGE),
+        (right[:64].upper() + right[64:], NO_MESSAGE),
+        (tagged(key, b"ITL JP ", text), NO_MESSAGE),
+        (tagged(other, b"JP ITL ", text), NO_MESSAGE),
+        (text, NO_MESSAGE),
+        (sent, NO_MESSAGE),
+        (right[:-1], None),
+        (b"a" * (65 + LONGEST_LINE + 1), None),
+    ):
+        client = Client(port)
+        # The node may have closed the connection before.
+        with contextlib.suppress(OSError):
+            client.send(line).end()
+        client.expect(*[reply] if reply else []).expect_end()
+    proposal = tagged(other, b"NZ ITL ", PROPOSED)
+    Client(port).send(proposal).expect(tagged(other, b"ITL NZ " + PROPOSED, RECEIVED)).close()
+    place.stop(process, 1)
+
+
 class Peer:
     """A peer of a node, which takes its messages."""
 
@@ -348,6 +439,23 @@ def try_sending(place):
         inner.mkdir()
         with contextlib.closing(Place(inner, place.chance)) as another:
             try_reply(another, reply)
+
+
+def try_tagged(place):
+    (log,) = free_ports(1, place.chance)
+    key = KEYS["NZ"]
+    process, _ = place.start("NZ", log, keys=f"ITL {key.hex()}")
+    peer, sent = Peer(log), tagged(key, b"NZ ITL ", PROPOSED)
+    differ(process.ask([ORDER]) != ["recorded 0"], "an order isn't recorded")
+    right, again = (tagged(key, b"ITL NZ " + it, RECEIVED) for it in (PROPOSED, ACCEPTED))
+    turned = tagged(key, b"NZ ITL " + PROPOSED, RECEIVED)
+    for reply in RECEIVED, again, turned, sent, b"\n", b"", right[:-1], right:
+        found = peer.take(reply)
+        differ(found != sent, f"{found!r} came instead of {sent!r}")
+    peer.listener.settimeout(3 * QUIET_SECONDS)
+    with contextlib.suppress(TimeoutError):
+        raise Difference(f"{peer.take(right)!r} came after the message was received")
+    place.stop(process, 1, 2)
 
 
 def try_waiting(place):

@@ -3,21 +3,26 @@
 
     rehearse.py [--runs N] [--load TEXT]
 
-There are five loads, each in three sizes: commits of no record, orders, whole transfers between 2 and between 32
-registries, and whole transfers after which each message is delivered a second time. The largest inputs are nearly as
-long as an input may be. A line for each size has the best time in seconds, its ratio to that of the previous size, and
-the greatest peak of memory as a multiple of the input's bytes. For the largest size, the line also has the time as a
-multiple of a peer's. The peer for orders is a C++ program with ordered maps that writes the same (bench/orders.cpp);
-for the other loads it is Python, which splits the same input into words and counts them in a dictionary.
+There are seven loads, each in three sizes: schemes of many blocks and accounts, without events; commits of no record;
+orders of units one after another and of units that lie apart; whole transfers between 2 and between 32 registries; and
+whole transfers after which each message is delivered a second time. The largest inputs are nearly as long as an input
+may be, except those of schemes, which have as many blocks, registries and accounts as a scheme may have. A line for
+each size has the best time in seconds, its ratio to that of the previous size, and the greatest peak of memory as a
+multiple of the input's bytes. For the largest size, the line also has the time as a multiple of a peer's. The peer for
+orders is a C++ program with ordered maps that writes the same (bench/orders.cpp). For schemes it is Python, which reads
+the JSON and looks for unknown accounts and units that are allotted twice; for the other loads it is Python too, which
+splits the same input into words and counts them in a dictionary.
 
 The exit status is 1 if a limit is exceeded, if an output is wrong, or if a program fails.
 """
 
 import argparse
 import functools
+import itertools
 import json
 import os
 import pathlib
+import random
 import subprocess
 import sys
 import tempfile
@@ -28,12 +33,21 @@ from endings import check_end, run_to_end
 
 TOP = pathlib.Path(__file__).resolve().parent.parent
 LAUNCHER = TOP / "kyoto-link"
-ORDERS = TOP / "bench" / "orders.cpp"
+IN_CPP = TOP / "bench" / "orders.cpp"
 LONGEST_INPUT = 16_777_216
 MOST_RATIO = 2.3
 MOST_TIMES_PYTHON = 1.0
 MOST_TIMES_CPP = 3.0
 MOST_TIMES_BYTES = 30.0
+# The memory that a process may have beside that.
+BYTES_BESIDE = 33_554_432
+MOST_REGISTRIES = 32
+MOST_ACCOUNTS = 1_000
+MOST_BLOCKS = 10_000
+MOST_BLOCKS_OF_AN_ALLOTMENT = 20
+UNITS_OF_A_BLOCK = 1_000
+# The step from one unit to the next of those that lie apart. It shares no factor with the numbers of orders.
+STEP = 7_919
 MOMENT = "2012-05-01T00:00:00Z"
 COUNT_WORDS = "\n".join([
     "import sys",
@@ -41,6 +55,22 @@ COUNT_WORDS = "\n".join([
     "for word in sys.stdin.read().split():",
     "    counts[word] = counts.get(word, 0) + 1",
     "print(len(counts))",
+])
+READ_SCHEME = "\n".join([
+    "import json, sys",
+    "registries = json.load(sys.stdin)['registries']",
+    "accounts = {(it['code'], account) for it in registries for account in it['accounts']}",
+    "blocks = []",
+    "for registry in registries:",
+    "    for allotted in registry['allotted']:",
+    "        assert (registry['code'], allotted['account']) in accounts",
+    "        for block in allotted['units']:",
+    "            origin, period, units, kind = block.split(':')",
+    "            first, last = map(int, units.split('-'))",
+    "            blocks.append((origin, period, first, last))",
+    "blocks.sort()",
+    "assert all(one[:2] != next[:2] or one[3] < next[2] for one, next in zip(blocks, blocks[1:]))",
+    "print(len(accounts), len(blocks))",
 ])
 
 
@@ -70,6 +100,35 @@ def orders(count):
     yield scheme(codes_of(2), count)
     for unit in range(1, count + 1):
         yield f"propose AA 1 AB 1 AA:1:{unit}-{unit}:AAU"
+
+
+def orders_apart(count):
+    yield scheme(codes_of(2), 2 * count)
+    for number in range(count):
+        unit = 2 * (STEP * number % count) + 1
+        yield f"propose AA 1 AB 1 AA:1:{unit}-{unit}:AAU"
+
+
+def allotments(accounts, blocks, chance):
+    """Yields the blocks in groups of 1 to 20, each for some account."""
+    rest = iter(blocks)
+    while units := list(itertools.islice(rest, chance.randint(1, MOST_BLOCKS_OF_AN_ALLOTMENT))):
+        yield {"account": chance.choice(accounts), "units": units}
+
+
+def schemes(count):
+    """Yields a scheme of that number of blocks. Neither its registries nor its blocks are in order."""
+    chance, codes = random.Random(count), codes_of(MOST_REGISTRIES)
+    chance.shuffle(codes)
+    firsts = [number * UNITS_OF_A_BLOCK + 1 for number in range(count)]
+    units = [f"AA:1:{first}-{first + UNITS_OF_A_BLOCK - 1}:AAU" for first in firsts]
+    chance.shuffle(units)
+    registries = []
+    for place, code in enumerate(codes):
+        accounts = chance.sample(range(1, 1_000_000_000), MOST_ACCOUNTS * count // MOST_BLOCKS)
+        allotted = list(allotments(accounts, units[place::MOST_REGISTRIES], chance))
+        registries.append({"accounts": accounts, "allotted": allotted, "code": code, "eligible": True, "kinds": ["AAU"]})
+    yield json.dumps({"records": 1_000, "registries": registries}, separators=(",", ":"))
 
 
 def transfers(codes, count, together=1):
@@ -106,12 +165,16 @@ def delivered_twice(count):
         yield f"deliver {index} {MOMENT}"
 
 
-# The load that the program in C++ also reads.
-ORDERS_ALONE = "orders"
+# The loads that the program in C++ also reads, and the one of schemes alone.
+ORDERS = ("orders", "orders of units that lie apart")
+SCHEMES = "schemes"
 # The name of a load, its lines for a size, and the largest size. A half and a quarter of it are the other sizes.
+# Schemes come first: they are small, and this process grows as it compares outputs.
 LOADS = [
+    (SCHEMES, schemes, MOST_BLOCKS),
     ("commits of no record", commits, 1_200_000),
-    (ORDERS_ALONE, orders, 360_000),
+    (ORDERS[0], orders, 360_000),
+    (ORDERS[1], orders_apart, 360_000),
     ("transfers between 2 registries", lambda count: transfers(codes_of(2), count), 36_000),
     ("transfers between 32 registries", lambda count: transfers(codes_of(32), count), 36_000),
     ("everything delivered twice", delivered_twice, 24_000),
@@ -177,16 +240,17 @@ def inputs_of(name, lines_of, largest, room):
 @functools.cache
 def orders_in_cpp(room):
     """Builds the program in C++ at the first call, and returns its path."""
-    need("g++", f"builds {ORDERS.name}")
+    need("g++", f"builds {IN_CPP.name}")
     built = room / "orders"
-    run_to_end(["g++", "-O2", "-std=c++17", "-Wall", "-Wextra", "-o", built, ORDERS])
+    run_to_end(["g++", "-O2", "-std=c++17", "-Wall", "-Wextra", "-o", built, IN_CPP])
     return built
 
 
 def peer_of(name, given, taken, runs, room):
     """Returns the best time of the load's peer, its name, and the limit of `rehearse` as a multiple of that time."""
-    if name != ORDERS_ALONE:
-        return min(run([sys.executable, "-c", COUNT_WORDS], given, taken)[0] for _ in range(runs)), "Python", MOST_TIMES_PYTHON
+    if name not in ORDERS:
+        words = [sys.executable, "-c", READ_SCHEME if name == SCHEMES else COUNT_WORDS]
+        return min(run(words, given, taken)[0] for _ in range(runs)), "Python", MOST_TIMES_PYTHON
     run([program(), "rehearse"], given, taken)
     written = taken.read_bytes()
     times = []
@@ -206,9 +270,9 @@ def measure(name, lines_of, largest, runs, room):
     for (size, given), of_size in zip(inputs, zip(*measured)):
         length = given.stat().st_size
         best = min(spent for spent, _ in of_size)
-        memory = max(peak for _, peak in of_size) / length
-        kept = kept and memory <= MOST_TIMES_BYTES
-        text = f"{name:<32} {size:>8,}  {length:>10,} bytes  {best:8.3f} s  memory {memory:5.1f}"
+        memory = max(peak for _, peak in of_size)
+        kept = kept and memory <= MOST_TIMES_BYTES * length + BYTES_BESIDE
+        text = f"{name:<32} {size:>8,}  {length:>10,} bytes  {best:8.3f} s  memory {memory / length:5.1f}"
         if before is not None:
             ratio = best / before
             kept = kept and ratio <= MOST_RATIO
@@ -233,7 +297,7 @@ def main():
         for name, lines_of, largest in LOADS:
             if words.load is None or words.load in name:
                 kept = measure(name, lines_of, largest, max(1, words.runs), pathlib.Path(folder)) and kept
-    print(f"limits: ratio {MOST_RATIO}, memory {MOST_TIMES_BYTES:.0f} times the input, {MOST_TIMES_CPP:.0f} times C++ of orders, "
+    print(f"limits: ratio {MOST_RATIO}, memory {MOST_TIMES_BYTES:.0f} times the input and 32 MB, {MOST_TIMES_CPP:.0f} times C++ of orders, "
           f"otherwise {MOST_TIMES_PYTHON:.0f} times Python")
     sys.exit(0 if kept else 1)
 

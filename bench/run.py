@@ -13,8 +13,8 @@ counts little.
 
 Printed are the rates, their ratio, and the processor time of a transfer, with those of the C program; the rate of
 PostgreSQL, if it is installed, which moves one row a time between two databases by PREPARE TRANSACTION in both; the
-system calls of a transfer; the part of its processor time that commits take; and the memory of a run with 32
-registries. The exit status is 1 if a limit is exceeded or a program fails.
+system calls of a transfer; and the memory of a run with 32 registries. The exit status is 1 if a limit is exceeded or a
+program fails.
 """
 
 import argparse
@@ -46,8 +46,6 @@ AHEAD_FROM = 100
 MOST_TIMES_TWO = 1.3
 MOST_MEGABYTES = 150
 POSTGRES = sorted(pathlib.Path("/usr/lib/postgresql").glob("*/bin"))
-# The number of commits of one record by which the time of a commit is measured.
-COMMITS = 4_000
 TRACED = "futex,connect,accept4,sendto,recvfrom,write,fdatasync,fsync,clock_nanosleep"
 
 
@@ -100,7 +98,6 @@ class Bench:
         self.slow = self.room / "slow_sync.so"
         building.build_c(BENCH / "transfers.c", self.peer, "-std=c11", "-lsqlite3", "-lpthread")
         building.build_c(BENCH / "slow_sync.c", self.slow, "-shared", "-fPIC", "-ldl")
-        building.build_c(BENCH / "store.c", self.room / "store", "-std=c11", "-lsqlite3")
 
     def env(self, sync, nap=0):
         return {"LD_PRELOAD": str(self.slow), "SYNC_MICROSECONDS": str(sync), "NAP_MICROSECONDS": str(nap)}
@@ -147,8 +144,7 @@ class Bench:
         return count / seconds, other / seconds, busy / count
 
     def calls(self, registries, count):
-        """Prints the system calls of a transfer of those that go together. Returns the number of its syncs, one for
-        each commit."""
+        """Prints the system calls of a transfer of those that go together."""
         trace = self.room / "trace"
         self.play(registries, count, "together", before=["strace", "-f", "-qq", "-c", "-e", f"trace={TRACED}", "-o", trace])
         found = {}
@@ -158,23 +154,6 @@ class Bench:
                 found[fields[-1]] = int(fields[3]) / count
         print(f"{registries:3} registries, system calls of a transfer: "
               + ", ".join(f"{name} {times:.1f}" for name, times in sorted(found.items(), key=lambda it: -it[1])), flush=True)
-        return found["fdatasync"]
-
-    def commit_cost(self, program, tries):
-        """Returns the processor time of a commit of one record in milliseconds, by a program that appends records to a
-        store."""
-        spent = []
-        for _ in range(tries):
-            folder = pathlib.Path(tempfile.mkdtemp(dir=self.room))
-            spent.append(timed([*program, folder / "store", COMMITS, 1, 0]).busy)
-            shutil.rmtree(folder)
-        return min(spent) / COMMITS * 1000
-
-    def share(self, registries, commits, busy, tries):
-        """Prints the part of the processor time of a transfer, which is in milliseconds, that commits take."""
-        ours, theirs = (self.commit_cost(it, tries) for it in ([building.PROGRAM, "store"], [self.room / "store"]))
-        print(f"{registries:3} registries: a commit of one record takes {ours:.3f} ms of processor time, in C {theirs:.3f} ms; "
-              f"{commits:.1f} commits take {commits * ours / busy:.2f} of the {busy:.2f} ms of a transfer", flush=True)
 
 
 class Session:
@@ -259,9 +238,8 @@ def postgres_rate(room, count, env):
 
 
 def compare_all(bench, given):
-    """Returns whether a rate, or the processor time at many registries, exceeds its limit, and the processor time in
-    milliseconds of a transfer together at the fewest registries with the first of the syncs."""
-    passed, first = False, None
+    """Returns whether a rate, or the processor time at many registries, exceeds its limit."""
+    passed = False
     for sync in given.syncs:
         busy = {}
         for registries in given.registries:
@@ -274,11 +252,10 @@ def compare_all(bench, given):
                 print(f"PostgreSQL, one after another: {other:.0f} a second; kyoto-link has {rate / other:.2f} of that rate", flush=True)
                 passed |= sync >= AHEAD_FROM and rate < other
         least, most = min(busy), max(busy)
-        first = first or busy[least] * 1000
         times = busy[most] / busy[least]
         print(f"processor time of a transfer together at {most} registries: {times:.2f} times that at {least}", flush=True)
         passed |= times > MOST_TIMES_TWO
-    return passed, first
+    return passed
 
 
 def main():
@@ -293,13 +270,11 @@ def main():
     need("gcc", "builds the C program")
     need("strace", "counts system calls")
     program()
-    building.prove_and_build()
     with tempfile.TemporaryDirectory(dir=given.room) as room:
         bench = Bench(room)
-        passed, busy = compare_all(bench, given)
-        least, most = min(given.registries), max(given.registries)
-        bench.share(least, bench.calls(least, 200), busy, given.tries)
-        bench.calls(most, 200)
+        passed = compare_all(bench, given)
+        for registries in (min(given.registries), max(given.registries)):
+            bench.calls(registries, 200)
         megabytes = bench.play(32, 320, "together").megabytes
         print(f"most memory of a run with 32 registries: {megabytes:.0f} MB")
         passed |= megabytes > MOST_MEGABYTES

@@ -3,7 +3,7 @@
 
     no_memory.py [--tests TEXT] [--seconds N] [--within N]
 
-Each test of `test_values` and `test_runs` runs alone, once for each of its allocations, of which that one is refused
+Each test of `test_functions` runs alone, once for each of its allocations, of which that one is refused
 (`no_memory.c`, loaded before the C library). The test must pass, as it repeats a call that
 found no memory, after it has checked the state; or it stops while it reads its own texts. If the runs of a test would
 take longer than `--seconds` together, allocations are skipped at equal distances. The tests of EXEMPT are left out.
@@ -52,7 +52,7 @@ from refused_nodes import LINES, refuse_each_of_node
 from refusing import MOST_OTHERS, OUT_OF_MEMORY, PROCESSORS, Refusing, Share, allocations_of, built, distance, in_turn
 
 TOP = pathlib.Path(__file__).resolve().parent.parent
-TESTS = ("test_values", "test_runs")
+TESTS = "test_functions"
 # The message of a test that found no memory for its own texts, and the status of a test that fails.
 READING = b"the test's own texts"
 FAILED = -signal.SIGABRT
@@ -222,15 +222,13 @@ def commands_over_stores(room, scheme):
     yield Command("show format_one", lambda stores: ["show", scheme, stores, "NZ"], folder=folder, wanted=(0, "".join(shown(OLD_RECORDS)).encode(), b""))
 
 
-def test_programs():
-    """Returns the program of each crate of tests. `rt test` proves and builds those that are missing."""
-    programs = {}
-    for crate in TESTS:
-        built = TOP / "crates" / crate / "out" / f"{crate}_tests"
-        if not built.exists():
-            run_to_end(["rt", "test"], cwd=TOP / "crates" / crate, stdout=subprocess.DEVNULL)
-        programs[crate] = built
-    return programs
+def test_program():
+    """Returns the program of the tests. `rt test` proves and builds it if it is missing."""
+    crate = TOP / "crates" / TESTS
+    built = crate / "out" / f"{TESTS}_tests"
+    if not built.exists():
+        run_to_end(["rt", "test"], cwd=crate, stdout=subprocess.DEVNULL)
+    return built
 
 
 def tests_of(test):
@@ -273,26 +271,22 @@ def refuse_each_of_test(refusing, threads, test, name, seconds, least_runs=0):
 
 
 def refuse_each_of_tests(refusing, is_chosen, seconds, end=None):
-    """Returns whether all chosen tests passed, or stopped while reading, each time. Prints the sums of each program. A
-    test has that number of seconds, or if the moment `end` is given, an equal share of the seconds until then."""
-    programs = test_programs()
-    names = {crate: [it for it in tests_of(test) if is_chosen(it) and not any(it.startswith(exempt) for exempt in EXEMPT)] for crate, test in programs.items()}
-    kept, share = True, Share(sum(map(len, names.values())), end, seconds)
+    """Returns whether all chosen tests passed, or stopped while reading, each time. Prints their sums. A test has that
+    number of seconds, or if the moment `end` is given, an equal share of the seconds until then."""
+    test, ended = test_program(), []
+    names = [it for it in tests_of(test) if is_chosen(it) and not any(it.startswith(exempt) for exempt in EXEMPT)]
+    share = Share(len(names), end, seconds)
     with concurrent.futures.ThreadPoolExecutor(PROCESSORS) as threads:
-        for crate, test in programs.items():
-            ended = []
-            for name in names[crate]:
-                given = share.next()
-                if given > 0:
-                    ended.append(refuse_each_of_test(refusing, threads, test, name, given, COUNTING if end else 0))
-                else:
-                    print(f"test {name}: no time is left for it")
-            kept = all(is_kept for is_kept, _ in ended) and kept
-            counts, refused, passed, reading = (sum(it[part] for _, it in ended) for part in range(4))
-            if names[crate]:
-                print(f"{crate}: {len(ended)} tests, {counts} allocations, {refused} of them refused; passed {passed} times, stopped while "
-                      f"reading {reading} times", flush=True)
-    return kept
+        for name in names:
+            given = share.next()
+            if given > 0:
+                ended.append(refuse_each_of_test(refusing, threads, test, name, given, COUNTING if end else 0))
+            else:
+                print(f"test {name}: no time is left for it")
+    counts, refused, passed, reading = (sum(it[part] for _, it in ended) for part in range(4))
+    print(f"{len(ended)} tests, {counts} allocations, {refused} of them refused; passed {passed} times, stopped while reading "
+          f"{reading} times", flush=True)
+    return all(is_kept for is_kept, _ in ended)
 
 
 def refuse_each_of_commands(refusing, room, end_of_part):

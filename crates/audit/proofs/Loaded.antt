@@ -11,7 +11,7 @@ use Rattle.units.proofs.Lists.Positions.{last_at}
 use Rattle.protocol.proofs.Replaying.{slice_get_front}
 use Rattle.stores.specs.declared.fault.StoreFault.{StoreFault}
 use Rattle.stores.specs.declared.fault.StoreFault.TheVariants.{Device, Full, Damaged, WrongNode, WrongVersion, Reopen, NoMemory}
-use Rattle.desk.specs.Loading.{IsLoaded}
+use Rattle.node_state.specs.Loading.{IsLoaded}
 use Rattle.command_faults.specs.Faults.{of_store}
 use Rattle.command_faults.specs.declared.fault.OpFault.{OpFault}
 use Rattle.command_faults.specs.declared.fault.OpFault.TheVariants.{Input as Line, Read, Write, Store, Stuck, Unsettled, Setup, Undone}

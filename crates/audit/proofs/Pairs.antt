@@ -13,7 +13,7 @@ use Rattle.units.proofs.Lists.Positions.{contains_in, some_at}
 use Rattle.protocol.specs.Registries.{nodes}
 use Rattle.stores.specs.declared.node_store.NodeStore.{Ghosts}
 use Rattle.desk.specs.Keeping.{IsKept, StoredView}
-use Rattle.desk.specs.Views.{StateView, opened_with}
+use Rattle.node_state.specs.Views.{StateView, opened_with}
 use Rattle.desk.proofs.Keepings.{kept_loaded}
 use Rattle.world.specs.Cores.{journal_of, node_of, scheme_of}
 use Rattle.world.specs.declared.any_core.Core.{Core}

@@ -33,7 +33,7 @@ abbrev pub of_weaving : WeaveFault → OpFault
 of_weaving (weaving.Stuck n place) = Stuck n place
 of_weaving weaving.NoMemory = NoMemory
 
--- why no table was made of the journals; no public contract cites it
+-- why no table was made of the journals
 abbrev pub FailsToWeave : Scheme → List (List Input) → OpFault → Type 0
 FailsToWeave scheme journals (Stuck n place) = IsWeaveFault scheme (journal_of scheme journals) (weaving.Stuck n place)
 FailsToWeave scheme journals NoMemory = Unit {0}

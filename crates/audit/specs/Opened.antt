@@ -1,5 +1,5 @@
 -- The states that the records of stores lead to.
-use Rattle.desk.specs.Views.{StateView, opened_with}
+use Rattle.node_state.specs.Views.{StateView, opened_with}
 use Rattle.world.specs.Cores.{journal_of, node_of, scheme_of}
 use Rattle.world.specs.declared.any_core.Core.{Core}
 

@@ -7,7 +7,7 @@ use Rattle.protocol.specs.Cores.{Replays}
 use Rattle.stores.specs.declared.fault.StoreFault.{StoreFault}
 use Rattle.stores.specs.declared.node_store.NodeStore.{Ghosts}
 use Rattle.stores.specs.declared.fault.StoreFault.TheVariants as store_fault
-use Rattle.desk.specs.Loading.{IsLoaded}
+use Rattle.node_state.specs.Loading.{IsLoaded}
 use Rattle.command_faults.specs.declared.fault.OpFault.{OpFault}
 use Rattle.command_faults.specs.declared.fault.OpFault.TheVariants.{Store, NoMemory}
 

@@ -4,7 +4,7 @@ ghost use Rattle.std.specs.Io.KnownBytes.{Appends};
 ghost use Rattle.world.specs.Cores as node_cores;
 ghost use Rattle.audit.specs.Audits.{Audits, FailsToAudit, FailsToFindRun, FailsToWeave, HasRun, IsAuditTable, of_weaving};
 ghost use Rattle.audit.specs.Stores.{AreLoaded, AreUnwritten, FailsToLoad};
-ghost use Rattle.desk.specs.Views.{opened_with};
+ghost use Rattle.node_state.specs.Views.{opened_with};
 ghost use Rattle.protocol.specs.Scheme.{Scheme};
 ghost use Rattle.weave.specs.Following.{IsWeaveFault, IsWoven, journal_of};
 ghost use Rattle.protocol.specs.Input.{Input};
@@ -59,7 +59,7 @@ fn table_of_woven(
 /// # Errors
 ///
 /// Fails with `Stuck` where no run leads to these records, as `audit` does, and with `NoMemory` where memory ran out.
-pub(crate) fn table_of_cores<P: Watch>(
+pub fn table_of_cores<P: Watch>(
     alloc: Global,
     scheme: &Scheme,
     cores: Vec<Core>,

@@ -95,12 +95,12 @@ fn push_waits(
     text: &mut String,
     node: Node,
     place: usize,
-    record: &Input,
+    input: &Input,
     form: Form,
 ) -> Result<(), NoMemory>
-    ensures { OnOk result (string_bytes text.new ≡ string_bytes text.old ++ waits_line form node place record.now) }
+    ensures { OnOk result (string_bytes text.new ≡ string_bytes text.old ++ waits_line form node place input.now) }
 {
-    match record {
+    match input {
         Input::Received { message, .. } => push_awaited(text, node, place, message, form),
         _ => Ok(()),
     }

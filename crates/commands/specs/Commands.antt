@@ -12,7 +12,7 @@ use Rattle.stores.specs.Records.{AreRecords}
 use Rattle.stores.specs.declared.fault.StoreFault.{StoreFault}
 use Rattle.stores.specs.declared.node_store.NodeStore.{Ghosts as StoreGhosts}
 use Rattle.desk.specs.Keeping.{StoredView}
-use Rattle.desk.specs.Views.{opened_with}
+use Rattle.node_state.specs.Views.{opened_with}
 use Rattle.command_faults.specs.Faults.{of_store}
 use Rattle.command_faults.specs.declared.fault.Cause.TheVariants.{Order}
 use Rattle.command_faults.specs.declared.fault.OpFault.{OpFault}
@@ -36,8 +36,9 @@ use Rattle.events.specs.Listing.{FailsToList, Lists}
 use Rattle.trace.specs.Traces.{FailsToTrace, Traces}
 use Rattle.explain.specs.Topics.{Explains, FailsToExplain}
 use Rattle.input_lines.specs.declared.script_line.ScriptLine.{ScriptLine}
-use Rattle.audit.specs.Ended.{states_of}
-use Rattle.run.specs.Runs.{FailsToRun, HaveEnded, IsLoadedAmong, IsRunReport}
+use Rattle.ended_nodes.specs.Ended.{states_of}
+use Rattle.run.specs.Runs.{FailsToRun, IsLoadedAmong, IsRunReport}
+use Rattle.serving.specs.Ends.{HaveEnded}
 use Rattle.commands.specs.Opened.{AreStoresIn, FailsToOpen, HasScheme, HasScript, IsShut, IsStoreIn, LacksFolder, LacksScheme, LacksScript}
 use Rattle.commands.specs.Standing.{FailsToStand, StandsAlone}
 use Rattle.commands.specs.declared.archive.Archive.{Ghosts}

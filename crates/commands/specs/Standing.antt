@@ -9,8 +9,8 @@ use Rattle.protocol.specs.Scheme.{Scheme}
 use Rattle.stores.specs.Records.{written}
 use Rattle.stores.specs.declared.node_store.NodeStore.{Ghosts as StoreGhosts}
 use Rattle.desk.specs.Keeping.{IsKept, StoredView}
-use Rattle.desk.specs.Loading.{IsLoaded}
-use Rattle.desk.specs.Views.{StateView, committed_records, opened_with}
+use Rattle.node_state.specs.Loading.{IsLoaded}
+use Rattle.node_state.specs.Views.{StateView, committed_records, opened_with}
 use Rattle.command_faults.specs.declared.fault.OpFault.{OpFault}
 use Rattle.operator.specs.declared.actions.NodeWords.{NodeWords}
 use Rattle.tags.specs.Keys.{NodeKey}

@@ -6,7 +6,6 @@ mod exports;
 mod obeying;
 mod opening;
 mod performing;
-mod port_nodes;
 mod progress;
 mod running;
 mod standing;
@@ -19,5 +18,5 @@ pub use progress::Progress;
 // The actions, the faults that they end with, and the watches of their progress.
 pub use command_faults;
 pub use operator;
-pub use run;
+pub use serving;
 pub use weave;

@@ -5,7 +5,7 @@ pub trait Progress {
     /// The watch for the records that an audit reads and weaves.
     type OfAudit: weave::Watch + Drop;
     /// The watch for a script's lines, and for the records that a run settles and weaves.
-    type OfRun: run::Watch + weave::Watch + Drop;
+    type OfRun: serving::Watch + weave::Watch + Drop;
 
     /// An audit begins.
     fn of_audit(&self) -> Self::OfAudit;

@@ -1,23 +1,24 @@
 //! The command `run`.
-ghost use Rattle.std.specs.Prelude.{◌≡◌, ◌⊎◌, ◌++◌, ◌∷◌, [], None, IfErr, IfOk, OnOk, map};
+ghost use Rattle.std.specs.Prelude.{◌≡◌, ◌⊎◌, None, IfErr, IfOk, OnOk};
 ghost use Rattle.std.specs.Io.KnownBytes.{Keeps};
-ghost use Rattle.audit.specs.Ended.{stored_in};
+ghost use Rattle.ended_nodes.specs.Ended.{stored_in};
 ghost use Rattle.run.specs.Runs.{FailsToRun, IsLoadedAmong};
 ghost use Rattle.commands.specs.Commands.{AreClosed, AreOpened, FailsToLoadFolder, FailsToRunFolder, FailsToRunLoaded, HasClosingFault, HasReported, IsPortFault, IsUndone, LoadsFolder, RunsFolder, RunsLoaded};
 
 use crate::archive::Archive;
 use crate::opening::{find_folder, open_stores, scheme_at, script_at};
 use crate::progress::Progress;
-use audit::{EndedNode, load_run};
+use audit::load_run;
 use command_faults::{OpFault, store_fault};
-use desk::{OpenGate, Stored, WallClock};
+use desk::{Stored, WallClock};
+use ended_nodes::EndedNode;
 use input_lines::ScriptLine;
 use operator::Strictness;
 use protocol::scheme::Scheme;
-use run::world::Core;
-use run::{EndedRun, LoadedNode, run_script};
-use sessions::Network;
-use sockets::{Port, Ports, SocketNodes};
+use run::{EndedRun, run_script};
+use serving::world::Core;
+use sessions::JoinedNetwork;
+use sockets::{Port, Ports};
 use std::alloc::Global;
 use std::io::{ErrorKind, Write};
 use std::net::{Net, TcpListener, TcpStream};
@@ -25,7 +26,7 @@ use std::rt::Clock as SystemClock;
 use std::sync::Wait;
 use std::thread::Threads;
 use stores::NodeStore;
-use units::NoMemory;
+use units::{NoMemory, Node};
 use weave::Watch;
 
 /// The stores of all nodes in the folder, each with the state that its records lead to.
@@ -68,24 +69,19 @@ fn open_listener<R: Net<Listener = TcpListener, Stream = TcpStream>>(
     }
 }
 
-/// Adds a node, and the address at which it accepts connections.
-fn push<S, R>(
-    nodes: &mut Vec<LoadedNode<SocketNodes<S, R>>>,
+/// Adds the listener of a node, and its address.
+fn push<R: Net>(
+    listeners: &mut Vec<(Node, Port)>,
     ports: &mut Ports<R>,
-    stored: Stored<Core, S>,
+    node: Node,
     listener: Port,
-) -> Result<(), NoMemory>
-where
-    S: NodeStore + Send + Drop,
-    R: Net<Listener = TcpListener, Stream = TcpStream> + SystemClock + Copy + Send + Sync + Drop,
-    ensures { OnOk result (map (λ n. n.stored) nodes.new.items ≡ map (λ n. n.stored) nodes.old.items ++ stored ∷ []) }
-{
-    ports.add(stored.state().node(), &listener)?;
-    nodes.push(LoadedNode { stored, listener })?;
+) -> Result<(), NoMemory> {
+    ports.add(node, &listener)?;
+    listeners.push((node, listener))?;
     Ok(())
 }
 
-/// The nodes, each with a listener of its own, and the dialer that connects to them.
+/// A listener for each of the nodes, and the dialer that connects to them.
 ///
 /// # Errors
 ///
@@ -93,21 +89,20 @@ where
 fn open_all<S, R>(
     net: R,
     alloc: Global,
-    loaded: Vec<Stored<Core, S>>,
-) -> Result<(Vec<LoadedNode<SocketNodes<S, R>>>, Ports<R>), OpFault>
+    loaded: &[Stored<Core, S>],
+) -> Result<(Vec<(Node, Port)>, Ports<R>), OpFault>
 where
-    S: NodeStore + Send + Drop,
-    R: Net<Listener = TcpListener, Stream = TcpStream> + SystemClock + Copy + Send + Sync + Drop,
-    ensures ok { IfOk result (λ opened. map (λ n. n.stored) opened.0.items ≡ loaded.items) }
-    ensures err { IfErr result IsPortFault }
+    S: NodeStore,
+    R: Net<Listener = TcpListener, Stream = TcpStream> + Copy + Drop,
+    ensures { IfErr result IsPortFault }
 {
-    let mut nodes = Vec::new(alloc);
+    let mut listeners = Vec::new(alloc);
     let mut ports = Ports::new(net, alloc);
     for stored in loaded {
         let listener = open_listener(&net)?;
-        push(&mut nodes, &mut ports, stored, listener)?;
+        push(&mut listeners, &mut ports, stored.state().node(), listener)?;
     }
-    Ok((nodes, ports))
+    Ok((listeners, ports))
 }
 
 /// Closes each store.
@@ -160,15 +155,11 @@ where
         ⊎ FailsToRun S.NodeStore (IsLoadedAmong S.NodeStore scheme.now loaded.items) e scheme.now lines.now
         (W.contents writer.old) (W.contents writer.new)) }
 {
-    let (nodes, ports) = open_all(rt, alloc, loaded)?;
-    let network = Network {
-        dialer: ports,
-        clock: WallClock::new(rt),
-        gate: OpenGate,
-    };
+    let (listeners, ports) = open_all(rt, alloc, loaded.as_slice())?;
+    let network = JoinedNetwork::new(listeners, ports, WallClock::new(rt));
     let mut watch = progress.of_run(lines.len());
-    let ended = run_script::<SocketNodes<S, &R>, W, P::OfRun, R>(
-        rt, alloc, scheme, lines, nodes, &network, writer, &mut watch,
+    let ended = run_script::<JoinedNetwork<S, Port, Ports<&R>, WallClock<&R>>, W, P::OfRun, R>(
+        rt, alloc, scheme, lines, loaded, &network, writer, &mut watch,
     );
     watch.finished();
     ended

@@ -2,26 +2,24 @@
 ghost use Rattle.std.specs.Prelude.{◌≡◌, false, true, IfErr, IfOk, Ok, OnOk};
 ghost use Rattle.std.specs.Io.KnownBytes.{Appends};
 ghost use Rattle.desk.specs.Keeping.{IsKept};
-ghost use Rattle.desk.specs.Loading.{IsLoaded};
-ghost use Rattle.desk.specs.Views.{opened_with};
+ghost use Rattle.node_state.specs.Loading.{IsLoaded};
+ghost use Rattle.node_state.specs.Views.{opened_with};
 ghost use Rattle.protocol.specs.Registries.{is_node};
 ghost use Rattle.commands.specs.Standing.{AreKeysOf, FailsToStand, Lives, LoadsNode, StandsAlone, StandsIn, sum_line};
 
 use crate::archive::Archive;
 use crate::exports::Exports;
 use crate::opening::{find_folder, open_store, scheme_at};
-use crate::port_nodes::{KeyedNode, OpenNode};
 use command_faults::{OpFault, SetupFault, store_fault, write_out};
-use desk::{OpenGate, Stored, WallClock};
+use desk::{Stored, WallClock};
 use links::Tagged;
 use node_setup::{Setup, read_setup, sum_of};
 use one_node::{Exporter, Setting, run_alone};
 use operator::NodeWords;
 use protocol::nodes_of;
 use protocol::scheme::Scheme;
-use run::LoadedNode;
-use run::world::Core;
-use sessions::{Network, NodeTypes};
+use serving::world::Core;
+use sessions::{JoinedNetwork, Network};
 use sockets::{LinePort, Ports};
 use std::alloc::Global;
 use std::io::{ErrorKind, Read, Write};
@@ -37,6 +35,18 @@ use units::{NoMemory, Node};
 
 /// How many bytes a line of a link with keys may have before its newline.
 const LONGEST_TAGGED: usize = TAG_DIGITS + 1 + LONGEST_LINE;
+
+/// The network of a node whose links have no keys, with its records in a store of the type `S`, and the connections and
+/// the clock of that runtime.
+type OpenNetwork<S, R> = JoinedNetwork<S, LinePort<R>, Ports<R>, WallClock<R>>;
+
+/// The same for a node whose links have keys.
+type KeyedNetwork<'k, S, R> = JoinedNetwork<
+    S,
+    Tagged<'k, LinePort<R>>,
+    Tagged<'k, Ports<R>>,
+    WallClock<R>,
+>;
 
 /// The setup of a node's run: the scheme, all nodes of the scheme, its own name, where it listens, and how many seconds
 /// lie between two clean-ups.
@@ -179,28 +189,62 @@ where
     }
 }
 
+/// The listener of the only node. Fails with `NoMemory` if memory ran out.
+fn only<L: Drop>(alloc: Global, node: Node, listener: L) -> Result<Vec<(Node, L)>, NoMemory> {
+    let mut listeners = Vec::new(alloc);
+    listeners.push((node, listener))?;
+    Ok(listeners)
+}
+
+/// The network of the node, which listens at that port and connects to these peers. Fails with `NoMemory` if memory ran
+/// out.
+fn open_network<S, R: SystemClock + Drop>(
+    system: R,
+    alloc: Global,
+    node: Node,
+    port: LinePort<R>,
+    peers: Ports<R>,
+) -> Result<OpenNetwork<S, R>, NoMemory> {
+    let listeners = only(alloc, node, port)?;
+    Ok(JoinedNetwork::new(listeners, peers, WallClock::new(system)))
+}
+
+/// The same, with these keys for its links.
+fn keyed_network<'k, S, R: SystemClock + Drop>(
+    system: R,
+    alloc: Global,
+    node: Node,
+    keys: &'k Keys,
+    port: LinePort<R>,
+    peers: Ports<R>,
+) -> Result<KeyedNetwork<'k, S, R>, NoMemory> {
+    let listeners = only(alloc, node, Tagged::new(port, keys, node, alloc))?;
+    let dialer = Tagged::new(peers, keys, node, alloc);
+    Ok(JoinedNetwork::new(listeners, dialer, WallClock::new(system)))
+}
+
 /// Runs the loaded node over that network until its operator ends it.
 fn run_over<N, E, I, W, R>(
     rt: &R,
     alloc: Global,
     standing: Standing<'_>,
-    network: &Network<N>,
-    loaded: LoadedNode<N>,
+    network: &N,
+    loaded: Stored<Core, N::Store>,
     exporter: &E,
     reader: &mut I,
     writer: &mut W,
 ) -> Result<Stored<Core, N::Store>, OpFault>
 where
-    N: NodeTypes,
+    N: Network,
     E: Exporter,
     I: Read,
     W: Write,
     R: Threads + Wait + SystemClock + Sync,
-    requires member { is_node standing.scheme.now loaded.stored.state.node ≡ true }
-    requires opened { loaded.stored.state
-        ≡ opened_with standing.scheme.now loaded.stored.state.node loaded.stored.state.journal }
-    ensures life { IfOk result (λ s. Lives (λ path inputs. E.holds exporter.now path loaded.stored.state.node inputs)
-        standing.entry.scheme.now loaded.stored.state.node loaded.stored.state.journal s.state
+    requires member { is_node standing.scheme.now loaded.state.node ≡ true }
+    requires opened { loaded.state
+        ≡ opened_with standing.scheme.now loaded.state.node loaded.state.journal }
+    ensures life { IfOk result (λ s. Lives (λ path inputs. E.holds exporter.now path loaded.state.node inputs)
+        standing.entry.scheme.now loaded.state.node loaded.state.journal s.state
         (I.remaining reader.old) (I.remaining reader.new) (W.contents writer.old) (W.contents writer.new)) }
     ensures keeps { IfOk result (IsKept N.Store.NodeStore) }
 {
@@ -217,12 +261,13 @@ where
     run_alone(rt, alloc, &setting, loaded, exporter, reader, writer)
 }
 
-/// Runs the node, whose links have no keys, at a port at that address.
-fn run_open<S, E, I, W, R>(
+/// Runs the node, whose links have no keys, at a port of that system at its address.
+fn run_open<S, E, I, W, T, R>(
     rt: &R,
     alloc: Global,
+    system: T,
     standing: Standing<'_>,
-    peers: Ports<&R>,
+    peers: Ports<T>,
     stored: Stored<Core, S>,
     exporter: &E,
     reader: &mut I,
@@ -233,7 +278,14 @@ where
     E: Exporter,
     I: Read,
     W: Write,
-    R: Threads + Wait + SystemClock + Net<Listener = TcpListener, Stream = TcpStream> + Sync,
+    T: Net<Listener = TcpListener, Stream = TcpStream>
+        + Wait
+        + SystemClock
+        + Copy
+        + Send
+        + Sync
+        + Drop,
+    R: Threads + Wait + SystemClock + Sync,
     requires member { is_node standing.scheme.now stored.state.node ≡ true }
     requires opened { stored.state ≡ opened_with standing.scheme.now stored.state.node stored.state.journal }
     ensures life { IfOk result (λ s. Lives (λ path inputs. E.holds exporter.now path stored.state.node inputs)
@@ -241,25 +293,21 @@ where
         (I.remaining reader.old) (I.remaining reader.new) (W.contents writer.old) (W.contents writer.new)) }
     ensures keeps { IfOk result (IsKept S.NodeStore) }
 {
-    let listener = open_port(rt, alloc, standing.listen, LONGEST_LINE)?;
-    let network = Network {
-        dialer: peers,
-        clock: WallClock::new(rt),
-        gate: OpenGate,
-    };
-    let loaded = LoadedNode { stored, listener };
-    run_over::<OpenNode<S, &R>, E, I, W, R>(
-        rt, alloc, standing, &network, loaded, exporter, reader, writer,
+    let port = open_port(system, alloc, standing.listen, LONGEST_LINE)?;
+    let network = open_network(system, alloc, stored.state().node(), port, peers)?;
+    run_over::<OpenNetwork<S, T>, E, I, W, R>(
+        rt, alloc, standing, &network, stored, exporter, reader, writer,
     )
 }
 
-/// Runs the node, whose links have these keys, at a port at that address.
-fn run_keyed<S, E, I, W, R>(
+/// Runs the node, whose links have these keys, at a port of that system at its address.
+fn run_keyed<S, E, I, W, T, R>(
     rt: &R,
     alloc: Global,
+    system: T,
     standing: Standing<'_>,
     keys: &Keys,
-    peers: Ports<&R>,
+    peers: Ports<T>,
     stored: Stored<Core, S>,
     exporter: &E,
     reader: &mut I,
@@ -270,7 +318,14 @@ where
     E: Exporter,
     I: Read,
     W: Write,
-    R: Threads + Wait + SystemClock + Net<Listener = TcpListener, Stream = TcpStream> + Sync,
+    T: Net<Listener = TcpListener, Stream = TcpStream>
+        + Wait
+        + SystemClock
+        + Copy
+        + Send
+        + Sync
+        + Drop,
+    R: Threads + Wait + SystemClock + Sync,
     requires member { is_node standing.scheme.now stored.state.node ≡ true }
     requires opened { stored.state ≡ opened_with standing.scheme.now stored.state.node stored.state.journal }
     ensures life { IfOk result (λ s. Lives (λ path inputs. E.holds exporter.now path stored.state.node inputs)
@@ -278,16 +333,10 @@ where
         (I.remaining reader.old) (I.remaining reader.new) (W.contents writer.old) (W.contents writer.new)) }
     ensures keeps { IfOk result (IsKept S.NodeStore) }
 {
-    let port = open_port(rt, alloc, standing.listen, LONGEST_TAGGED)?;
-    let network = Network {
-        dialer: Tagged::new(peers, keys, standing.node, alloc),
-        clock: WallClock::new(rt),
-        gate: OpenGate,
-    };
-    let listener = Tagged::new(port, keys, standing.node, alloc);
-    let loaded = LoadedNode { stored, listener };
-    run_over::<KeyedNode<'_, S, &R>, E, I, W, R>(
-        rt, alloc, standing, &network, loaded, exporter, reader, writer,
+    let port = open_port(system, alloc, standing.listen, LONGEST_TAGGED)?;
+    let network = keyed_network(system, alloc, stored.state().node(), keys, port, peers)?;
+    run_over::<KeyedNetwork<'_, S, T>, E, I, W, R>(
+        rt, alloc, standing, &network, stored, exporter, reader, writer,
     )
 }
 
@@ -318,9 +367,11 @@ where
 {
     match keys {
         Some(keys) => run_keyed(
-            rt, alloc, standing, keys, peers, stored, exporter, reader, writer,
+            rt, alloc, rt, standing, keys, peers, stored, exporter, reader, writer,
         ),
-        None => run_open(rt, alloc, standing, peers, stored, exporter, reader, writer),
+        None => run_open(
+            rt, alloc, rt, standing, peers, stored, exporter, reader, writer,
+        ),
     }
 }
 

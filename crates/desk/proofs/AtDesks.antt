@@ -11,10 +11,10 @@ use Rattle.stores.specs.Calls.{Appends}
 use Rattle.stores.specs.Faults.{count_after, faults_after}
 use Rattle.stores.specs.declared.fault.StoreFault.{StoreFault}
 use Rattle.stores.specs.declared.node_store.NodeStore.{Ghosts}
-use Rattle.desk.specs.Calls.{Takes, Tells, committed_by, done}
+use Rattle.node_state.specs.Calls.{Takes, Tells, committed_by, done}
 use Rattle.desk.specs.Keeping.{Commits, IsAtDesk, IsKept, StoredView, count_with, fault_after}
-use Rattle.desk.specs.Views.{StateView, tail}
-use Rattle.desk.specs.declared.notes.Told.{Told}
+use Rattle.node_state.specs.Views.{StateView, tail}
+use Rattle.node_state.specs.declared.notes.Told.{Told}
 use Rattle.desk.proofs.Keepings.{after_more, never_ok}
 
 -- what no call changes of a state, except that it may stop

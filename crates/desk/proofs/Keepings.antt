@@ -13,12 +13,12 @@ use Rattle.stores.specs.Calls.{Appends}
 use Rattle.stores.specs.Records.{Places, AreRecords, written}
 use Rattle.stores.specs.declared.fault.StoreFault.{StoreFault}
 use Rattle.stores.specs.declared.node_store.NodeStore.{Ghosts}
-use Rattle.desk.specs.Calls.{Takes, Tells, batch_of, committed_by, done}
+use Rattle.node_state.specs.Calls.{Takes, Tells, batch_of, committed_by, done}
 use Rattle.desk.specs.Keeping.{AreTexts, HaveFirst, IsKept}
-use Rattle.desk.specs.Loading.{IsLoaded}
-use Rattle.desk.specs.Views.{StateView, opened_with, tail}
-use Rattle.desk.specs.declared.notes.Told.{Told}
-use Rattle.desk.proofs.JournalFronts.{front_more}
+use Rattle.node_state.specs.Loading.{IsLoaded}
+use Rattle.node_state.specs.Views.{StateView, opened_with, tail}
+use Rattle.node_state.specs.declared.notes.Told.{Told}
+use Rattle.node_state.proofs.JournalFronts.{front_more}
 
 -- ---- lists
 

@@ -8,14 +8,14 @@ use Rattle.wire.specs.declared.input.Input.{Input}
 use Rattle.wire.specs.declared.message.Message.{Message}
 use Rattle.protocol.specs.History.{is_acknowledged, sends}
 use Rattle.protocol.specs.Unacknowledged.{IsLeastFrom, awaits}
-use Rattle.desk.specs.declared.notes.Note.{Note}
-use Rattle.desk.specs.declared.notes.Told.{Told}
-use Rattle.desk.specs.declared.notes.Told.TheVariants.{Refused}
+use Rattle.node_state.specs.declared.notes.Note.{Note}
+use Rattle.node_state.specs.declared.notes.Told.{Told}
+use Rattle.node_state.specs.declared.notes.Told.TheVariants.{Refused}
 use Rattle.desk.specs.declared.confirmation.Confirmation.{Confirmation}
 use Rattle.desk.specs.declared.confirmation.Confirmation.TheVariants.{Committed, Awaited, Stopped}
-use Rattle.desk.specs.Calls.{Tells}
-use Rattle.desk.specs.Expected.{status_told}
-use Rattle.desk.specs.Views.{StateView, committed_past, past}
+use Rattle.node_state.specs.Calls.{Tells}
+use Rattle.node_state.specs.Expected.{status_told}
+use Rattle.node_state.specs.Views.{StateView, committed_past, past}
 
 -- memory ran out before the state was asked
 abbrev pub lacking : Told

@@ -11,9 +11,9 @@ use Rattle.stores.specs.Faults.{count_after}
 use Rattle.stores.specs.declared.fault.StoreFault.{StoreFault}
 use Rattle.stores.specs.declared.node_store.NodeStore.{Ghosts}
 use Rattle.wire.specs.declared.message.Message.{Message}
-use Rattle.desk.specs.Calls.{batch_of, committed_by, done}
+use Rattle.node_state.specs.Calls.{batch_of, committed_by, done}
 use Rattle.desk.specs.Desks.{HasToSend, IsConfirmation}
-use Rattle.desk.specs.Views.{StateView}
+use Rattle.node_state.specs.Views.{StateView}
 use Rattle.desk.specs.declared.confirmation.Confirmation.{Confirmation}
 
 -- ---- the texts at the places of a store

@@ -1,12 +1,3 @@
-pub mod Views
-pub mod Expected
-pub mod Calls
-pub mod Telling
-pub mod Rooms
-pub mod Loading
-pub mod Covering
-pub mod Settling
-pub mod Counts
 pub mod Desks
 pub mod Keeping
 pub use Rattle.stores.specs.declared.fault.StoreFault

@@ -5,10 +5,10 @@ ghost use Rattle.desk.specs.Desks.{IsOf, IsTakeOf};
 ghost use Rattle.desk.specs.Keeping.{IsAtDesk, IsCommit, IsKept, IsConfirmationOfRun, IsToSend, MayOpen, fault_after};
 
 use crate::confirmation::Confirmation;
-use crate::notes::{Asked, Told};
+use crate::locked::confirmation_of;
 use crate::opening::Opening;
-use crate::state::{State, Taken};
 use crate::stored::Stored;
+use node_state::{Asked, State, Taken, Told};
 use protocol::{NodeCore, Stepped};
 use std::marker::{Model, PhantomData};
 use stores::{NodeStore, StoreFault};
@@ -142,7 +142,7 @@ impl<O: Opening, C: NodeCore, S: NodeStore> AtDesk<O, C, S> {
         ensures same { IsOf taken result }
         ensures confirmation { IsConfirmationOfRun S.NodeStore O.opened taken.length result }
     {
-        self.stored.state().confirmation_of(taken)
+        confirmation_of(self.stored.state(), taken)
     }
 
     /// As `stop` of the state.

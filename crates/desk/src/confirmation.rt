@@ -1,6 +1,6 @@
 //! Whether the result of a call is confirmed.
 
-use crate::state::{Receipt, Taken};
+use node_state::{Receipt, Taken};
 
 /// Whether the records are committed that the journal had when a result was taken.
 #[derive(Drop)]

@@ -1,20 +1,19 @@
 //! A node's state with its store, shared by several threads.
 ghost use Rattle.std.specs.Prelude.{◌≡◌, max, Some, IfOk, MatchResult};
 ghost use Rattle.desk.specs.Desks.{IsOf, IsQueryOf, IsTakeOf, lacking};
-ghost use Rattle.desk.specs.Expected.{stopped};
+ghost use Rattle.node_state.specs.Expected.{stopped};
 ghost use Rattle.desk.specs.Keeping.{AreStored, IsAtDesk, IsCommit, IsKept, IsConfirmationOfRun, IsToSend, MayOpen};
-ghost use Rattle.desk.specs.Telling.{kept};
+ghost use Rattle.node_state.specs.Telling.{kept};
 
 use crate::at_desk::{AtDesk, BATCH};
 use crate::bell::Bell;
 use crate::bells::Bells;
 use crate::confirmation::Confirmation;
 use crate::gate::{Gate, OpenGate, Spot};
-use crate::notes::Asked;
+use crate::locked::query_some;
 use crate::opening::Opening;
-use crate::seat::Seat;
-use crate::state::{Receipt, State, Taken};
 use crate::stored::Stored;
+use node_state::{Asked, Receipt, Seat, State, Taken};
 use protocol::NodeCore;
 use status::TransactionId;
 use std::rt::Clock as SystemClock;
@@ -167,7 +166,7 @@ impl<O: Opening, C: NodeCore, S: NodeStore, B: Bell> Desk<O, C, S, B> {
         ensures asked { result.asked ≡ Asked.Query id }
         ensures told { IsQueryOf id result }
     {
-        self.locked.lock(rt).state().query_some(id)
+        query_some(self.locked.lock(rt).state(), id)
     }
 
     /// Waits until all records are committed that the journal had when this was taken, and returns a receipt of it. The

@@ -4,34 +4,31 @@ ghost use Rattle.std.specs.Prelude.{◌≡◌, false};
 ghost use Rattle.desk.specs.Desks.{IsOf, IsConfirmation, IsQueryOf};
 
 use crate::confirmation::Confirmation;
-use crate::notes::Asked;
-use crate::state::{State, Taken};
+use node_state::{Asked, State, Taken};
 use protocol::NodeCore;
 use status::TransactionId;
 
-impl<C: NodeCore> State<C> {
-    /// As `query`.
-    pub(crate) fn query_some(&self, id: TransactionId) -> Taken
-        ensures asked { result.asked ≡ Asked.Query id }
-        ensures told { IsQueryOf id result }
-    {
-        self.query(id)
-    }
+/// As `query` of the state.
+pub(crate) fn query_some<C: NodeCore>(state: &State<C>, id: TransactionId) -> Taken
+    ensures asked { result.asked ≡ Asked.Query id }
+    ensures told { IsQueryOf id result }
+{
+    state.query(id)
+}
 
-    /// Whether the records that the journal had when this was taken are committed.
-    pub(crate) fn confirmation_of(&self, taken: Taken) -> Confirmation
-        ensures same { IsOf taken result }
-        ensures confirmation { IsConfirmation self.now taken.length result }
-    {
-        match self.receipt(taken) {
-            Ok(receipt) => Confirmation::Committed(receipt),
-            Err(back) => {
-                if self.is_running() {
-                    Confirmation::Awaited(back)
-                } else {
-                    drop(back);
-                    Confirmation::Stopped
-                }
+/// Whether the records that the journal had when this was taken are committed.
+pub(crate) fn confirmation_of<C: NodeCore>(state: &State<C>, taken: Taken) -> Confirmation
+    ensures same { IsOf taken result }
+    ensures confirmation { IsConfirmation state.now taken.length result }
+{
+    match state.receipt(taken) {
+        Ok(receipt) => Confirmation::Committed(receipt),
+        Err(back) => {
+            if state.is_running() {
+                Confirmation::Awaited(back)
+            } else {
+                drop(back);
+                Confirmation::Stopped
             }
         }
     }

@@ -1,13 +1,12 @@
 //! A node's state with the store that has its committed records.
 ghost use Rattle.std.specs.Prelude.{◌≡◌, ◌<◌, false, true, [], length, IfOk, IfErr};
 ghost use Rattle.stores.specs.Faults.{faults_after};
-ghost use Rattle.desk.specs.Calls.{Tells};
+ghost use Rattle.node_state.specs.Calls.{Tells};
 ghost use Rattle.desk.specs.Keeping.{Commits, IsKept};
-ghost use Rattle.desk.specs.Loading.{IsLoaded};
-ghost use Rattle.desk.specs.Views.{opened_with};
+ghost use Rattle.node_state.specs.Loading.{IsLoaded};
+ghost use Rattle.node_state.specs.Views.{opened_with};
 
-use crate::notes::Asked;
-use crate::state::{State, Taken};
+use node_state::{Asked, State, Taken};
 use protocol::NodeCore;
 use std::alloc::Global;
 use std::marker::Model;

@@ -12,5 +12,4 @@ pub mod OpenedAs
 pub mod Becoming
 pub mod Stores
 pub mod Linked
-pub mod Promises
 pub mod Opened

@@ -49,7 +49,7 @@ impl<D: Disk + Drop> SqlStore<D> {
     ghost use Rattle.durable.specs.Stores.{IsHonest, MayHold, content, must_reopen, owner, node_of, faults, HadFiles};
 
     /// Opens the database file and its log, makes them a store of the node where they are new, and migrates a store of
-    /// format One to format Two. An error gives the files back.
+    /// format One to format Two, whose progress it reports to the watch. An error gives the files back.
     ///
     /// Fails with the first of these that applies: `Damaged(0)` where the files hold no store, `WrongVersion`,
     /// `WrongNode`, and `Damaged(p)`, where `p` is the first place without a record in a store of format One. The
@@ -59,33 +59,7 @@ impl<D: Disk + Drop> SqlStore<D> {
     /// be used since a sync failed. Then one of these is the case. No call of the files was made, and they are as they
     /// were. SQLite couldn't open them, and gave them back with its error. Or SQLite could open them, and they hold the
     /// database that it found, a store that was made of new files, or a store that was migrated from format One.
-    pub fn open_files(
-        alloc: Global,
-        files: Files<D>,
-        options: Options,
-        node: Node,
-    ) -> Result<SqlStore<D>, (StoreFault, Files<D>)>
-        ensures runs { IfOk result (λ s. must_reopen D.Disk s ≡ false) }
-        ensures node { IfOk result (λ s. node_of D.Disk s ≡ node) }
-        ensures faults { IfOk result (λ s. faults D.Disk s ≡ 0) }
-        ensures owner { IfOk result (λ s. IsHonest D.Disk s → owner D.Disk s ≡ node_text node) }
-        ensures found { IfOk result (λ s. IsHonest D.Disk s → (db : Trees) × IsFound D.Disk files db
-            × IsOpenedAs db (content D.Disk s)) }
-        ensures durable { IfOk result (λ s. IsHonest D.Disk s → (next : Places) → MayHold D.Disk s next
-            → next ≡ content D.Disk s) }
-        ensures named { IfErr result (λ e. e.0 ≢ StoreFault.Reopen) }
-        ensures fault { IfErr result (λ e. AreClean D.Disk e.1.log e.1.db
-            → IsRefusal D.Disk files (node_text node) e.0) }
-        ensures unharmed { IfErr result (λ e. AreClean D.Disk e.1.log e.1.db → IsUnharmed D.Disk files e.0 e.1) }
-        ensures spared { IfErr result (λ e. AreSpared D.Disk (node_text node) files e.1 e.0) }
-    {
-        SqlStore::open_files_watched(alloc, files, options, node, &mut Nobody)
-    }
-
-    /// As `open_files`, and reports to the watch how far a migration of the store is.
-    ///
-    /// Fails as `open_files` does.
-    pub fn open_files_watched<W: Watch>(
+    pub fn open_files<W: Watch>(
         alloc: Global,
         files: Files<D>,
         options: Options,
@@ -123,36 +97,12 @@ impl<D: Disk + Drop> SqlStore<D> {
         self.node
     }
 
-    /// Closes the store and gives both files back. It makes no call of the device, and can't fail. The files hold the
-    /// content and the owner as they were, now and after a crash. If the store had to be reopened first, opening these
-    /// files decides the content.
-    pub fn close_files(self) -> Files<D>
-        ensures honest { AreClean D.Disk result.log result.db → IsHonest D.Disk self }
-        ensures left { (db : Trees) → MayFind D.Disk result db → (next : Places) → IsOpenedAs db next
-            → ∥ MayHold D.Disk self next ∥₁ }
-        ensures kept { must_reopen D.Disk self ≡ false → (db : Trees) → MayFind D.Disk result db
-            → ∥ slots_in db ≡ content D.Disk self ∥₁ }
-        ensures holds { must_reopen D.Disk self ≡ false
-            → Hold D.Disk result (λ db. IsStore db × (slots_in db ≡ content D.Disk self)
-            × (node_in db ≡ owner D.Disk self)) }
-        ensures files { HadFiles D.Disk self result }
-    {
-        let SqlStore {
-            store_state,
-            node: _,
-            faults: _,
-            options: _,
-            alloc: _,
-        } = self;
-        store_state.into_files()
-    }
-
     /// Copies what the log holds into the database file, closes the store, and gives both files back. After `Ok` the
     /// database file holds the content and the owner by itself, with or without its log, now and after a crash. An
     /// error gives the files back.
     ///
     /// Fails with `Reopen` exactly when the store must be reopened first; then no call of the device is made, and the
-    /// files are those of `close_files`. Fails with `Full` where there is no room for the database file, and with
+    /// files are the store's, as they were. Fails with `Full` where there is no room for the database file, and with
     /// `NoMemory`; then the files hold the content and the owner as they were, now and after a crash. Fails with
     /// `Device` at any call of the files. No clause says what an opening finds in them then, since the database has
     /// none for files after a failed call of the device has shut it.

@@ -9,7 +9,7 @@ Finds P (Ok x) = P x
 Finds {X} P (Err Shape) = (x : X) → P x → ⊥
 Finds P (Err NoMemory) = Unit {0}
 
--- ---- what the code follows; no public contract cites what stands below
+-- ---- a value that may be missing
 
 -- a value as described, or None where there is none
 abbrev pub Reads : {X : Type 0} → (X → Type 0) → Option X → Type 0

@@ -167,7 +167,7 @@ impl<'a> RunLine<'a> {
     }
 }
 
-impl<'a> commands::run::Watch for RunLine<'a> {
+impl<'a> commands::serving::Watch for RunLine<'a> {
     fn answered(&mut self) {
         self.answered = self.answered.saturating_add(1);
         if self.answered >= self.count {

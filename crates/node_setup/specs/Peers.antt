@@ -11,7 +11,7 @@ use Rattle.command_faults.specs.declared.fault.OpFault.{OpFault}
 use Rattle.command_faults.specs.declared.fault.OpFault.TheVariants.{Setup, NoMemory}
 use Rattle.command_faults.specs.declared.setup_fault.SetupFault.TheVariants.{Exposed, Missing, Peer, Stranger, Twice}
 use Rattle.sockets.specs.Addresses.{NodeAddress, address_of}
-use Rattle.sockets.specs.Loopback.{LeadsBack}
+use Rattle.connections.specs.Loopback.{LeadsBack}
 use Rattle.node_setup.specs.Words.{IsPeerWord}
 use Rattle.node_setup.specs.declared.peers.Guard.{Guard}
 use Rattle.node_setup.specs.declared.peers.Guard.TheVariants.{Keys, Loopback}

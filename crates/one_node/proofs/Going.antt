@@ -12,26 +12,26 @@ use Rattle.protocol.specs.Input.TheVariants.{CleanUp}
 use Rattle.protocol.specs.Moment.{Moment}
 use Rattle.protocol.specs.Scheme.{Scheme}
 use Rattle.protocol.specs.declared.node_core.Stepped.TheVariants.{Recorded}
-use Rattle.desk.specs.Settling.{IsSettled}
-use Rattle.desk.specs.Views.{SeatView, StateView, committed_records}
-use Rattle.desk.specs.declared.notes.Asked.{Asked}
-use Rattle.desk.specs.declared.notes.Asked.TheVariants.{Take}
-use Rattle.desk.specs.declared.notes.Lengths.TheVariants.{Grew}
-use Rattle.desk.specs.declared.notes.Ticket.{Ticket}
-use Rattle.desk.specs.declared.notes.Told.{Told}
-use Rattle.desk.specs.declared.notes.Told.TheVariants.{Step}
+use Rattle.settling.specs.Settling.{IsSettled}
+use Rattle.node_state.specs.Views.{SeatView, StateView, committed_records}
+use Rattle.node_state.specs.declared.notes.Asked.{Asked}
+use Rattle.node_state.specs.declared.notes.Asked.TheVariants.{Take}
+use Rattle.node_state.specs.declared.notes.Lengths.TheVariants.{Grew}
+use Rattle.node_state.specs.declared.notes.Ticket.{Ticket}
+use Rattle.node_state.specs.declared.notes.Told.{Told}
+use Rattle.node_state.specs.declared.notes.Told.TheVariants.{Step}
 use Rattle.input_lines.specs.declared.script_line.ScriptLine.{ScriptLine}
 use Rattle.input_lines.specs.declared.script_line.ScriptLine.TheVariants.{Order}
 use Rattle.sessions.specs.Orders.{HasNoOrder, HasOnly, was_ordered}
-use Rattle.run.specs.Answers.{IsBorne, asked_by, node_of}
-use Rattle.run.specs.Heard.{HasHeard}
-use Rattle.run.specs.Notes.{AreOfLines}
-use Rattle.run.specs.Orders.{AreOrders, IsRecordOf}
-use Rattle.run.specs.Runs.{ordered_from, orders_of, since}
-use Rattle.run.specs.declared.answer.ScriptAnswer.{ScriptAnswer}
-use Rattle.run.specs.declared.answer.ScriptAnswer.TheVariants.{NotPossible, Told as Answered}
-use Rattle.run.proofs.Borne.{all_of, borne, borne_more, front_of_front}
-use Rattle.run.proofs.Ordered.{committed_orders, orders_in_turn, others_taken, taken_at, get_after}
+use Rattle.serving.specs.Answers.{IsBorne, asked_by, node_of}
+use Rattle.serving.specs.Heard.{HasHeard}
+use Rattle.serving.specs.Notes.{AreOfLines}
+use Rattle.serving.specs.Orders.{AreOrders, IsRecordOf}
+use Rattle.serving.specs.Committed.{ordered_from, orders_of, since}
+use Rattle.serving.specs.declared.answer.ScriptAnswer.{ScriptAnswer}
+use Rattle.serving.specs.declared.answer.ScriptAnswer.TheVariants.{NotPossible, Told as Answered}
+use Rattle.serving.proofs.Borne.{all_of, borne, borne_more, front_of_front}
+use Rattle.serving.proofs.Ordered.{committed_orders, orders_in_turn, others_taken, taken_at, get_after}
 use Rattle.one_node.specs.Lives.{GoesOn, IsCarried}
 use Rattle.one_node.specs.Shifts.{HasTurns, never}
 use Rattle.one_node.specs.Turns.{IsTurn, Turn, Line, Unread, Exported, Timed, answers_of, lines_of}

@@ -10,7 +10,7 @@ use Rattle.protocol.specs.Scheme.{Scheme}
 use Rattle.protocol.specs.World.{is_order, opening}
 use Rattle.input_lines.specs.declared.script_line.ScriptLine.{ScriptLine}
 use Rattle.input_lines.specs.declared.script_line.ScriptLine.TheVariants as line
-use Rattle.run.specs.Answers.{is_possible, node_of}
+use Rattle.serving.specs.Answers.{is_possible, node_of}
 use Rattle.one_node.specs.Turns.{IsPossible}
 
 -- an order of that node, which takes such an order or doesn't

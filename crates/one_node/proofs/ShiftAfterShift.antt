@@ -5,7 +5,7 @@ use Rattle.units.specs.declared.code.Node.{Node}
 use Rattle.protocol.specs.Input.{Input}
 use Rattle.protocol.specs.Moment.{Moment}
 use Rattle.protocol.specs.Scheme.{Scheme}
-use Rattle.desk.specs.Views.{StateView, committed_records, opened_with}
+use Rattle.node_state.specs.Views.{StateView, committed_records, opened_with}
 use Rattle.one_node.specs.Lives.{AnswersExport, IsLife, IsShift, LeavesJournal, Stands, WorksOn, held_nowhere, records_line}
 use Rattle.one_node.specs.Shifts.{AsksToEnd, IsBegun, IsNext}
 use Rattle.one_node.specs.declared.operator.Next.{Next}

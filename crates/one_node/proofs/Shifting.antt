@@ -12,18 +12,18 @@ use Rattle.protocol.specs.Moment.{Moment}
 use Rattle.protocol.specs.Scheme.{Scheme}
 use Rattle.desk.specs.Keeping.{IsKept, IsOfRun, MayOpen, StoredView}
 use Rattle.desk.specs.NodeStore.{Ghosts}
-use Rattle.desk.specs.Views.{SeatView, StateView, committed_records, opened_with}
-use Rattle.desk.specs.declared.notes.Asked.{Asked}
-use Rattle.desk.specs.declared.notes.Told.{Told}
+use Rattle.node_state.specs.Views.{SeatView, StateView, committed_records, opened_with}
+use Rattle.node_state.specs.declared.notes.Asked.{Asked}
+use Rattle.node_state.specs.declared.notes.Told.{Told}
 use Rattle.streams.specs.Lines.{stream_of}
 use Rattle.input_lines.specs.declared.script_line.ScriptLine.{ScriptLine}
 use Rattle.sessions.specs.Orders.{was_ordered}
 use Rattle.sessions.specs.Threads.{IsOfThread}
-use Rattle.run.specs.Answers.{IsBorne}
-use Rattle.run.specs.Heard.{HasHeard}
-use Rattle.run.specs.Orders.{AreOrders}
-use Rattle.run.specs.declared.answer.ScriptAnswer.{ScriptAnswer}
-use Rattle.run.proofs.Ordering.{has_none}
+use Rattle.serving.specs.Answers.{IsBorne}
+use Rattle.serving.specs.Heard.{HasHeard}
+use Rattle.serving.specs.Orders.{AreOrders}
+use Rattle.serving.specs.declared.answer.ScriptAnswer.{ScriptAnswer}
+use Rattle.serving.proofs.Ordering.{has_none}
 use Rattle.one_node.specs.Lives.{AnswersExport, EndsShift, GoesOn, IsCarried, IsLife, IsShift, begins_with, held_nowhere, opens_with, records_line}
 use Rattle.one_node.specs.Shifts.{AsksToEnd, HasTurns, IsAnswered, Talks, empty_seat, never}
 use Rattle.one_node.specs.Turns.{AsksExport, IsTurn, Turn, Exported, Line, Timed, Unread, answers_of, answers_text, clean_up_moment, lines_of, raw_lines}

@@ -8,13 +8,13 @@ use Rattle.units.specs.declared.code.Node.{Node}
 use Rattle.streams.proofs.Streams.{free_join}
 use Rattle.protocol.specs.Moment.{Moment}
 use Rattle.protocol.specs.Scheme.{Scheme}
-use Rattle.desk.specs.Views.{SeatView}
+use Rattle.node_state.specs.Views.{SeatView}
 use Rattle.input_lines.specs.declared.script_line.ScriptLine.{ScriptLine}
-use Rattle.run.specs.Answers.{answer_line}
-use Rattle.run.specs.Heard.{Grows, HasHeard}
-use Rattle.run.specs.Orders.{HasOrders}
-use Rattle.run.specs.declared.answer.ScriptAnswer.{ScriptAnswer}
-use Rattle.run.proofs.Hearing.{heard_on, same_seat}
+use Rattle.serving.specs.Answers.{answer_line}
+use Rattle.serving.specs.Heard.{Grows, HasHeard}
+use Rattle.serving.specs.Orders.{HasOrders}
+use Rattle.serving.specs.declared.answer.ScriptAnswer.{ScriptAnswer}
+use Rattle.serving.proofs.Hearing.{heard_on, same_seat}
 use Rattle.one_node.specs.Asking.{Asks}
 use Rattle.one_node.specs.Reading.{ReadsLine, ReadsOn, held_of}
 use Rattle.command_faults.specs.declared.fault.OpFault.{OpFault}

@@ -10,16 +10,16 @@ use Rattle.units.specs.declared.code.Node.TheVariants.{Itl}
 use Rattle.protocol.specs.Input.TheVariants.{CleanUp}
 use Rattle.protocol.specs.Moment.{Moment}
 use Rattle.protocol.specs.Scheme.{Scheme}
-use Rattle.desk.specs.Views.{SeatView}
-use Rattle.desk.specs.declared.notes.Asked.{Asked}
-use Rattle.desk.specs.declared.notes.Told.{Told}
+use Rattle.node_state.specs.Views.{SeatView}
+use Rattle.node_state.specs.declared.notes.Asked.{Asked}
+use Rattle.node_state.specs.declared.notes.Told.{Told}
 use Rattle.input_lines.specs.declared.script_line.ScriptLine.{ScriptLine}
 use Rattle.input_lines.specs.declared.script_line.ScriptLine.TheVariants.{Order}
-use Rattle.run.specs.Answers.{answer_line}
-use Rattle.run.specs.Heard.{Grows, HasHeard}
-use Rattle.run.specs.Orders.{HasOrders}
-use Rattle.run.specs.declared.answer.ScriptAnswer.{ScriptAnswer}
-use Rattle.run.specs.declared.answer.ScriptAnswer.TheVariants.{NotPossible, Told as Answered}
+use Rattle.serving.specs.Answers.{answer_line}
+use Rattle.serving.specs.Heard.{Grows, HasHeard}
+use Rattle.serving.specs.Orders.{HasOrders}
+use Rattle.serving.specs.declared.answer.ScriptAnswer.{ScriptAnswer}
+use Rattle.serving.specs.declared.answer.ScriptAnswer.TheVariants.{NotPossible, Told as Answered}
 use Rattle.one_node.specs.Shifts.{HasTurns, Hears, IsAnswered, IsRead, Talks, never}
 use Rattle.one_node.specs.Turns.{IsAnswer, IsTurn, Turn, Line, Unread, Exported, Timed, answers_of, answers_text, export_line, fault_line, lines_of, raw_lines}
 use Rattle.one_node.specs.declared.answering.LineFault.TheVariants as faults

@@ -7,12 +7,12 @@ use Rattle.protocol.specs.Moment.{Moment}
 use Rattle.protocol.specs.Scheme.{Scheme}
 use Rattle.desk.specs.Keeping.{IsAtDesk, IsKept, StoredView}
 use Rattle.desk.specs.NodeStore.{Ghosts}
-use Rattle.desk.specs.Settling.{IsSettled}
-use Rattle.desk.specs.Views.{SeatView, StateView, committed_records, opened_with}
+use Rattle.settling.specs.Settling.{IsSettled}
+use Rattle.node_state.specs.Views.{SeatView, StateView, committed_records, opened_with}
 use Rattle.sessions.specs.Orders.{HasNoOrder, HasOnly, was_ordered}
-use Rattle.run.specs.Answers.{IsBorne}
-use Rattle.run.specs.Orders.{AreOrders}
-use Rattle.run.specs.Runs.{ordered_from}
+use Rattle.serving.specs.Answers.{IsBorne}
+use Rattle.serving.specs.Orders.{AreOrders}
+use Rattle.serving.specs.Committed.{ordered_from}
 use Rattle.one_node.specs.Shifts.{AsksToEnd, IsAnswered, IsBegun, IsNext, IsRead}
 use Rattle.one_node.specs.Turns.{AsksExport, IsExportLine, IsTurn, Turn, Exported, Unread, answers_of, answers_text, lines_of}
 use Rattle.one_node.specs.declared.answering.LineFault.TheVariants as faults

@@ -5,10 +5,10 @@ use Rattle.streams.specs.Lines.{HasNoNewline, stream_of}
 use Rattle.units.specs.declared.code.Node.{Node}
 use Rattle.protocol.specs.Moment.{Moment}
 use Rattle.protocol.specs.Scheme.{Scheme}
-use Rattle.desk.specs.Views.{SeatView}
-use Rattle.desk.specs.declared.notes.Lengths.TheVariants.{Grew}
-use Rattle.run.specs.Heard.{HasHeard}
-use Rattle.run.specs.Orders.{HasOrders}
+use Rattle.node_state.specs.Views.{SeatView}
+use Rattle.node_state.specs.declared.notes.Lengths.TheVariants.{Grew}
+use Rattle.serving.specs.Heard.{HasHeard}
+use Rattle.serving.specs.Orders.{HasOrders}
 use Rattle.command_faults.specs.declared.fault.OpFault.{OpFault}
 use Rattle.one_node.specs.Reading.{held_of}
 use Rattle.one_node.specs.Turns.{AsksExport, IsTurn, Turn, Exported, Unread, answers_of, answers_text, lines_of, raw_lines}

@@ -6,14 +6,14 @@ use Rattle.units.specs.declared.code.Node.TheVariants.{Itl}
 use Rattle.protocol.specs.Input.TheVariants.{CleanUp}
 use Rattle.protocol.specs.Moment.{Moment}
 use Rattle.protocol.specs.Scheme.{Scheme}
-use Rattle.desk.specs.declared.notes.Asked.{Asked}
-use Rattle.desk.specs.declared.notes.Asked.TheVariants.{Take}
-use Rattle.desk.specs.declared.notes.Told.{Told}
+use Rattle.node_state.specs.declared.notes.Asked.{Asked}
+use Rattle.node_state.specs.declared.notes.Asked.TheVariants.{Take}
+use Rattle.node_state.specs.declared.notes.Told.{Told}
 use Rattle.input_lines.specs.declared.script_line.ScriptLine.{ScriptLine}
 use Rattle.input_lines.specs.declared.script_line.ScriptLine.TheVariants.{Order}
-use Rattle.run.specs.Answers.{answer_line, asked_by, is_possible, node_of}
-use Rattle.run.specs.declared.answer.ScriptAnswer.{ScriptAnswer}
-use Rattle.run.specs.declared.answer.ScriptAnswer.TheVariants.{NotPossible, Told as Answered}
+use Rattle.serving.specs.Answers.{answer_line, asked_by, is_possible, node_of}
+use Rattle.serving.specs.declared.answer.ScriptAnswer.{ScriptAnswer}
+use Rattle.serving.specs.declared.answer.ScriptAnswer.TheVariants.{NotPossible, Told as Answered}
 use Rattle.one_node.specs.Asking.{Asks}
 use Rattle.one_node.specs.declared.answering.LineFault.{LineFault}
 use Rattle.one_node.specs.declared.answering.LineFault.TheVariants as faults

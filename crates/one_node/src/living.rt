@@ -2,7 +2,7 @@
 ghost use Rattle.std.specs.Prelude.{◌≡◌, ◌<◌, ◌++◌, ◌∷◌, [], true, false, ℕ, List, All, IfOk, Ok, OnOk, length, string_bytes};
 ghost use Rattle.std.specs.Io.KnownBytes.{Appends};
 ghost use Rattle.desk.specs.Keeping.{IsKept, MayOpen, StoredView};
-ghost use Rattle.desk.specs.Views.{SeatView, committed_records, opened_with};
+ghost use Rattle.node_state.specs.Views.{SeatView, committed_records, opened_with};
 ghost use Rattle.protocol.specs.Input.{Input as AnInput};
 ghost use Rattle.protocol.specs.Registries.{is_node};
 ghost use Rattle.sessions.specs.Orders.{HasNoOrder, HasOnly};
@@ -15,14 +15,14 @@ use crate::life::Life;
 use crate::operator::{Counter, Next, Operator};
 use crate::shift::Shift;
 use crate::timer::Timer;
-use audit::settle_node;
 use command_faults::{OpFault, store_fault, write_out};
 use desk::stores::NodeStore;
 use desk::{Opening, Seat, Stored};
+use ended_nodes::settle_node;
 use protocol::NodeCore;
 use protocol::scheme::Scheme;
-use run::{LoadedNode, end_desk, station_of};
-use sessions::{Muster, Network, NodeThreads, NodeTypes, Station};
+use serving::{end_desk, station_of};
+use sessions::{Muster, Network, NodeThreads, Station};
 use std::alloc::Global;
 use std::fmt::Write as FmtWrite;
 use std::io::{Read, Write};
@@ -37,15 +37,15 @@ use world::Core;
 /// How a node that stands alone is run: the scheme, the nodes that it sends to, how it meets them, and how often its
 /// clock orders a clean-up, if it does.
 #[derive(Drop)]
-pub struct Setting<'a, N: NodeTypes> {
+pub struct Setting<'a, N: Network> {
     pub scheme: &'a Scheme,
     pub peers: &'a [Node],
-    pub network: &'a Network<N>,
+    pub network: &'a N,
     pub clean_up: Option<Duration>,
 }
 
 /// The one station of the node. Fails with `NoMemory` if memory ran out: then its store is closed.
-fn one_station<O: Opening, N: NodeTypes>(
+fn one_station<O: Opening, N: Network>(
     alloc: Global,
     station: Station<O, Core, N>,
 ) -> Result<Vec<Station<O, Core, N>>, NoMemory>
@@ -70,18 +70,18 @@ fn run_station<O, N, I, W, R>(
 ) -> Result<Shift, OpFault>
 where
     O: Opening + Send,
-    N: NodeTypes,
+    N: Network,
     I: Read,
     W: Write,
     R: Threads + Wait + SystemClock + Sync,
     requires member { is_node setting.now.scheme.now node ≡ true }
     requires station { 0 < length stations.now }
     ensures taken { IfOk result (λ s. All (AreOfThread
-        (N.Dialer.leads setting.now.network.now.dialer) N.Dialer.Reader.remaining N.Dialer.Writer.contents
-        N.Store.NodeStore O.opened (N.Clock.tells setting.now.network.now.clock)) s.threads.items) }
+        (N.leads setting.now.network.now) N.Reader.remaining N.Writer.contents
+        N.Store.NodeStore O.opened (N.Clock.tells setting.now.network.now)) s.threads.items) }
     ensures none { IfOk result (λ s. All HasNoOrder s.threads.items) }
     ensures talks { IfOk result (λ s. Operates setting.now.scheme.now node
-        (N.Clock.tells setting.now.network.now.clock)
+        (N.Clock.tells setting.now.network.now)
         operator.old.line.held.items operator.new.line.held.items (I.remaining reader.old) (I.remaining reader.new)
         (W.contents writer.old) (W.contents writer.new) operator.old.count operator.new.count empty_seat s.seat
         (Ok s.next)) }
@@ -114,18 +114,18 @@ fn all_seats(threads: Vec<Seat>, seat: Seat) -> Result<Vec<Seat>, NoMemory>
 }
 
 /// Takes the node's desk apart, which no thread shares any more, and settles the notes made at it.
-fn end_shift<O: Opening, L: Life, N: NodeTypes>(
+fn end_shift<O: Opening, L: Life, N: Network>(
     alloc: Global,
     scheme: &Scheme,
     node: Node,
     stations: Vec<Station<O, Core, N>>,
     shift: Shift,
-) -> Result<(LoadedNode<N>, Next), OpFault>
+) -> Result<(Stored<Core, N::Store>, Next), OpFault>
     requires took { All (HasOnly L.takes) shift.threads.items }
     requires none { All HasNoOrder shift.threads.items }
-    ensures ends { IfOk result (λ r. EndsShift N.Store.NodeStore O.opened scheme.now node L.takes r.0.stored
+    ensures ends { IfOk result (λ r. EndsShift N.Store.NodeStore O.opened scheme.now node L.takes r.0
         shift.seat) }
-    ensures stands { IfOk result (λ r. N.Store.must_reopen r.0.stored.store ≡ false) }
+    ensures stands { IfOk result (λ r. N.Store.must_reopen r.0.store ≡ false) }
     ensures next { IfOk result (λ r. r.1 ≡ shift.next) }
 {
     let Shift {
@@ -136,7 +136,7 @@ fn end_shift<O: Opening, L: Life, N: NodeTypes>(
     let mut stations = stations;
     let popped = stations.pop();
     drop(stations);
-    let Some(Station { desk, listener, .. }) = popped else {
+    let Some(Station { desk, .. }) = popped else {
         drop(threads);
         drop(seat);
         return Err(OpFault::Unsettled { node });
@@ -146,7 +146,7 @@ fn end_shift<O: Opening, L: Life, N: NodeTypes>(
     let core = settle_node(alloc, scheme, node, stored.state(), seats.as_slice())?;
     drop(core);
     drop(seats);
-    Ok((LoadedNode { stored, listener }, next))
+    Ok((stored, next))
 }
 
 /// Makes a desk of the node's state, and runs the node at it for a shift, while the results of the operator's lines are
@@ -155,36 +155,36 @@ fn work_shift<O, L, N, I, W, R>(
     rt: &R,
     alloc: Global,
     setting: &Setting<'_, N>,
-    loaded: LoadedNode<N>,
+    loaded: Stored<Core, N::Store>,
     operator: &mut Operator,
     timer: &mut Timer,
     reader: &mut I,
     writer: &mut W,
-) -> Result<(LoadedNode<N>, Next), OpFault>
+) -> Result<(Stored<Core, N::Store>, Next), OpFault>
 where
     O: Opening + Send,
     L: Life,
-    N: NodeTypes,
+    N: Network,
     I: Read,
     W: Write,
     R: Threads + Wait + SystemClock + Sync,
-    requires member { is_node setting.now.scheme.now loaded.stored.state.node ≡ true }
-    requires may_open { MayOpen N.Store.NodeStore O.opened loaded.stored }
+    requires member { is_node setting.now.scheme.now loaded.state.node ≡ true }
+    requires may_open { MayOpen N.Store.NodeStore O.opened loaded }
     requires takes { (input : AnInput)
         → IsOfThread
-        (N.Dialer.leads setting.now.network.now.dialer) N.Dialer.Reader.remaining N.Dialer.Writer.contents
-        N.Store.NodeStore O.opened (N.Clock.tells setting.now.network.now.clock) input → L.takes input }
-    ensures stands { IfOk result (λ r. N.Store.must_reopen r.0.stored.store ≡ false) }
+        (N.leads setting.now.network.now) N.Reader.remaining N.Writer.contents
+        N.Store.NodeStore O.opened (N.Clock.tells setting.now.network.now) input → L.takes input }
+    ensures stands { IfOk result (λ r. N.Store.must_reopen r.0.store ≡ false) }
     ensures shift { IfOk result (λ r. (seat : SeatView)
-        × EndsShift N.Store.NodeStore O.opened setting.now.scheme.now loaded.stored.state.node L.takes r.0.stored seat
-        × Operates setting.now.scheme.now loaded.stored.state.node
-        (N.Clock.tells setting.now.network.now.clock)
+        × EndsShift N.Store.NodeStore O.opened setting.now.scheme.now loaded.state.node L.takes r.0 seat
+        × Operates setting.now.scheme.now loaded.state.node
+        (N.Clock.tells setting.now.network.now)
         operator.old.line.held.items operator.new.line.held.items (I.remaining reader.old) (I.remaining reader.new)
         (W.contents writer.old) (W.contents writer.new) operator.old.count operator.new.count empty_seat seat
         (Ok r.1)) }
 {
-    let node = loaded.stored.state().node();
-    let stations = one_station(alloc, station_of(alloc, setting.peers, loaded)?)?;
+    let node = loaded.state().node();
+    let stations = one_station(alloc, station_of::<O, N>(alloc, setting.peers, loaded)?)?;
     let ran = run_station(
         rt,
         alloc,
@@ -210,20 +210,16 @@ where
 /// # Errors
 ///
 /// Fails with the store's fault. The store is closed then.
-fn reopen_node<N: NodeTypes>(left: LoadedNode<N>) -> Result<LoadedNode<N>, OpFault>
-    requires { N.Store.must_reopen left.stored.store ≡ false }
-    ensures state { IfOk result (λ r. r.stored.state
-        ≡ opened_with left.stored.state.scheme left.stored.state.node left.stored.state.journal) }
-    ensures keeps { IfOk result (λ r. IsKept N.Store.NodeStore r.stored) }
+fn reopen_node<S: NodeStore + Drop>(left: Stored<Core, S>) -> Result<Stored<Core, S>, OpFault>
+    requires { S.must_reopen left.store ≡ false }
+    ensures state { IfOk result (λ r. r.state
+        ≡ opened_with left.state.scheme left.state.node left.state.journal) }
+    ensures keeps { IfOk result (IsKept S.NodeStore) }
 {
-    let LoadedNode { stored, listener } = left;
-    let node = stored.state().node();
-    match stored.reopen() {
-        Ok(stored) => Ok(LoadedNode { stored, listener }),
-        Err(fault) => {
-            drop(listener);
-            Err(store_fault(node, fault))
-        }
+    let node = left.state().node();
+    match left.reopen() {
+        Ok(stored) => Ok(stored),
+        Err(fault) => Err(store_fault(node, fault)),
     }
 }
 
@@ -233,33 +229,33 @@ fn next_shift<L, N, I, W, R>(
     rt: &R,
     alloc: Global,
     setting: &Setting<'_, N>,
-    loaded: LoadedNode<N>,
+    loaded: Stored<Core, N::Store>,
     operator: &mut Operator,
     timer: &mut Timer,
     reader: &mut I,
     writer: &mut W,
-) -> Result<(LoadedNode<N>, Next), OpFault>
+) -> Result<(Stored<Core, N::Store>, Next), OpFault>
 where
     L: Life,
-    N: NodeTypes,
+    N: Network,
     I: Read,
     W: Write,
     R: Threads + Wait + SystemClock + Sync,
-    requires member { is_node setting.now.scheme.now loaded.stored.state.node ≡ true }
-    requires opened { loaded.stored.state
-        ≡ opened_with setting.now.scheme.now loaded.stored.state.node loaded.stored.state.journal }
-    requires first { (more : List AnInput) × (loaded.stored.state.journal ≡ L.first ++ more) }
+    requires member { is_node setting.now.scheme.now loaded.state.node ≡ true }
+    requires opened { loaded.state
+        ≡ opened_with setting.now.scheme.now loaded.state.node loaded.state.journal }
+    requires first { (more : List AnInput) × (loaded.state.journal ≡ L.first ++ more) }
     requires takes { (input : AnInput)
         → IsOfThread
-        (N.Dialer.leads setting.now.network.now.dialer) N.Dialer.Reader.remaining N.Dialer.Writer.contents
-        N.Store.NodeStore (begins_with setting.now.scheme.now loaded.stored.state.node L.first)
-        (N.Clock.tells setting.now.network.now.clock) input → L.takes input }
+        (N.leads setting.now.network.now) N.Reader.remaining N.Writer.contents
+        N.Store.NodeStore (begins_with setting.now.scheme.now loaded.state.node L.first)
+        (N.Clock.tells setting.now.network.now) input → L.takes input }
     ensures shift { (begun : List ℕ) → IsBegun operator.old.line.held.items begun → IfOk result
-        (λ r. WorksOn setting.now.scheme.now loaded.stored.state.node (N.Clock.tells setting.now.network.now.clock) L.takes
-        loaded.stored.state.journal r.0.stored.state begun operator.new.line.held.items (I.remaining reader.old)
+        (λ r. WorksOn setting.now.scheme.now loaded.state.node (N.Clock.tells setting.now.network.now) L.takes
+        loaded.state.journal r.0.state begun operator.new.line.held.items (I.remaining reader.old)
         (I.remaining reader.new) (W.contents writer.old) (W.contents writer.new) operator.old.count operator.new.count
         r.1) }
-    ensures keeps { IfOk result (λ r. IsKept N.Store.NodeStore r.0.stored) }
+    ensures keeps { IfOk result (λ r. IsKept N.Store.NodeStore r.0) }
 {
     let (left, next) = work_shift::<Brand, L, N, I, W, R>(
         rt, alloc, setting, loaded, operator, timer, reader, writer,
@@ -298,30 +294,30 @@ fn live<L, N, E, I, W, R>(
     rt: &R,
     alloc: Global,
     setting: &Setting<'_, N>,
-    loaded: LoadedNode<N>,
+    loaded: Stored<Core, N::Store>,
     exporter: &E,
     reader: &mut I,
     writer: &mut W,
 ) -> Result<Stored<Core, N::Store>, OpFault>
 where
     L: Life,
-    N: NodeTypes,
+    N: Network,
     E: Exporter,
     I: Read,
     W: Write,
     R: Threads + Wait + SystemClock + Sync,
-    requires member { is_node setting.now.scheme.now loaded.stored.state.node ≡ true }
-    requires opened { loaded.stored.state
-        ≡ opened_with setting.now.scheme.now loaded.stored.state.node loaded.stored.state.journal }
-    requires first { loaded.stored.state.journal ≡ L.first }
+    requires member { is_node setting.now.scheme.now loaded.state.node ≡ true }
+    requires opened { loaded.state
+        ≡ opened_with setting.now.scheme.now loaded.state.node loaded.state.journal }
+    requires first { loaded.state.journal ≡ L.first }
     requires takes { (input : AnInput)
         → IsOfThread
-        (N.Dialer.leads setting.now.network.now.dialer) N.Dialer.Reader.remaining N.Dialer.Writer.contents
-        N.Store.NodeStore (begins_with setting.now.scheme.now loaded.stored.state.node L.first)
-        (N.Clock.tells setting.now.network.now.clock) input → L.takes input }
-    ensures life { IfOk result (λ s. IsLife setting.now.scheme.now loaded.stored.state.node
-        (N.Clock.tells setting.now.network.now.clock) L.takes
-        (λ path records. E.holds exporter.now path loaded.stored.state.node records) loaded.stored.state.journal
+        (N.leads setting.now.network.now) N.Reader.remaining N.Writer.contents
+        N.Store.NodeStore (begins_with setting.now.scheme.now loaded.state.node L.first)
+        (N.Clock.tells setting.now.network.now) input → L.takes input }
+    ensures life { IfOk result (λ s. IsLife setting.now.scheme.now loaded.state.node
+        (N.Clock.tells setting.now.network.now) L.takes
+        (λ path records. E.holds exporter.now path loaded.state.node records) loaded.state.journal
         (committed_records s.state) (I.remaining reader.old) (I.remaining reader.new) (W.contents writer.old) (W.contents writer.new)) }
     ensures keeps { IfOk result (IsKept N.Store.NodeStore) }
 {
@@ -342,15 +338,13 @@ where
         match next {
             Next::On => standing = left,
             Next::Export => {
-                let state = left.stored.state();
+                let state = left.state();
                 operator.answer_export(exporter, state.node(), state.committed(), writer)?;
                 standing = left;
             }
             Next::End => {
-                let LoadedNode { stored, listener } = left;
-                drop(listener);
-                write_end(alloc, &stored, writer)?;
-                return Ok(stored);
+                write_end(alloc, &left, writer)?;
+                return Ok(left);
             }
         }
     }
@@ -383,27 +377,27 @@ pub fn run_alone<N, E, I, W, R>(
     rt: &R,
     alloc: Global,
     setting: &Setting<'_, N>,
-    loaded: LoadedNode<N>,
+    loaded: Stored<Core, N::Store>,
     exporter: &E,
     reader: &mut I,
     writer: &mut W,
 ) -> Result<Stored<Core, N::Store>, OpFault>
 where
-    N: NodeTypes,
+    N: Network,
     E: Exporter,
     I: Read,
     W: Write,
     R: Threads + Wait + SystemClock + Sync,
-    requires member { is_node setting.now.scheme.now loaded.stored.state.node ≡ true }
-    requires opened { loaded.stored.state
-        ≡ opened_with setting.now.scheme.now loaded.stored.state.node loaded.stored.state.journal }
-    ensures life { IfOk result (λ s. IsLife setting.now.scheme.now loaded.stored.state.node
-        (N.Clock.tells setting.now.network.now.clock) (IsOfThread
-        (N.Dialer.leads setting.now.network.now.dialer) N.Dialer.Reader.remaining N.Dialer.Writer.contents
+    requires member { is_node setting.now.scheme.now loaded.state.node ≡ true }
+    requires opened { loaded.state
+        ≡ opened_with setting.now.scheme.now loaded.state.node loaded.state.journal }
+    ensures life { IfOk result (λ s. IsLife setting.now.scheme.now loaded.state.node
+        (N.Clock.tells setting.now.network.now) (IsOfThread
+        (N.leads setting.now.network.now) N.Reader.remaining N.Writer.contents
         N.Store.NodeStore
-        (begins_with setting.now.scheme.now loaded.stored.state.node loaded.stored.state.journal)
-        (N.Clock.tells setting.now.network.now.clock))
-        (λ path records. E.holds exporter.now path loaded.stored.state.node records) loaded.stored.state.journal
+        (begins_with setting.now.scheme.now loaded.state.node loaded.state.journal)
+        (N.Clock.tells setting.now.network.now))
+        (λ path records. E.holds exporter.now path loaded.state.node records) loaded.state.journal
         (committed_records s.state) (I.remaining reader.old) (I.remaining reader.new) (W.contents writer.old) (W.contents writer.new)) }
     ensures keeps { IfOk result (IsKept N.Store.NodeStore) }
 {

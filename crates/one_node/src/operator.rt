@@ -5,9 +5,9 @@ ghost use Rattle.units.specs.declared.code.Node.{Node as ANode};
 ghost use Rattle.protocol.specs.Registries.{is_node};
 ghost use Rattle.protocol.specs.Scheme.{Scheme as AScheme};
 ghost use Rattle.input_lines.specs.declared.script_line.ScriptLine.{ScriptLine as ALine};
-ghost use Rattle.run.specs.Heard.{Grows, HasHeard};
-ghost use Rattle.run.specs.Orders.{HasOrders};
-ghost use Rattle.run.specs.declared.answer.ScriptAnswer.{ScriptAnswer as AnAnswer};
+ghost use Rattle.serving.specs.Heard.{Grows, HasHeard};
+ghost use Rattle.serving.specs.Orders.{HasOrders};
+ghost use Rattle.serving.specs.declared.answer.ScriptAnswer.{ScriptAnswer as AnAnswer};
 ghost use Rattle.one_node.specs.Shifts.{IsBegun, IsNext, IsTimed, Operates, TakesLine, Talks};
 ghost use Rattle.one_node.specs.Turns.{IsAhead, IsAnswer, IsPossible, IsTimely, clean_up_moment, fault_line};
 
@@ -20,8 +20,8 @@ use command_faults::{OpFault, write_out};
 use desk::{Clock, Opening, Seat};
 use input_lines::{ScriptLine, WordsFault};
 use protocol::scheme::Scheme;
-use run::{Nobody, ScriptAnswer, ask, push_answer, takes};
-use sessions::{Network, NodeTypes, Station};
+use serving::{Nobody, ScriptAnswer, ask, push_answer, takes};
+use sessions::{Network, Station};
 use status::Moment;
 use std::alloc::Global;
 use std::io::{Read, Write};
@@ -64,12 +64,12 @@ pub(crate) enum Next {
 
 /// The node that gets the orders and questions: at its station, under its scheme.
 #[derive(Drop)]
-pub(crate) struct Counter<'a, O: Opening, N: NodeTypes> {
+pub(crate) struct Counter<'a, O: Opening, N: Network> {
     pub(crate) scheme: &'a Scheme,
     pub(crate) node: Node,
     /// The node's one station.
     pub(crate) stations: &'a [Station<O, Core, N>],
-    pub(crate) network: &'a Network<N>,
+    pub(crate) network: &'a N,
 }
 
 /// Whether the line is for that node, which is one of the scheme's, and the node takes such an order.
@@ -96,16 +96,16 @@ fn clean_up_moment(line: &ScriptLine) -> Option<Moment>
     }
 }
 
-impl<'a, O: Opening, N: NodeTypes> Counter<'a, O, N> {
+impl<'a, O: Opening, N: Network> Counter<'a, O, N> {
     /// Whether the line orders a clean-up at a moment that is more than a day ahead of the clock.
     fn is_ahead(&self, line: &ScriptLine) -> bool
-        ensures ahead { result ≡ true → IsAhead (N.Clock.tells self.now.network.now.clock) line.now }
-        ensures timely { result ≡ false → IsTimely (N.Clock.tells self.now.network.now.clock) line.now }
+        ensures ahead { result ≡ true → IsAhead (N.Clock.tells self.now.network.now) line.now }
+        ensures timely { result ≡ false → IsTimely (N.Clock.tells self.now.network.now) line.now }
     {
         let Some(moment) = clean_up_moment(line) else {
             return false;
         };
-        let now = self.network.clock.now();
+        let now = self.network.now();
         moment.seconds.saturating_sub(now.seconds) > MOST_AHEAD
     }
 
@@ -150,7 +150,7 @@ impl<'a, O: Opening, N: NodeTypes> Counter<'a, O, N> {
     fn clean_up<R: Wait + SystemClock>(&self, rt: &R, seat: &mut Seat)
         requires member { is_node self.now.scheme.now self.now.node ≡ true }
         requires station { 0 < length self.now.stations.now }
-        ensures { IsTimed self.now.scheme.now self.now.node (N.Clock.tells self.now.network.now.clock) seat.old
+        ensures { IsTimed self.now.scheme.now self.now.node (N.Clock.tells self.now.network.now) seat.old
             seat.new }
     {
         match self.node {
@@ -164,10 +164,10 @@ impl<'a, O: Opening, N: NodeTypes> Counter<'a, O, N> {
         requires log { self.now.node ≡ ANode.Itl }
         requires member { is_node self.now.scheme.now self.now.node ≡ true }
         requires station { 0 < length self.now.stations.now }
-        ensures { IsTimed self.now.scheme.now self.now.node (N.Clock.tells self.now.network.now.clock) seat.old
+        ensures { IsTimed self.now.scheme.now self.now.node (N.Clock.tells self.now.network.now) seat.old
             seat.new }
     {
-        let moment = self.network.clock.now();
+        let moment = self.network.now();
         let line = ScriptLine::Order {
             node: Node::Itl,
             input: Input::CleanUp(moment),
@@ -245,7 +245,7 @@ impl Operator {
     /// Asks the node for what the held line says, and writes the result. A clean-up more than a day ahead of the clock
     /// is refused. Returns `Export` if the line asks for an export, whose result isn't written yet, and `End` if it
     /// asks for the node's end.
-    fn take_line<O: Opening, N: NodeTypes, W: Write, R: Wait + SystemClock>(
+    fn take_line<O: Opening, N: Network, W: Write, R: Wait + SystemClock>(
         &mut self,
         rt: &R,
         counter: &Counter<'_, O, N>,
@@ -255,7 +255,7 @@ impl Operator {
         requires member { is_node counter.now.scheme.now counter.now.node ≡ true }
         requires station { 0 < length counter.now.stations.now }
         ensures { IfOk result (λ next. TakesLine counter.now.scheme.now counter.now.node
-            (N.Clock.tells counter.now.network.now.clock) self.old.line.held.items (W.contents writer.old)
+            (N.Clock.tells counter.now.network.now) self.old.line.held.items (W.contents writer.old)
             (W.contents writer.new) self.old.count self.new.count seat.old seat.new self.new.line.held.items next) }
     {
         if self.line.held() == b"stop".as_slice() {
@@ -290,7 +290,7 @@ impl Operator {
 
     /// Orders the clean-up if one is due. Otherwise reads on, and if a line has been read to its end takes it and
     /// writes its result.
-    fn step<O: Opening, N: NodeTypes, I: Read, W: Write, R: Wait + SystemClock>(
+    fn step<O: Opening, N: Network, I: Read, W: Write, R: Wait + SystemClock>(
         &mut self,
         rt: &R,
         counter: &Counter<'_, O, N>,
@@ -303,7 +303,7 @@ impl Operator {
         requires station { 0 < length counter.now.stations.now }
         ensures { (begun : List ℕ) → IsBegun self.old.line.held.items begun → IfOk result
             (λ next. (left : List ℕ) × Talks counter.now.scheme.now counter.now.node
-            (N.Clock.tells counter.now.network.now.clock) begun (I.remaining reader.old) (I.remaining reader.new)
+            (N.Clock.tells counter.now.network.now) begun (I.remaining reader.old) (I.remaining reader.new)
             (W.contents writer.old) (W.contents writer.new) self.old.count self.new.count seat.old seat.new left
             × IsNext self.new.line.held.items (I.remaining reader.new) left next) }
     {
@@ -329,7 +329,7 @@ impl Operator {
     /// Reads lines and writes their results until the operator asks for an export, which returns `Export`, or for the
     /// node's end, which returns `End`; or until the desk has stopped or has enough notes to settle, which returns
     /// `On`.
-    pub(crate) fn operate<O: Opening, N: NodeTypes, I: Read, W: Write, R: Wait + SystemClock>(
+    pub(crate) fn operate<O: Opening, N: Network, I: Read, W: Write, R: Wait + SystemClock>(
         &mut self,
         rt: &R,
         counter: &Counter<'_, O, N>,
@@ -340,7 +340,7 @@ impl Operator {
     ) -> Result<Next, OpFault>
         requires member { is_node counter.now.scheme.now counter.now.node ≡ true }
         requires station { 0 < length counter.now.stations.now }
-        ensures { Operates counter.now.scheme.now counter.now.node (N.Clock.tells counter.now.network.now.clock)
+        ensures { Operates counter.now.scheme.now counter.now.node (N.Clock.tells counter.now.network.now)
             self.old.line.held.items self.new.line.held.items (I.remaining reader.old) (I.remaining reader.new)
             (W.contents writer.old) (W.contents writer.new) self.old.count self.new.count seat.old seat.new result }
     {

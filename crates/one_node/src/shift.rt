@@ -3,8 +3,8 @@
 ghost use Rattle.std.specs.Prelude.{◌≡◌, ◌<◌, [], true, ℕ, List, All, IfOk, Ok, length};
 ghost use Rattle.std.specs.Thread.{IsSync};
 ghost use Rattle.desk.specs.Keeping.{IsAtDesk, IsKept};
-ghost use Rattle.desk.specs.Settling.{IsSettled};
-ghost use Rattle.desk.specs.Views.{SeatView};
+ghost use Rattle.settling.specs.Settling.{IsSettled};
+ghost use Rattle.node_state.specs.Views.{SeatView};
 ghost use Rattle.protocol.specs.Registries.{is_node};
 ghost use Rattle.sessions.specs.Orders.{HasNoOrder};
 ghost use Rattle.sessions.specs.Threads.{AreOfThread};
@@ -14,7 +14,7 @@ use crate::operator::{Counter, Next, Operator};
 use crate::timer::Timer;
 use command_faults::OpFault;
 use desk::{Opening, Seat};
-use sessions::{LONGEST_MUSTER, Muster, Mustered, NodeThreads, NodeTypes, run_node};
+use sessions::{LONGEST_MUSTER, Muster, Mustered, Network, NodeThreads, run_node};
 use std::alloc::Global;
 use std::io::{Read, Write};
 use std::rt::Clock as SystemClock;
@@ -33,7 +33,7 @@ pub(crate) struct Shift {
     pub(crate) next: Next,
 }
 
-impl<O: Opening, N: NodeTypes> Counter<'_, O, N> {
+impl<O: Opening, N: Network> Counter<'_, O, N> {
     /// Stops the node's desk, so that its threads end.
     fn stop<R: Wait>(&self, rt: &R) {
         for station in self.stations {
@@ -45,7 +45,7 @@ impl<O: Opening, N: NodeTypes> Counter<'_, O, N> {
 impl Operator {
     /// Reads lines as `operate` does, once that many threads have reported at that muster, and then stops the desk.
     /// Fails with `NoMemory` if a thread is missing: then no line was read.
-    fn operate_and_stop<O: Opening, N: NodeTypes, I: Read, W: Write, R: Wait + SystemClock>(
+    fn operate_and_stop<O: Opening, N: Network, I: Read, W: Write, R: Wait + SystemClock>(
         &mut self,
         rt: &R,
         counter: &Counter<'_, O, N>,
@@ -58,7 +58,7 @@ impl Operator {
     ) -> Result<Next, OpFault>
         requires member { is_node counter.now.scheme.now counter.now.node ≡ true }
         requires station { 0 < length counter.now.stations.now }
-        ensures { Operates counter.now.scheme.now counter.now.node (N.Clock.tells counter.now.network.now.clock)
+        ensures { Operates counter.now.scheme.now counter.now.node (N.Clock.tells counter.now.network.now)
             self.old.line.held.items self.new.line.held.items (I.remaining reader.old) (I.remaining reader.new)
             (W.contents writer.old) (W.contents writer.new) self.old.count self.new.count seat.old seat.new result }
     {
@@ -86,18 +86,18 @@ impl Operator {
     ) -> Result<Shift, OpFault>
     where
         O: Opening + Send,
-        N: NodeTypes,
+        N: Network,
         I: Read,
         W: Write,
         R: Threads + Wait + SystemClock + Sync,
         requires member { is_node counter.now.scheme.now counter.now.node ≡ true }
         requires station { 0 < length counter.now.stations.now }
         ensures taken { IfOk result (λ s. All (AreOfThread
-            (N.Dialer.leads node.now.network.now.dialer) N.Dialer.Reader.remaining N.Dialer.Writer.contents
-            N.Store.NodeStore O.opened (N.Clock.tells node.now.network.now.clock)) s.threads.items) }
+            (N.leads node.now.network.now) N.Reader.remaining N.Writer.contents
+            N.Store.NodeStore O.opened (N.Clock.tells node.now.network.now)) s.threads.items) }
         ensures none { IfOk result (λ s. All HasNoOrder s.threads.items) }
         ensures talks { IfOk result (λ s. Operates counter.now.scheme.now counter.now.node
-            (N.Clock.tells counter.now.network.now.clock)
+            (N.Clock.tells counter.now.network.now)
             self.old.line.held.items self.new.line.held.items (I.remaining reader.old) (I.remaining reader.new)
             (W.contents writer.old) (W.contents writer.new) self.old.count self.new.count empty_seat s.seat (Ok s.next)) }
     {
@@ -108,16 +108,16 @@ impl Operator {
             &mut || -> Result<Vec<Seat>, NoMemory>
                 requires { IsSync R.row }
                 ensures taken { IfOk result (λ seats. All (AreOfThread
-                    (N.Dialer.leads node.entry.now.network.now.dialer) N.Dialer.Reader.remaining
-                    N.Dialer.Writer.contents N.Store.NodeStore O.opened
-                    (N.Clock.tells node.entry.now.network.now.clock)) seats.items) }
+                    (N.leads node.entry.now.network.now) N.Reader.remaining
+                    N.Writer.contents N.Store.NodeStore O.opened
+                    (N.Clock.tells node.entry.now.network.now)) seats.items) }
                 ensures none { IfOk result (λ seats. All HasNoOrder seats.items) }
             { run_node(rt, alloc, node) },
             &mut || -> Result<Next, OpFault>
                 requires member { is_node counter.now.scheme.now counter.now.node ≡ true }
                 requires station { 0 < length counter.now.stations.now }
                 ensures { Operates counter.entry.now.scheme.now counter.entry.now.node
-                    (N.Clock.tells counter.entry.now.network.now.clock)
+                    (N.Clock.tells counter.entry.now.network.now)
                     self.entry.now.line.held.items self.exit.now.line.held.items
                     (I.remaining reader.entry.now) (I.remaining reader.exit.now)
                     (W.contents writer.entry.now) (W.contents writer.exit.now)

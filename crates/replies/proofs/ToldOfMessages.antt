@@ -14,14 +14,14 @@ use Rattle.protocol.specs.Deciding.{Verdict, IsRecorded, IsRepeat, IsLate, IsRef
 use Rattle.protocol.specs.Refusing.{MessagesRefusedBy, message_codes}
 use Rattle.protocol.specs.Verdict.{history}
 use Rattle.protocol.specs.declared.node_core.Stepped.{Stepped}
-use Rattle.desk.specs.Calls.{Takes}
+use Rattle.node_state.specs.Calls.{Takes}
 use Rattle.desk.specs.Desks.{IsTakeOf}
-use Rattle.desk.specs.Expected.{told_of, stopped}
-use Rattle.desk.specs.Telling.{kept}
-use Rattle.desk.specs.Views.{StateView, SeatView}
-use Rattle.desk.specs.declared.notes.Note.{Note}
-use Rattle.desk.specs.declared.notes.Told.{Told}
-use Rattle.desk.specs.declared.notes.Told.TheVariants as told
+use Rattle.node_state.specs.Expected.{told_of, stopped}
+use Rattle.node_state.specs.Telling.{kept}
+use Rattle.node_state.specs.Views.{StateView, SeatView}
+use Rattle.node_state.specs.declared.notes.Note.{Note}
+use Rattle.node_state.specs.declared.notes.Told.{Told}
+use Rattle.node_state.specs.declared.notes.Told.TheVariants as told
 use Rattle.replies.specs.Answers.{AnswerView, Backs, EndsBy, Gives, IsBare, IsOfLine, IsRefusedBy, confirmed, is_without_journal}
 use Rattle.replies.specs.Lines.{IsNoLine, IsUnread}
 

@@ -10,12 +10,12 @@ use Rattle.wire.specs.declared.message.Message.{Message}
 use Rattle.wire.specs.declared.reply.Reply.{Reply}
 use Rattle.wire.specs.declared.reply.Reply.TheVariants.{Received, Refused}
 use Rattle.desk.specs.Desks.{IsTakeOf}
-use Rattle.desk.specs.Telling.{is_unjudged, kept}
-use Rattle.desk.specs.Views.{SeatView}
-use Rattle.desk.specs.declared.notes.Asked.TheVariants.{Take}
-use Rattle.desk.specs.declared.notes.Note.{Note}
-use Rattle.desk.specs.declared.notes.Told.{Told}
-use Rattle.desk.specs.declared.notes.Told.TheVariants as told
+use Rattle.node_state.specs.Telling.{is_unjudged, kept}
+use Rattle.node_state.specs.Views.{SeatView}
+use Rattle.node_state.specs.declared.notes.Asked.TheVariants.{Take}
+use Rattle.node_state.specs.declared.notes.Note.{Note}
+use Rattle.node_state.specs.declared.notes.Told.{Told}
+use Rattle.node_state.specs.declared.notes.Told.TheVariants as told
 use Rattle.exchanges.specs.Given.{Given}
 use Rattle.replies.specs.Lines.{IsNoLine, IsUnread}
 

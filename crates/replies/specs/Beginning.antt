@@ -4,10 +4,10 @@ use Rattle.protocol.specs.Moment.{Moment}
 use Rattle.wire.specs.declared.input.Input.TheVariants as inputs
 use Rattle.wire.specs.declared.message.Message.{Message}
 use Rattle.desk.specs.Desks.{IsTakeOf}
-use Rattle.desk.specs.Telling.{kept}
-use Rattle.desk.specs.Views.{SeatView}
-use Rattle.desk.specs.declared.notes.Asked.TheVariants.{Take}
-use Rattle.desk.specs.declared.notes.Note.{Note}
+use Rattle.node_state.specs.Telling.{kept}
+use Rattle.node_state.specs.Views.{SeatView}
+use Rattle.node_state.specs.declared.notes.Asked.TheVariants.{Take}
+use Rattle.node_state.specs.declared.notes.Note.{Note}
 use Rattle.replies.specs.Answers.{Gives, is_without_journal}
 use Rattle.replies.specs.declared.pending.Begun.{Begun}
 use Rattle.replies.specs.declared.pending.Begun.TheVariants.{Answered, Pending}

@@ -6,7 +6,8 @@ ghost use Rattle.replies.specs.Lines.{IsUnread};
 use std::alloc::Global;
 use std::marker::Model;
 use units::Refusal;
-use wire::{Message, decode};
+use wire::Message;
+use wire_lines::decode;
 
 /// A line without its newline, and the message that it writes.
 #[derive(Debug)]

@@ -6,11 +6,11 @@ use Rattle.std.proofs.lemmas.List.{length-map, map-append}
 use Rattle.std.proofs.lemmas.Option.{slice_get_within}
 use Rattle.units.proofs.Lists.OneValue.{one_some}
 use Rattle.units.specs.declared.memory.NoMemory.{NoMemory}
-use Rattle.desk.specs.Views.{SeatView}
+use Rattle.node_state.specs.Views.{SeatView}
 use Rattle.protocol.specs.Input.{Input}
 use Rattle.sessions.specs.Orders.{AreAll}
 use Rattle.run.specs.Gathered.{AreGatheredTo, IsGathered}
-use Rattle.run.proofs.HeardLines.{last_or_before}
+use Rattle.serving.proofs.HeardLines.{last_or_before}
 
 drop_at : {X : Type 0} (k : ℕ) (xs : List X) (x : X) (ys : List X) → drop k xs ≡ x ∷ ys → (slice_get xs k ≡ Some x) × (drop (suc k) xs ≡ ys)
 drop_at zero [] x ys e = absurd (cc (e))

@@ -9,7 +9,7 @@ use Rattle.protocol.specs.World.{is_order, opening}
 use Rattle.protocol.proofs.NodeIndices.{node_there, index_within}
 use Rattle.input_lines.specs.declared.script_line.ScriptLine.{ScriptLine}
 use Rattle.input_lines.specs.declared.script_line.ScriptLine.TheVariants as line
-use Rattle.run.specs.Answers.{is_possible, node_of}
+use Rattle.serving.specs.Answers.{is_possible, node_of}
 
 both : (a b : Bool) → a ≡ true → b ≡ true → (a && b) ≡ true
 both true b e f = f

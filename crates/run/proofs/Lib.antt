@@ -1,17 +1,7 @@
-pub mod HeardLines
-pub mod Hearing
-pub mod Lines
-pub mod Noting
-pub mod Ordering
 pub mod Indices
 pub mod Wired
-pub mod Undone
-pub mod WorkedNotes
-pub mod Borne
 pub mod Collected
 pub mod Opened
-pub mod Ordered
 pub mod Reported
 pub mod Written
 pub mod WorkedOrders
-pub mod WorkedUndone

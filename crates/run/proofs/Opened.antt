@@ -1,5 +1,5 @@
 -- Nodes that were loaded, at the beginning of a run and at its end.
-use Rattle.std.proofs.Common.{◌≡◌, ◌∙◌, ◌++◌, ℕ, zero, suc, Bool, true, false, not, IsTrue, ◌↔◌, List, [], ◌∷◌, Some, refl, sym, ap, length, map, take, arith, length-append}
+use Rattle.std.proofs.Common.{◌≡◌, ◌∙◌, ◌++◌, ℕ, zero, suc, List, [], ◌∷◌, Some, refl, sym, ap, length, map, take, arith, length-append}
 use Rattle.std.specs.Prelude.{All, slice_get}
 use Rattle.std.proofs.lemmas.List.{take_all}
 use Rattle.std.proofs.lemmas.List.Elements.{All-cons, All-contains, All-nil}
@@ -10,13 +10,10 @@ use Rattle.protocol.specs.Input.{Input}
 use Rattle.protocol.specs.Scheme.{Scheme}
 use Rattle.units.proofs.Lists.Membership.{In_slice_get}
 use Rattle.units.proofs.Lists.Positions.{contains_in}
-use Rattle.desk.specs.StoreFault.{StoreFault}
-use Rattle.desk.specs.StoreFault.TheVariants.{Device, Full, Damaged, WrongNode, WrongVersion, Reopen, NoMemory}
 use Rattle.desk.specs.NodeStore.{Ghosts}
-use Rattle.command_faults.specs.Faults.{of_store}
 use Rattle.desk.specs.Keeping.{StoredView, MayOpen}
-use Rattle.desk.specs.Views.{StateView, opened_with}
-use Rattle.run.specs.Runs.{HasFailed, IsLateFault, IsLoadedAmong}
+use Rattle.node_state.specs.Views.{StateView, opened_with}
+use Rattle.run.specs.Runs.{IsLoadedAmong}
 
 all_placed : {X : Type 0} (P : X → Type 0) (xs : List X) → ((k : ℕ) (x : X) → slice_get xs k ≡ Some x → P x) → All P xs
 all_placed P [] each = All-nil P
@@ -44,29 +41,8 @@ module _ {S : Type 0} (g : Ghosts S) (scheme : Scheme) (loaded : List (StoredVie
         runs = ap (λ (h : StateView). h.runs) as_opened;
       })
 
-module _ {S : Type 0} (g : Ghosts S) (opened : Scheme → Node → List Input → ℕ → Type 0) (scheme : Scheme) where
-  pub late_store : (n : Node) (fault : StoreFault) → HasFailed g opened n fault → IsLateFault g opened scheme (of_store n fault)
-  late_store n Device h = h
-  late_store n Full h = h
-  late_store n (Damaged p) h = h
-  late_store n WrongNode h = h
-  late_store n WrongVersion h = h
-  late_store n Reopen h = h
-  late_store n NoMemory h = tt
-
 -- one more element of a list, whose names are the first of those names
 pub names_more : {X Y : Type 0} (f : X → Y) (xs : List X) (x : X) (zs : List X) (ys : List Y) → zs ≡ xs ++ x ∷ [] → slice_get ys (length xs) ≡ Some (f x) → map f xs ≡ take (length xs) ys → map f zs ≡ take (length zs) ys
 names_more {X} {Y} f xs x zs ys more at same =
     part_more f xs x zs ys (length xs) more (slice_get_within ys (length xs) (f x) at) same (sym (get_or_from_slice_get ys (length xs) (f x) (f x) at))
     ∙ ap (λ n. take n ys) (sym (ap (λ (l : List X). length l) more ∙ length-append xs (x ∷ [])))
-
--- ---- a test that came out otherwise
-
-pub not_told : {P : Type 0} (test : Bool) → (IsTrue test ↔ P) → not test ≡ true → P → ⊥
-not_told test told differ p =
-    let never : false ≡ true = sym (ap not (told.1 p)) ∙ differ in
-    cc (never)
-
-pub told_again : {P : Type 0} (test : Bool) → (IsTrue test ↔ P) → not test ≡ false → P
-told_again true told same = told.0 refl
-told_again false told same = absurd (cc (same))

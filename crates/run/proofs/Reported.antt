@@ -10,26 +10,26 @@ use Rattle.units.proofs.Lists.OneValue.{one_some}
 use Rattle.units.proofs.Lists.Positions.{some_at}
 use Rattle.protocol.specs.Registries.{nodes, index_of}
 use Rattle.protocol.specs.declared.node_core.Stepped.TheVariants.{Recorded}
-use Rattle.desk.specs.Settling.{IsSettled, Stood}
-use Rattle.desk.specs.Views.{StateView, SeatView, committed_records}
-use Rattle.desk.specs.declared.notes.Asked.TheVariants.{Take}
-use Rattle.desk.specs.declared.notes.Ticket.{Ticket}
-use Rattle.desk.specs.declared.notes.Told.TheVariants.{Step}
+use Rattle.settling.specs.Settling.{IsSettled, Stood}
+use Rattle.node_state.specs.Views.{StateView, SeatView, committed_records}
+use Rattle.node_state.specs.declared.notes.Asked.TheVariants.{Take}
+use Rattle.node_state.specs.declared.notes.Ticket.{Ticket}
+use Rattle.node_state.specs.declared.notes.Told.TheVariants.{Step}
 use Rattle.sessions.specs.Orders.{HasNoOrder, HasOnly, was_ordered}
 use Rattle.weave.specs.Following.{journal_of}
 use Rattle.protocol.proofs.NodeIndices.{node_of_index, index_within}
 use Rattle.weave.proofs.NodeIndices.{journal_is}
 use Rattle.input_lines.specs.declared.script_line.ScriptLine.{ScriptLine}
-use Rattle.run.specs.Answers.{IsAnswer, IsBorne, IsRecordAt, answer_lines, asked_by, first_undone, node_of}
+use Rattle.serving.specs.Answers.{IsAnswer, IsBorne, IsRecordAt, answer_lines, asked_by, first_undone, node_of}
 use Rattle.run.specs.Gathered.{AreGathered, IsGathered}
-use Rattle.run.specs.Heard.{IsHeard}
-use Rattle.run.specs.Orders.{IsPlayed}
-use Rattle.audit.specs.Reported.{IsReported, committed_by_all}
+use Rattle.serving.specs.Heard.{IsHeard}
+use Rattle.serving.specs.Orders.{IsPlayed}
+use Rattle.ended_nodes.specs.Reported.{IsReported, committed_by_all}
 use Rattle.run.specs.Runs.{HaveOthers, IsRunReport}
-use Rattle.run.specs.declared.answer.ScriptAnswer.{ScriptAnswer}
-use Rattle.run.specs.declared.answer.ScriptAnswer.TheVariants.{NotPossible, Told as Answered}
-use Rattle.run.proofs.Borne.{borne}
-use Rattle.run.proofs.Ordered.{committed_orders, others_taken}
+use Rattle.serving.specs.declared.answer.ScriptAnswer.{ScriptAnswer}
+use Rattle.serving.specs.declared.answer.ScriptAnswer.TheVariants.{NotPossible, Told as Answered}
+use Rattle.serving.proofs.Borne.{borne}
+use Rattle.serving.proofs.Ordered.{committed_orders, others_taken}
 
 image_or : {X Y : Type 0} (f : X → Y) (xs : List X) (k : ℕ) (x : X) (d : Y) → slice_get xs k ≡ Some x → slice_index_or (map f xs) k d ≡ f x
 image_or f [] zero x d e = absurd (cc (e))

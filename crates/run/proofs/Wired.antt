@@ -7,7 +7,7 @@ use Rattle.std.proofs.lemmas.Option.{slice_get_within, get_or_from_slice_get}
 use Rattle.units.proofs.Lists.Positions.{some_at}
 use Rattle.units.specs.declared.memory.NoMemory.{NoMemory}
 use Rattle.units.specs.declared.code.Node.{Node}
-use Rattle.desk.specs.Views.{SeatView}
+use Rattle.node_state.specs.Views.{SeatView}
 use Rattle.sessions.specs.Orders.{AreAll}
 use Rattle.run.specs.Wiring.{peers_of}
 

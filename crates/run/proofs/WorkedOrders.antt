@@ -9,16 +9,17 @@ use Rattle.protocol.specs.Input.TheVariants as input
 use Rattle.protocol.specs.NotifiedStatus.TheVariants as notified
 use Rattle.protocol.specs.declared.node_core.Stepped.TheVariants.{Recorded}
 use Rattle.protocol.proofs.WorkedScheme.{nz, jp, nz_node, jp_node, block, nz1, scheme_s, first_of_may, number, notification}
-use Rattle.desk.specs.Views.{StateView}
-use Rattle.desk.specs.declared.notes.Ticket.{Ticket}
-use Rattle.desk.specs.declared.notes.Told.TheVariants.{Step, Status, Refused}
+use Rattle.node_state.specs.Views.{StateView}
+use Rattle.node_state.specs.declared.notes.Ticket.{Ticket}
+use Rattle.node_state.specs.declared.notes.Told.TheVariants.{Step, Status, Refused}
 use Rattle.input_lines.specs.declared.script_line.ScriptLine.{ScriptLine}
 use Rattle.input_lines.specs.declared.script_line.ScriptLine.TheVariants.{Order, Status as Ask}
-use Rattle.run.specs.Orders.{AreOrders}
-use Rattle.run.specs.declared.answer.ScriptAnswer.{ScriptAnswer}
-use Rattle.run.specs.declared.answer.ScriptAnswer.TheVariants.{NotPossible, Told}
+use Rattle.serving.specs.Orders.{AreOrders}
+use Rattle.serving.specs.declared.answer.ScriptAnswer.{ScriptAnswer}
+use Rattle.serving.specs.declared.answer.ScriptAnswer.TheVariants.{NotPossible, Told}
 use Rattle.sessions.specs.Orders.{was_ordered}
-use Rattle.run.specs.Runs.{HaveOthers, orders_of, since}
+use Rattle.run.specs.Runs.{HaveOthers}
+use Rattle.serving.specs.Committed.{orders_of, since}
 
 abbrev close : Input
 close = input.CloseAccount (number 2 (lit< tt))

@@ -5,17 +5,18 @@ use Rattle.protocol.specs.Scheme.{Scheme}
 use Rattle.command_faults.specs.declared.fault.OpFault.{OpFault}
 use Rattle.command_faults.specs.declared.fault.OpFault.TheVariants.{Input as Line, Read, Write, Store, Stuck, Unsettled, Setup, Undone, NoMemory}
 use Rattle.input_lines.specs.declared.script_line.ScriptLine.{ScriptLine}
-use Rattle.run.specs.Answers.{answer_lines}
+use Rattle.serving.specs.Answers.{answer_lines}
 use Rattle.units.specs.declared.code.Node.{Node}
 use Rattle.protocol.specs.Input.{Input}
 use Rattle.desk.specs.NodeStore.{Ghosts}
 use Rattle.desk.specs.Keeping.{StoredView}
-use Rattle.run.specs.Heard.{AreHeard}
-use Rattle.audit.specs.Ended.{states_of}
-use Rattle.audit.specs.Reported.{IsTableFault}
-use Rattle.run.specs.Runs.{FailsToRun, HasAnswered, HaveEnded, IsLateFault, IsRunReport}
-use Rattle.run.specs.declared.answer.ScriptAnswer.{ScriptAnswer}
-use Rattle.desk.specs.Views.{StateView, SeatView}
+use Rattle.serving.specs.Heard.{AreHeard}
+use Rattle.ended_nodes.specs.Ended.{states_of}
+use Rattle.ended_nodes.specs.Reported.{IsTableFault}
+use Rattle.run.specs.Runs.{FailsToRun, HasAnswered, IsRunReport}
+use Rattle.serving.specs.Ends.{HaveEnded, IsLateFault}
+use Rattle.serving.specs.declared.answer.ScriptAnswer.{ScriptAnswer}
+use Rattle.node_state.specs.Views.{StateView, SeatView}
 
 module _ {S : Type 0} (g : Ghosts S) (opened : Scheme → Node → List Input → ℕ → Type 0) (scheme : Scheme) where
   pub late_fault : (e : OpFault) (ends : List (StoredView S)) (seats : List (List SeatView)) → HaveEnded g opened scheme ends → IsTableFault scheme (states_of ends) seats e → IsLateFault g opened scheme e

@@ -1,7 +1,7 @@
 -- The seats of all threads at the nodes' desks. No public contract cites it.
 use Rattle.std.specs.Prelude.{◌≡◌, ◌<◌, ℕ, All, List, [], ◌∷◌, ◌++◌, length, slice_get, Some}
 use Rattle.protocol.specs.Input.{Input}
-use Rattle.desk.specs.Views.{SeatView}
+use Rattle.node_state.specs.Views.{SeatView}
 use Rattle.sessions.specs.Orders.{HasOnly}
 
 -- the inputs that the threads of a run have recorded

@@ -1,31 +1,30 @@
 -- The report of a run with threads.
-use Rattle.std.specs.Prelude.{◌≡◌, ◌≢◌, ◌⊎◌, ◌<◌, ◌+◌, ℕ, cond, All, List, [], ◌∷◌, ◌++◌, Option, None, Some, false, drop, length, map, slice_get, take}
+use Rattle.std.specs.Prelude.{◌≡◌, ◌⊎◌, ◌<◌, ◌+◌, ℕ, All, List, ◌++◌, Option, Some, false, length, slice_get, take}
 use Rattle.std.specs.Io.KnownBytes.{Appends, Keeps}
 use Rattle.units.specs.declared.code.Node.{Node}
 use Rattle.protocol.specs.Input.{Input}
 use Rattle.protocol.specs.Scheme.{Scheme}
 use Rattle.protocol.specs.Registries.{nodes, index_of}
-use Rattle.desk.specs.StoreFault.{StoreFault}
 use Rattle.desk.specs.NodeStore.{Ghosts}
-use Rattle.desk.specs.Keeping.{IsAtDesk, IsKept, StoredView}
-use Rattle.desk.specs.Views.{StateView, SeatView, committed_records}
-use Rattle.desk.specs.declared.notes.Ticket.{Ticket}
+use Rattle.desk.specs.Keeping.{StoredView}
+use Rattle.node_state.specs.Views.{StateView, SeatView}
 use Rattle.sessions.specs.Orders.{was_ordered}
-use Rattle.weave.specs.Following.{IsWeaveFault, journal_of}
-use Rattle.weave.specs.declared.fault.WeaveFault.TheVariants as weaving
+use Rattle.weave.specs.Following.{journal_of}
 use Rattle.command_faults.specs.declared.fault.OpFault.{OpFault}
-use Rattle.command_faults.specs.declared.fault.OpFault.TheVariants.{Write, Store, Stuck, Unsettled, NoMemory}
+use Rattle.command_faults.specs.declared.fault.OpFault.TheVariants.{Write, NoMemory}
 use Rattle.report.specs.declared.form.Form.TheVariants.{Lines}
 use Rattle.audit.specs.Audits.{IsAuditTable}
-use Rattle.audit.specs.Ended.{states_of}
-use Rattle.audit.specs.Reported.{IsTableFault, committed_by_all}
+use Rattle.ended_nodes.specs.Ended.{states_of}
+use Rattle.ended_nodes.specs.Reported.{committed_by_all}
 use Rattle.input_lines.specs.declared.script_line.ScriptLine.{ScriptLine}
-use Rattle.run.specs.Answers.{AreAnswers, IsAnswer, answer_lines, first_undone}
-use Rattle.run.specs.Heard.{AreHeard}
-use Rattle.run.specs.Orders.{AreOrders}
-use Rattle.run.specs.declared.answer.ScriptAnswer.{ScriptAnswer}
+use Rattle.serving.specs.Answers.{AreAnswers, IsAnswer, answer_lines, first_undone}
+use Rattle.serving.specs.Committed.{orders_of, since}
+use Rattle.serving.specs.Ends.{HaveEnded, IsLateFault}
+use Rattle.serving.specs.Heard.{AreHeard}
+use Rattle.serving.specs.Orders.{AreOrders}
+use Rattle.serving.specs.declared.answer.ScriptAnswer.{ScriptAnswer}
 
--- ---- how the nodes of a run end
+-- ---- the nodes of a run
 
 -- the state at a desk has the scheme, and belongs to one of the nodes that were loaded: its journal at the opening is
 -- that node's, and so was its store's count of faults
@@ -38,60 +37,7 @@ pub record IsLoadedAmong {S : Type 0} (g : Ghosts S) (scheme : Scheme) (loaded :
   pub journal_is : journal ≡ old.state.journal
   pub faults_are : faults ≡ g.faults old.store
 
--- what is known of the nodes of the run when their desks open
-module _ {S : Type 0} (g : Ghosts S) (opened : Scheme → Node → List Input → ℕ → Type 0) where
-  -- no fault stopped the store, which has just the committed records
-  pub record EndsWell (kept : StoredView S) : Type 0 where
-    pub keeps : IsKept g kept
-    pub at : IsAtDesk g opened kept None
-
-  -- each node of the scheme ended well
-  pub record HaveEnded (scheme : Scheme) (ends : List (StoredView S)) : Type 0 where
-    pub nodes_are : map (λ e. e.state.node) ends ≡ nodes scheme
-    pub well : All (EndsWell) ends
-
-  -- that fault stopped the node's store
-  pub record HasFailed (n : Node) (fault : StoreFault) : Type 0 where
-    pub kept : StoredView S
-    pub keeps : IsKept g kept
-    pub node_is : kept.state.node ≡ n
-    pub at : IsAtDesk g opened kept (Some fault)
-
-  -- the desk in that node's place is that of another node
-  pub record IsMisplaced (n : Node) : Type 0 where
-    pub kept : StoredView S
-    pub keeps : IsKept g kept
-    pub other : kept.state.node ≢ n
-
-  -- all nodes ended well, and the notes of their threads have that fault
-  pub record HasTableFault (scheme : Scheme) (fault : OpFault) : Type 0 where
-    pub ends : List (StoredView S)
-    pub seats : List (List SeatView)
-    pub ended : HaveEnded scheme ends
-    pub cause : IsTableFault scheme (states_of ends) seats fault
-
-  -- a fault after the script's end, except a fault of the output
-  abbrev pub IsLateFault : Scheme → OpFault → Type 0
-  IsLateFault scheme (Store n fault) = HasFailed n fault
-  IsLateFault scheme (Unsettled n) = IsMisplaced n ⊎ HasTableFault scheme (Unsettled n)
-  IsLateFault scheme (Stuck n place) = HasTableFault scheme (Stuck n place)
-  IsLateFault scheme NoMemory = Unit {0}
-  IsLateFault scheme _ = ⊥
-
 -- ---- a script
-
--- those of the records that were ordered, each with its place; the first record has the given place
-abbrev pub ordered_from : ℕ → List Input → List Ticket
-ordered_from place [] = []
-ordered_from place (input ∷ inputs) = cond (was_ordered input) (record { place = place; input = input } ∷ ordered_from (place + 1) inputs) (ordered_from (place + 1) inputs)
-
--- the committed records since the opening
-abbrev pub since : StateView → List Input
-since held = drop held.opening (committed_records held)
-
--- those of them that were ordered
-abbrev pub orders_of : StateView → List Ticket
-orders_of held = ordered_from held.opening (since held)
 
 -- the other records of each node are inputs that its threads have recorded
 abbrev pub HaveOthers : (Input → Type 0) → Scheme → List StateView → Type 0

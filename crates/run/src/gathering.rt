@@ -1,20 +1,21 @@
 //! The remains of a run at each node.
 ghost use Rattle.std.specs.Prelude.{◌≡◌, ◌++◌, ◌∷◌, [], All, Some, map, vec_len, IfErr, IfOk, IfSome, OnOk};
-ghost use Rattle.desk.specs.Views.{SeatView};
+ghost use Rattle.node_state.specs.Views.{SeatView};
 ghost use Rattle.protocol.specs.Registries.{nodes};
 ghost use Rattle.sessions.specs.Orders.{AreAll, HasOnly};
-ghost use Rattle.audit.specs.Ended.{seats_in, stored_in};
+ghost use Rattle.ended_nodes.specs.Ended.{seats_in, stored_in};
 ghost use Rattle.run.specs.Gathered.{AreGathered, IsGathered};
-ghost use Rattle.run.specs.Runs.{EndsWell, HaveEnded, IsLateFault};
+ghost use Rattle.serving.specs.Ends.{EndsWell, HaveEnded, IsLateFault};
 
 use crate::taking::Taking;
-use audit::EndedNode;
-use command_faults::{OpFault, store_fault};
+use command_faults::OpFault;
 use desk::stores::NodeStore;
-use desk::{Desk, Ended, Opening, RoomBell, Seat, Stored};
-use sessions::{NodeTypes, Station};
+use desk::{Opening, Seat};
+use ended_nodes::EndedNode;
+use serving::end_desk;
+use sessions::{Network, Station};
 use std::alloc::Global;
-use units::{NoMemory, Node};
+use units::NoMemory;
 use world::Core;
 
 /// The notes of a node's threads: a seat for each thread, or `NoMemory` if memory ran out for them.
@@ -40,36 +41,8 @@ fn all_seats<T: Taking>(
     Ok(seats)
 }
 
-/// The state with its store that the desk of that node leaves. No thread shares the desk any more.
-///
-/// # Errors
-///
-/// Fails with the fault that stopped the store, if one did, and with `Unsettled` if the desk is another node's. The
-/// store is closed then.
-pub fn end_desk<O: Opening, S: NodeStore + Drop>(
-    node: Node,
-    desk: Desk<O, Core, S, RoomBell>,
-) -> Result<Stored<Core, S>, OpFault>
-    ensures well { IfOk result (EndsWell S.NodeStore O.opened) }
-    ensures node { IfOk result (λ s. s.state.node ≡ node) }
-    ensures err { (scheme : _) → IfErr result (IsLateFault S.NodeStore O.opened scheme) }
-{
-    let Ended { stored, fault } = desk.end();
-    if stored.state().node() != node {
-        drop(stored);
-        return Err(OpFault::Unsettled { node });
-    }
-    match fault {
-        None => Ok(stored),
-        Some(fault) => {
-            drop(stored);
-            Err(store_fault(node, fault))
-        }
-    }
-}
-
 /// The remains of the node at that station. Fails as `end_desk` and `all_seats` do.
-fn end_node<O: Opening, T: Taking, N: NodeTypes>(
+fn end_node<O: Opening, T: Taking, N: Network>(
     station: Station<O, Core, N>,
     threads: Option<ThreadSeats>,
     script: Option<Seat>,
@@ -81,12 +54,7 @@ fn end_node<O: Opening, T: Taking, N: NodeTypes>(
         (λ e. (seat : SeatView) × (script ≡ Some seat) × IsGathered T.takes e.seats.items seat) }
     ensures err { (scheme : _) → IfErr result (IsLateFault N.Store.NodeStore O.opened scheme) }
 {
-    let Station {
-        node,
-        desk,
-        listener,
-    } = station;
-    drop(listener);
+    let Station { node, desk } = station;
     let seats = all_seats::<T>(threads, script);
     match end_desk(node, desk) {
         Ok(stored) => match seats {
@@ -117,7 +85,7 @@ fn push<S: NodeStore + Drop>(
 /// The remains of the nodes at these stations, whose desks no thread shares any more, with the seats of each node's
 /// threads and then that of the script, in the order of the stations. Fails with the fault of the first node that has
 /// one, and with `NoMemory` if memory ran out, also for the threads of a node.
-pub(crate) fn end_all<O: Opening, T: Taking, N: NodeTypes>(
+pub(crate) fn end_all<O: Opening, T: Taking, N: Network>(
     alloc: Global,
     stations: Vec<Station<O, Core, N>>,
     threads: Vec<ThreadSeats>,

@@ -1,40 +1,23 @@
 //! The lines of a script, one after another, at the desks of all nodes.
 ghost use Rattle.std.specs.Prelude.{◌≡◌, ◌<◌, ◌++◌, ◌∷◌, [], true, false, All, List, length, IfNone, IfOk, IfSome, OnOk, Some};
-ghost use Rattle.protocol.specs.Scheme.{Scheme as AScheme};
 ghost use Rattle.protocol.specs.Registries.{nodes, index_of};
-ghost use Rattle.protocol.specs.World.{is_order, opening};
-ghost use Rattle.run.specs.Answers.{is_possible, node_of};
-ghost use Rattle.run.specs.Heard.{AllGrow, IsHeard};
-ghost use Rattle.run.specs.Orders.{HaveOrders, IsPlayed};
-ghost use Rattle.run.specs.declared.answer.ScriptAnswer.{ScriptAnswer as AnAnswer};
+ghost use Rattle.serving.specs.Answers.{is_possible, node_of};
+ghost use Rattle.serving.specs.Heard.{AllGrow, IsHeard};
+ghost use Rattle.serving.specs.Orders.{HaveOrders, IsPlayed};
+ghost use Rattle.serving.specs.declared.answer.ScriptAnswer.{ScriptAnswer as AnAnswer};
 ghost use Rattle.input_lines.specs.declared.script_line.ScriptLine.{ScriptLine as ALine};
 
-use crate::answer::ScriptAnswer;
-use crate::asking::ask;
-use crate::watch::{Watch, tell_committed};
 use desk::{Opening, Seat};
 use input_lines::ScriptLine;
 use protocol::index_of;
 use protocol::scheme::Scheme;
-use protocol::wire::Input;
-use sessions::{NodeTypes, Station};
+use serving::{ScriptAnswer, Watch, ask, takes, tell_committed};
+use sessions::{Network, Station};
 use std::alloc::Global;
 use std::rt::Clock as SystemClock;
 use std::sync::Wait;
-use units::{NoMemory, Node};
+use units::NoMemory;
 use world::Core;
-
-/// Whether a node of that kind takes the order.
-pub fn takes(node: Node, input: &Input) -> bool
-    ensures { (scheme : AScheme) → result ≡ is_order (opening scheme) node input.now }
-{
-    match input {
-        Input::Propose(_) | Input::Request(_) | Input::OpenAccount(_) | Input::CloseAccount(_) =>
-            matches!(node, Node::Registry(_)),
-        Input::CleanUp(_) | Input::Eligible { .. } => matches!(node, Node::Itl),
-        Input::Ack(_) | Input::Received { .. } => false,
-    }
-}
 
 /// The index of the line's node, if the line is possible.
 fn index_for(scheme: &Scheme, line: &ScriptLine) -> Option<usize>
@@ -56,7 +39,7 @@ fn index_for(scheme: &Scheme, line: &ScriptLine) -> Option<usize>
 }
 
 /// The answer to a line.
-fn play<O: Opening, N: NodeTypes, P: Watch, R: Wait + SystemClock>(
+fn play<O: Opening, N: Network, P: Watch, R: Wait + SystemClock>(
     rt: &R,
     scheme: &Scheme,
     stations: &[Station<O, Core, N>],
@@ -89,7 +72,7 @@ fn push(answers: &mut Vec<ScriptAnswer>, answer: ScriptAnswer) -> Result<(), NoM
 /// Plays the lines one after another and returns the answer to each. Each seat is replaced by the one after the last
 /// line, and the watch is called for each line after it was played. Fails with `NoMemory` if memory runs out for the
 /// answers, before the first line.
-pub(crate) fn play_all<O: Opening, N: NodeTypes, P: Watch, R: Wait + SystemClock>(
+pub(crate) fn play_all<O: Opening, N: Network, P: Watch, R: Wait + SystemClock>(
     rt: &R,
     alloc: Global,
     scheme: &Scheme,

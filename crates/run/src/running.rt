@@ -4,31 +4,30 @@ ghost use Rattle.std.specs.Io.KnownBytes.{Appends};
 ghost use Rattle.protocol.specs.Registries.{nodes};
 ghost use Rattle.protocol.specs.Input.{Input as AnInput};
 ghost use Rattle.desk.specs.Keeping.{MayOpen};
-ghost use Rattle.desk.specs.Views.{SeatView, opened_with};
+ghost use Rattle.node_state.specs.Views.{SeatView, opened_with};
 ghost use Rattle.input_lines.specs.declared.script_line.ScriptLine.{ScriptLine as ALine};
-ghost use Rattle.run.specs.Answers.{answer_lines, first_undone};
-ghost use Rattle.audit.specs.Ended.{seats_in, states_in, stored_in};
-ghost use Rattle.run.specs.Orders.{IsPlayed};
+ghost use Rattle.serving.specs.Answers.{answer_lines, first_undone};
+ghost use Rattle.ended_nodes.specs.Ended.{seats_in, states_in, stored_in};
+ghost use Rattle.serving.specs.Orders.{IsPlayed};
 ghost use Rattle.sessions.specs.Orders.{AreAll, HasOnly, was_ordered};
 ghost use Rattle.sessions.specs.Threads.{IsOfThread};
 ghost use Rattle.run.specs.Gathered.{AreGathered};
-ghost use Rattle.audit.specs.Reported.{IsTableFault};
-ghost use Rattle.run.specs.Runs.{FailsToRun, HaveEnded, HaveOthers, IsLateFault, IsLoadedAmong, IsRunReport};
-ghost use Rattle.run.specs.declared.answer.ScriptAnswer.{ScriptAnswer as AnAnswer};
+ghost use Rattle.ended_nodes.specs.Reported.{IsTableFault};
+ghost use Rattle.run.specs.Runs.{FailsToRun, HaveOthers, IsLoadedAmong, IsRunReport};
+ghost use Rattle.serving.specs.Ends.{HaveEnded, IsLateFault};
+ghost use Rattle.serving.specs.declared.answer.ScriptAnswer.{ScriptAnswer as AnAnswer};
 
-use crate::answer::{first_undone, lines_of};
 use crate::gathering::{ThreadSeats, end_all};
 use crate::taking::Taking;
 use crate::threads::{Heard, Played, Run, run_and_play};
-use crate::watch::Watch;
-use crate::wiring::LoadedNode;
-use audit::{EndedNode, table_of_ended};
 use command_faults::{OpFault, write_out};
 use desk::stores::NodeStore;
-use desk::{Opening, Seat};
+use desk::{Opening, Seat, Stored};
+use ended_nodes::{EndedNode, table_of_ended};
 use input_lines::ScriptLine;
 use protocol::scheme::Scheme;
-use sessions::{Network, NodeTypes, Station};
+use serving::{Watch, first_undone, lines_of};
+use sessions::{Network, Station};
 use std::alloc::Global;
 use std::io::Write;
 use std::marker::Brand;
@@ -88,7 +87,7 @@ struct Whole<S: NodeStore> {
 }
 
 /// Ends the nodes, and adds the table of their committed records to the answers.
-fn whole_of<O: Opening, T: Taking, N: NodeTypes, P: weave::Watch>(
+fn whole_of<O: Opening, T: Taking, N: Network, P: weave::Watch>(
     alloc: Global,
     scheme: &Scheme,
     stations: Vec<Station<O, Core, N>>,
@@ -122,7 +121,7 @@ fn whole_of<O: Opening, T: Taking, N: NodeTypes, P: weave::Watch>(
 }
 
 /// Writes the results of a run: the answers in any case, and then the table or the fault. Returns what the run leaves.
-fn write_run<O: Opening, T: Taking, N: NodeTypes, W: Write, P: weave::Watch>(
+fn write_run<O: Opening, T: Taking, N: Network, W: Write, P: weave::Watch>(
     alloc: Global,
     scheme: &Scheme,
     run: Run<O, N>,
@@ -184,24 +183,24 @@ fn run_opened<O, T, N, W, P, R>(
     alloc: Global,
     scheme: &Scheme,
     lines: &[ScriptLine],
-    loaded: Vec<LoadedNode<N>>,
-    network: &Network<N>,
+    loaded: Vec<Stored<Core, N::Store>>,
+    network: &N,
     writer: &mut W,
     watch: &mut P,
 ) -> Result<EndedRun<N::Store>, OpFault>
 where
     O: Opening + Send,
     T: Taking,
-    N: NodeTypes,
+    N: Network,
     W: Write,
     P: Watch + weave::Watch,
     R: Threads + Wait + SystemClock + Sync,
-    requires nodes { map (λ n. n.stored.state.node) loaded.items ≡ nodes scheme.now }
-    requires may_open { All (MayOpen N.Store.NodeStore O.opened) (map (λ n. n.stored) loaded.items) }
+    requires nodes { map (λ s. s.state.node) loaded.items ≡ nodes scheme.now }
+    requires may_open { All (MayOpen N.Store.NodeStore O.opened) loaded.items }
     requires takes { (input : AnInput)
         → IsOfThread
-        (N.Dialer.leads network.now.dialer) N.Dialer.Reader.remaining N.Dialer.Writer.contents N.Store.NodeStore
-        O.opened (N.Clock.tells network.now.clock) input → T.takes input }
+        (N.leads network.now) N.Reader.remaining N.Writer.contents N.Store.NodeStore
+        O.opened (N.Clock.tells network.now) input → T.takes input }
     requires unordered { (input : AnInput) → T.takes input → was_ordered input ≡ false }
     ensures ok { IfOk result
         (λ r. (text : List ℕ) × IsRunReport scheme.now lines.now (states_in r.nodes.items) r.undone text
@@ -221,8 +220,8 @@ where
 /// journal had then. Writes the answers, a line each, and then the table of a run that leads to the committed records
 /// of all nodes: of the world that the protocol's own steps lead to, regardless of how sockets and threads behaved.
 ///
-/// The nodes are the log and then the registries in the scheme's order, each with its store, the state that the store's
-/// records lead to, and the listener that accepts its connections. The watch is called for each of the script's lines,
+/// The nodes are the log and then the registries in the scheme's order, each with its store and the state that the
+/// store's records lead to. The watch is called for each of the script's lines,
 /// and afterwards for the records as they are settled and woven. Returns the nodes as they ended: no store has failed,
 /// each has the committed records of its node, which the table shows, and these begin with the records that it was
 /// loaded with. After those it has each of the script's orders that was answered as recorded, in the script's order,
@@ -248,34 +247,34 @@ pub fn run_script<N, W, P, R>(
     alloc: Global,
     scheme: &Scheme,
     lines: &[ScriptLine],
-    loaded: Vec<LoadedNode<N>>,
-    network: &Network<N>,
+    loaded: Vec<Stored<Core, N::Store>>,
+    network: &N,
     writer: &mut W,
     watch: &mut P,
 ) -> Result<EndedRun<N::Store>, OpFault>
 where
-    N: NodeTypes,
+    N: Network,
     W: Write,
     P: Watch + weave::Watch,
     R: Threads + Wait + SystemClock + Sync,
-    requires nodes { map (λ s. s.state.node) (map (λ n. n.stored) loaded.items) ≡ nodes scheme.now }
+    requires nodes { map (λ s. s.state.node) loaded.items ≡ nodes scheme.now }
     requires opened { All (λ s. s.state ≡ opened_with scheme.now s.state.node s.state.journal)
-        (map (λ n. n.stored) loaded.items) }
+        loaded.items }
     ensures ok { IfOk result
         (λ r. (text : List ℕ) × IsRunReport scheme.now lines.now (states_in r.nodes.items) r.undone text
         × Appends (W.contents writer.old) (W.contents writer.new) text) }
     ensures others { IfOk result
         (λ r. HaveOthers (IsOfThread
-        (N.Dialer.leads network.now.dialer) N.Dialer.Reader.remaining N.Dialer.Writer.contents N.Store.NodeStore
-        (IsLoadedAmong N.Store.NodeStore scheme.now (map (λ n. n.stored) loaded.items))
-        (N.Clock.tells network.now.clock)) scheme.now (states_in r.nodes.items)) }
+        (N.leads network.now) N.Reader.remaining N.Writer.contents N.Store.NodeStore
+        (IsLoadedAmong N.Store.NodeStore scheme.now loaded.items)
+        (N.Clock.tells network.now)) scheme.now (states_in r.nodes.items)) }
     ensures ended { IfOk result
         (λ r. HaveEnded N.Store.NodeStore
-        (IsLoadedAmong N.Store.NodeStore scheme.now (map (λ n. n.stored) loaded.items)) scheme.now
+        (IsLoadedAmong N.Store.NodeStore scheme.now loaded.items) scheme.now
         (stored_in r.nodes.items)) }
     ensures err { IfErr result
         (λ e. FailsToRun N.Store.NodeStore
-        (IsLoadedAmong N.Store.NodeStore scheme.now (map (λ n. n.stored) loaded.items)) e scheme.now lines.now
+        (IsLoadedAmong N.Store.NodeStore scheme.now loaded.items) e scheme.now lines.now
         (W.contents writer.old) (W.contents writer.new)) }
 {
     run_opened::<Brand, Brand, N, W, P, R>(rt, alloc, scheme, lines, loaded, network, writer, watch)

@@ -5,19 +5,18 @@ ghost use Rattle.desk.specs.Keeping.{MayOpen};
 ghost use Rattle.protocol.specs.Registries.{nodes as nodes_in};
 ghost use Rattle.sessions.specs.Orders.{AreAll};
 ghost use Rattle.sessions.specs.Threads.{AreOfThread};
-ghost use Rattle.run.specs.Orders.{IsPlayed};
+ghost use Rattle.serving.specs.Orders.{IsPlayed};
 
-use crate::answer::ScriptAnswer;
 use crate::gathering::ThreadSeats;
 use crate::playing::play_all;
-use crate::watch::Watch;
-use crate::wiring::{LoadedNode, nodes_to_run, stations_of};
-use desk::{Opening, Seat};
+use crate::wiring::{nodes_to_run, stations_of};
+use desk::{Opening, Seat, Stored};
 use input_lines::ScriptLine;
 use protocol::nodes_of;
 use protocol::scheme::Scheme;
+use serving::{ScriptAnswer, Watch};
 use sessions::{
-    LONGEST_MUSTER, Muster, Mustered, Network, NodeThreads, NodeTypes, Station, new_seats, run_all,
+    LONGEST_MUSTER, Muster, Mustered, Network, NodeThreads, Station, new_seats, run_all,
 };
 use std::alloc::Global;
 use std::rt::Clock as SystemClock;
@@ -44,20 +43,20 @@ pub(crate) struct Heard {
 
 /// The remains of a run: the nodes at their stations, and the notes made there.
 #[derive(Drop)]
-pub(crate) struct Run<O: Opening, N: NodeTypes> {
+pub(crate) struct Run<O: Opening, N: Network> {
     pub stations: Vec<Station<O, Core, N>>,
     pub heard: Heard,
 }
 
 /// A script that is to be played: its lines, their scheme, and its nodes.
 #[derive(Drop)]
-struct Script<'a, O: Opening, N: NodeTypes> {
+struct Script<'a, O: Opening, N: Network> {
     scheme: &'a Scheme,
     lines: &'a [ScriptLine],
     stations: &'a [Station<O, Core, N>],
 }
 
-impl<'a, O: Opening, N: NodeTypes> Script<'a, O, N> {
+impl<'a, O: Opening, N: Network> Script<'a, O, N> {
     /// Plays the script with new seats.
     fn play_with_seats<P: Watch, R: Wait + SystemClock>(
         &self,
@@ -128,7 +127,7 @@ impl<'a, O: Opening, N: NodeTypes> Script<'a, O, N> {
 }
 
 /// How many threads those nodes have.
-fn count_threads<O: Opening, N: NodeTypes>(nodes: &[NodeThreads<'_, O, Core, N>]) -> usize {
+fn count_threads<O: Opening, N: Network>(nodes: &[NodeThreads<'_, O, Core, N>]) -> usize {
     let mut threads: usize = 0;
     for node in nodes {
         threads = threads.saturating_add(node.count());
@@ -152,7 +151,7 @@ fn run_beside<O, N, P, R>(
 ) -> Result<Heard, NoMemory>
 where
     O: Opening + Send,
-    N: NodeTypes,
+    N: Network,
     P: Watch,
     R: Threads + Wait + SystemClock + Sync,
     requires { length script.now.stations.now ≡ length (nodes_in script.now.scheme.now) }
@@ -161,8 +160,8 @@ where
         (λ heard. (k : ℕ) (node : _) (seats : _) → slice_get nodes.entry.items k ≡ Some node
         → slice_get heard.threads.items k ≡ Some (Ok seats)
         → All (AreOfThread
-        (N.Dialer.leads node.network.now.dialer) N.Dialer.Reader.remaining N.Dialer.Writer.contents
-        N.Store.NodeStore O.opened (N.Clock.tells node.network.now.clock)) seats.items) }
+        (N.leads node.network.now) N.Reader.remaining N.Writer.contents
+        N.Store.NodeStore O.opened (N.Clock.tells node.network.now)) seats.items) }
     ensures played { IfOk result
         (λ heard. IsPlayed script.now.scheme.now script.now.lines.now heard.script.answers.items
         heard.script.seats.items) }
@@ -178,8 +177,8 @@ where
                 (λ v. (k : ℕ) (node : _) (seats : _) → slice_get nodes.entry.items k ≡ Some node
                 → slice_get v.items k ≡ Some (Ok seats)
                 → All (AreOfThread
-                (N.Dialer.leads node.network.now.dialer) N.Dialer.Reader.remaining N.Dialer.Writer.contents
-                N.Store.NodeStore O.opened (N.Clock.tells node.network.now.clock)) seats.items) }
+                (N.leads node.network.now) N.Reader.remaining N.Writer.contents
+                N.Store.NodeStore O.opened (N.Clock.tells node.network.now)) seats.items) }
         { run_all(rt, alloc, nodes) },
         move || -> Result<Played, NoMemory>
             requires { length script.now.stations.now ≡ length (nodes_in script.now.scheme.now) }
@@ -202,20 +201,20 @@ fn run_stations<'a, O, N, P, R>(
     lines: &'a [ScriptLine],
     names: &'a [Node],
     stations: &'a [Station<O, Core, N>],
-    network: &'a Network<N>,
+    network: &'a N,
     watch: &mut P,
 ) -> Result<Heard, NoMemory>
 where
     O: Opening + Send,
-    N: NodeTypes,
+    N: Network,
     P: Watch,
     R: Threads + Wait + SystemClock + Sync,
     requires names { names.now ≡ nodes_in scheme.now }
     requires stations { length stations.now ≡ length names.now }
     ensures taken { IfOk result
         (λ heard. AreAll (AreOfThread
-        (N.Dialer.leads network.now.dialer) N.Dialer.Reader.remaining N.Dialer.Writer.contents N.Store.NodeStore
-        O.opened (N.Clock.tells network.now.clock)) heard.threads.items) }
+        (N.leads network.now) N.Reader.remaining N.Writer.contents N.Store.NodeStore
+        O.opened (N.Clock.tells network.now)) heard.threads.items) }
     ensures played { IfOk result
         (λ heard. IsPlayed scheme.now lines.now heard.script.answers.items heard.script.seats.items) }
     ensures seats { IfOk result (λ heard. vec_len heard.script.seats ≡ length (nodes_in scheme.now)) }
@@ -245,22 +244,22 @@ pub(crate) fn run_and_play<O, N, P, R>(
     alloc: Global,
     scheme: &Scheme,
     lines: &[ScriptLine],
-    loaded: Vec<LoadedNode<N>>,
-    network: &Network<N>,
+    loaded: Vec<Stored<Core, N::Store>>,
+    network: &N,
     watch: &mut P,
 ) -> Result<Run<O, N>, NoMemory>
 where
     O: Opening + Send,
-    N: NodeTypes,
+    N: Network,
     P: Watch,
     R: Threads + Wait + SystemClock + Sync,
-    requires nodes { map (λ n. n.stored.state.node) loaded.items ≡ nodes_in scheme.now }
-    requires may_open { All (MayOpen N.Store.NodeStore O.opened) (map (λ n. n.stored) loaded.items) }
+    requires nodes { map (λ s. s.state.node) loaded.items ≡ nodes_in scheme.now }
+    requires may_open { All (MayOpen N.Store.NodeStore O.opened) loaded.items }
     ensures stations { IfOk result (λ run. map (λ s. s.node) run.stations.items ≡ nodes_in scheme.now) }
     ensures taken { IfOk result
         (λ run. AreAll (AreOfThread
-        (N.Dialer.leads network.now.dialer) N.Dialer.Reader.remaining N.Dialer.Writer.contents N.Store.NodeStore
-        O.opened (N.Clock.tells network.now.clock)) run.heard.threads.items) }
+        (N.leads network.now) N.Reader.remaining N.Writer.contents N.Store.NodeStore
+        O.opened (N.Clock.tells network.now)) run.heard.threads.items) }
     ensures played { IfOk result
         (λ run. IsPlayed scheme.now lines.now run.heard.script.answers.items run.heard.script.seats.items) }
     ensures seats { IfOk result (λ run. vec_len run.heard.script.seats ≡ length (nodes_in scheme.now)) }

@@ -3,62 +3,25 @@ ghost use Rattle.std.specs.Prelude.{◌≡◌, ◌++◌, ◌∷◌, [], ◌<◌,
 ghost use Rattle.desk.specs.Keeping.{MayOpen};
 ghost use Rattle.run.specs.Wiring.{peers_of};
 
-use desk::{Bells, Desk, Opening, Stored};
-use sessions::{Muster, Network, NodeThreads, NodeTypes, Station};
+use desk::{Opening, Stored};
+use serving::station_of;
+use sessions::{Muster, Network, NodeThreads, Station};
 use std::alloc::Global;
 use units::{NoMemory, Node};
 use world::Core;
 
-/// A node at the beginning of a run: its state with its store, and the listener that accepts its connections.
-#[derive(Drop)]
-pub struct LoadedNode<N: NodeTypes> {
-    pub stored: Stored<Core, N::Store>,
-    pub listener: N::Listener,
-}
-
-/// The node's station, with a desk of its state that has a bell for each of these peers.
-///
-/// # Errors
-///
-/// Fails with `NoMemory` if memory ran out. The store is closed then.
-pub fn station_of<O: Opening, N: NodeTypes>(
-    alloc: Global,
-    peers: &[Node],
-    loaded: LoadedNode<N>,
-) -> Result<Station<O, Core, N>, NoMemory>
-    requires { MayOpen N.Store.NodeStore O.opened loaded.stored }
-    ensures { IfOk result (λ s. s.node ≡ loaded.stored.state.node) }
-{
-    match Bells::with_peers(alloc, peers) {
-        Ok(bells) => {
-            let LoadedNode { stored, listener } = loaded;
-            let node = stored.state().node();
-            let desk = Desk::new(stored, bells);
-            Ok(Station {
-                node,
-                desk,
-                listener,
-            })
-        }
-        Err(NoMemory) => {
-            drop(loaded);
-            Err(NoMemory)
-        }
-    }
-}
-
 /// Adds the node's station. After `NoMemory` the stations are as they were.
-fn push_station<O: Opening, N: NodeTypes>(
+fn push_station<O: Opening, N: Network>(
     alloc: Global,
     stations: &mut Vec<Station<O, Core, N>>,
     peers: &[Node],
-    loaded: LoadedNode<N>,
+    loaded: Stored<Core, N::Store>,
 ) -> Result<(), NoMemory>
-    requires { MayOpen N.Store.NodeStore O.opened loaded.stored }
+    requires { MayOpen N.Store.NodeStore O.opened loaded }
     ensures { OnOk result (map (λ s. s.node) stations.new.items
-        ≡ map (λ s. s.node) stations.old.items ++ loaded.stored.state.node ∷ []) }
+        ≡ map (λ s. s.node) stations.old.items ++ loaded.state.node ∷ []) }
 {
-    let station = station_of(alloc, peers, loaded)?;
+    let station = station_of::<O, N>(alloc, peers, loaded)?;
     stations.push(station)?;
     Ok(())
 }
@@ -72,13 +35,13 @@ fn peers_at(names: &[Node], at: usize) -> &[Node]
 }
 
 /// A station for each node, with a desk of its state that has a bell for each node that it sends to.
-pub(crate) fn stations_of<O: Opening, N: NodeTypes>(
+pub(crate) fn stations_of<O: Opening, N: Network>(
     alloc: Global,
     names: &[Node],
-    loaded: Vec<LoadedNode<N>>,
+    loaded: Vec<Stored<Core, N::Store>>,
 ) -> Result<Vec<Station<O, Core, N>>, NoMemory>
-    requires nodes { map (λ n. n.stored.state.node) loaded.items ≡ names.now }
-    requires may_open { All (MayOpen N.Store.NodeStore O.opened) (map (λ n. n.stored) loaded.items) }
+    requires nodes { map (λ s. s.state.node) loaded.items ≡ names.now }
+    requires may_open { All (MayOpen N.Store.NodeStore O.opened) loaded.items }
     ensures { IfOk result (λ v. map (λ s. s.node) v.items ≡ names.now) }
 {
     let mut stations = Vec::new(alloc);
@@ -91,11 +54,11 @@ pub(crate) fn stations_of<O: Opening, N: NodeTypes>(
 
 /// The threads of each node: at its station, over that network, to the nodes that it sends to. All report at that
 /// muster.
-pub(crate) fn nodes_to_run<'a, O: Opening, N: NodeTypes>(
+pub(crate) fn nodes_to_run<'a, O: Opening, N: Network>(
     alloc: Global,
     names: &'a [Node],
     stations: &'a [Station<O, Core, N>],
-    network: &'a Network<N>,
+    network: &'a N,
     muster: &'a Muster,
 ) -> Result<Vec<NodeThreads<'a, O, Core, N>>, NoMemory>
     requires { length stations.now ≡ length names.now }

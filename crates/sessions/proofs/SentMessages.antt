@@ -7,7 +7,7 @@ use Rattle.protocol.specs.Scheme.{Scheme}
 use Rattle.wire.specs.declared.input.Input.{Input}
 use Rattle.desk.specs.NodeStore.{Ghosts}
 use Rattle.desk.specs.Keeping.{IsToSend}
-use Rattle.desk.specs.Views.{SeatView}
+use Rattle.node_state.specs.Views.{SeatView}
 use Rattle.exchanges.specs.Exchanges.{Exchanges}
 use Rattle.exchanges.specs.CountedView.{CountedView}
 use Rattle.sessions.specs.Delivering.{received}

@@ -10,14 +10,14 @@ use Rattle.wire.specs.declared.message.Message.{Message}
 use Rattle.protocol.specs.Scheme.{Scheme}
 use Rattle.protocol.specs.declared.node_core.Stepped.TheVariants.{Recorded, Repeat, Late}
 use Rattle.desk.specs.NodeStore.{Ghosts}
-use Rattle.desk.specs.Telling.{kept, tickets_after}
-use Rattle.desk.specs.Views.{SeatView}
-use Rattle.desk.specs.declared.notes.Asked.{Asked}
-use Rattle.desk.specs.declared.notes.Asked.TheVariants.{Take}
-use Rattle.desk.specs.declared.notes.Note.{Note}
-use Rattle.desk.specs.declared.notes.Ticket.{Ticket}
-use Rattle.desk.specs.declared.notes.Told.{Told}
-use Rattle.desk.specs.declared.notes.Told.TheVariants.{Step, Status, Refused}
+use Rattle.node_state.specs.Telling.{kept, tickets_after}
+use Rattle.node_state.specs.Views.{SeatView}
+use Rattle.node_state.specs.declared.notes.Asked.{Asked}
+use Rattle.node_state.specs.declared.notes.Asked.TheVariants.{Take}
+use Rattle.node_state.specs.declared.notes.Note.{Note}
+use Rattle.node_state.specs.declared.notes.Ticket.{Ticket}
+use Rattle.node_state.specs.declared.notes.Told.{Told}
+use Rattle.node_state.specs.declared.notes.Told.TheVariants.{Step, Status, Refused}
 use Rattle.replies.specs.Beginning.{Begins}
 use Rattle.replies.specs.declared.pending.Begun.{Begun}
 use Rattle.sessions.specs.Orders.{AreAll, HasNoOrder, HasOnly, was_ordered}

@@ -1,4 +1,5 @@
 pub mod Delivering
+pub mod Directions
 pub mod Orders
 pub mod Pauses
 pub mod Sending

@@ -5,8 +5,8 @@ use Rattle.std.specs.Global.{Global}
 use Rattle.units.specs.declared.memory.NoMemory.{NoMemory}
 use Rattle.wire.specs.declared.input.Input.{Input}
 use Rattle.wire.specs.declared.input.Input.TheVariants.{Propose, Request, OpenAccount, CloseAccount, Ack, CleanUp, Eligible, Received}
-use Rattle.desk.specs.declared.notes.Ticket.{Ticket}
-use Rattle.desk.specs.Views.{SeatView}
+use Rattle.node_state.specs.declared.notes.Ticket.{Ticket}
+use Rattle.node_state.specs.Views.{SeatView}
 
 -- neither a message nor an acknowledgement
 abbrev pub was_ordered : Input → Bool

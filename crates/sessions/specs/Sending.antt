@@ -10,10 +10,10 @@ use Rattle.protocol.specs.Scheme.{Scheme}
 use Rattle.desk.specs.NodeStore.{Ghosts}
 use Rattle.desk.specs.Desks.{IsTakeOf}
 use Rattle.desk.specs.Keeping.{IsToSend}
-use Rattle.desk.specs.Telling.{kept}
-use Rattle.desk.specs.Views.{SeatView}
-use Rattle.desk.specs.declared.notes.Asked.TheVariants.{Take}
-use Rattle.desk.specs.declared.notes.Note.{Note}
+use Rattle.node_state.specs.Telling.{kept}
+use Rattle.node_state.specs.Views.{SeatView}
+use Rattle.node_state.specs.declared.notes.Asked.TheVariants.{Take}
+use Rattle.node_state.specs.declared.notes.Note.{Note}
 use Rattle.exchanges.specs.Exchanges.{Exchanges}
 use Rattle.exchanges.specs.CountedView.{CountedView}
 use Rattle.exchanges.specs.Calls.{no_calls}
@@ -21,7 +21,7 @@ use Rattle.sessions.specs.Delivering.{received}
 use Rattle.sessions.specs.declared.sending.Sent.{Sent}
 use Rattle.sessions.specs.declared.sending.Sent.TheVariants.{Nothing, Received, NotReceived, Unreachable, NoMemory}
 
--- the desk took the acknowledgement of that key once, with that seat
+-- the desk took the acknowledgement of that key once, with that seat; no public contract cites it
 pub record Acknowledges (old new : SeatView) (key : ℕ) : Type 0 where
   pub number : Number
   pub note : Note
@@ -48,7 +48,7 @@ module _ {R W : Type 0} (leads : Node → R → W → Type 0) (remaining : R →
 
 -- the same; and a store's calls, and what is known of the nodes of the run when their desks open
 module _ {R W S : Type 0} (leads : Node → R → W → Type 0) (remaining : R → Option (List ℕ)) (contents : W → Option (List ℕ)) (g : Ghosts S) (opened : Scheme → Node → List Input → ℕ → Type 0) where
-  -- the outcome of a call that looks for a message from that key on
+  -- the outcome of a call that looks for a message from that key on; no public contract cites it
   abbrev pub Sends : Node → ℕ → SeatView → SeatView → Sent → Type 0
   Sends peer from old new Nothing = IsToSend g opened peer from None × (new ≡ old)
   Sends peer from old new (Received key) = ((m : Message) × IsToSend g opened peer from (Some (key, m)) × IsReceivedBy leads remaining contents peer m) × Acknowledges old new key
@@ -59,8 +59,8 @@ module _ {R W S : Type 0} (leads : Node → R → W → Type 0) (remaining : R �
 -- ---- what the code follows; no public contract cites what stands below
 
 -- a message with its key, and the node that it went to, over a connection that was asked for with that node
-pub record DeliveredView (D : Type 0) : Type 0 where
-  pub dial : D
+pub record DeliveredView (N : Type 0) : Type 0 where
+  pub network : N
   pub peer : Node
   pub key : ℕ
   pub message : Message

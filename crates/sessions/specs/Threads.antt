@@ -9,7 +9,7 @@ use Rattle.wire.specs.declared.message.Message.{Message}
 use Rattle.protocol.specs.Scheme.{Scheme}
 use Rattle.desk.specs.NodeStore.{Ghosts}
 use Rattle.desk.specs.Keeping.{IsToSend}
-use Rattle.desk.specs.Views.{SeatView}
+use Rattle.node_state.specs.Views.{SeatView}
 use Rattle.sessions.specs.Orders.{HasOnly}
 use Rattle.sessions.specs.Sending.{IsReceivedBy}
 use Rattle.sessions.specs.declared.node_threads.TheConstants.{WORKERS}

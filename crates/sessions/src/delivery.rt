@@ -5,7 +5,7 @@ ghost use Rattle.exchanges.specs.Exchanges.{Exchanges};
 ghost use Rattle.sessions.specs.Delivering.{IsOtherEnd, end_of};
 ghost use Rattle.sessions.specs.Sending.{IsReceivedBy};
 
-use crate::connections::Dial;
+use crate::network::Network;
 use exchanges::{Counted, Exchange, exchange};
 use std::alloc::Global;
 use std::io::{Read, Write};
@@ -16,22 +16,22 @@ use wire::{Message, Reply};
 /// A message with its key, and the node that it was sent to: it replied, over a connection that was made with it, that
 /// the message was received. Only `deliver` makes one.
 #[derive(Drop)]
-pub(crate) struct Delivered<'a, D: Dial> {
-    dial: &'a D,
+pub(crate) struct Delivered<'a, N: Network> {
+    network: &'a N,
     peer: Node,
     key: usize,
     message: &'a Message,
 }
 
-impl<'a, D: Dial> Model for Delivered<'a, D> {
+impl<'a, N: Network> Model for Delivered<'a, N> {
     ghost use Rattle.sessions.specs.Sending.{DeliveredView, IsReceivedBy};
 
-    ghost Value = { DeliveredView D };
+    ghost Value = { DeliveredView N };
 
-    ghost view = { λ d. record { dial = d.dial.now; peer = d.peer; key = d.key; message = d.message.now } };
+    ghost view = { λ d. record { network = d.network.now; peer = d.peer; key = d.key; message = d.message.now } };
 
     ghost invariant = { λ d. IsReceivedBy
-        (D.leads d.dial.now) D.Reader.remaining D.Writer.contents d.peer d.message.now };
+        (N.leads d.network.now) N.Reader.remaining N.Writer.contents d.peer d.message.now };
 }
 
 /// Why a message wasn't delivered.
@@ -43,12 +43,12 @@ pub(crate) enum Undelivered {
     Ended(Exchange),
 }
 
-impl<'a, D: Dial> Delivered<'a, D> {
+impl<'a, N: Network> Delivered<'a, N> {
     /// The key of the message.
     pub(crate) fn key(&self) -> usize
         ensures key { result ≡ self.now.key }
         ensures received { IsReceivedBy
-            (D.leads self.now.dial) D.Reader.remaining D.Writer.contents self.now.peer self.now.message }
+            (N.leads self.now.network) N.Reader.remaining N.Writer.contents self.now.peer self.now.message }
     {
         self.key
     }
@@ -73,26 +73,26 @@ fn deliver_over<R: Read, W: Write>(
 
 /// One exchange of the message with that key over a connection of its own. Fails if no connection could be made, or if
 /// the peer didn't reply that the message was received.
-pub(crate) fn deliver<'a, D: Dial>(
+pub(crate) fn deliver<'a, N: Network>(
     alloc: Global,
-    dial: &'a D,
+    network: &'a N,
     peer: Node,
     key: usize,
     message: &'a Message,
-) -> Result<Delivered<'a, D>, Undelivered>
+) -> Result<Delivered<'a, N>, Undelivered>
     ensures value { IfOk result
-        (λ delivered. delivered ≡ record { dial = dial.now; peer = peer; key = key; message = message.now }) }
+        (λ delivered. delivered ≡ record { network = network.now; peer = peer; key = key; message = message.now }) }
     ensures received { IfOk result
-        (λ _. IsReceivedBy (D.leads dial.now) D.Reader.remaining D.Writer.contents peer message.now) }
+        (λ _. IsReceivedBy (N.leads network.now) N.Reader.remaining N.Writer.contents peer message.now) }
 {
-    let Some((reader, writer)) = dial.connect(peer) else {
+    let Some((reader, writer)) = network.connect(peer) else {
         return Err(Undelivered::NoConnection);
     };
     let mut reader = Counted::new(reader);
     let mut writer = Counted::new(writer);
     match deliver_over(alloc, &mut reader, &mut writer, message) {
         Ok(()) => Ok(Delivered {
-            dial,
+            network,
             peer,
             key,
             message,

@@ -3,7 +3,9 @@
 
 mod connections;
 mod delivery;
+mod direction;
 mod elapsed;
+mod joined;
 mod mustering;
 mod network;
 mod node_threads;
@@ -17,11 +19,12 @@ mod watched_reader;
 mod workers;
 
 pub use connections::{Accepted, Dial, Listen};
+pub use direction::Direction;
+pub use joined::JoinedNetwork;
 pub use mustering::{LONGEST_MUSTER, Muster, Mustered};
-pub use network::{Network, NodeTypes};
+pub use network::Network;
 pub use node_threads::{NodeThreads, WORKERS};
 pub use running::{new_seats, run_all, run_node};
-pub use sending::{Sent, send_next};
 pub use session_threads::SESSION_THREADS;
 pub use station::Station;
 pub use watched_reader::{MOST_SESSION_LINES, WatchedReader};

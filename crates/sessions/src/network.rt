@@ -1,28 +1,35 @@
-//! The types of a node's parts, and how nodes meet.
+//! The network of nodes: their connections with one another, their clock and their gate.
+ghost use Rattle.std.specs.Prelude.{IfSome};
+ghost use Rattle.units.specs.declared.code.Node.{Node};
 
-use crate::connections::{Dial, Listen};
+use crate::connections::Accepted;
 use desk::stores::NodeStore;
 use desk::{Clock, Gate};
+use std::io::{Read, Write};
+use units::Node;
 
-/// The types of those parts of a node that its threads share, so that one name stands for all of them. A type that
-/// implements it is only named: there need be no value of it.
-pub trait NodeTypes: Send {
-    /// The store of its records.
+/// The parts of a node that its threads share beside its desk: the connections that it accepts and makes, its clock,
+/// and the gate that its workers pass. Several nodes may share one network. It has few types, since a proof about a
+/// function takes longer with each type that the function reaches.
+pub trait Network: Clock + Gate + Send + Sync + Drop {
+    /// The store of a node's records.
     type Store: NodeStore + Send + Drop;
-    /// The listener that accepts its connections.
-    type Listener: Listen + Send + Sync + Drop;
-    /// The dialer that makes its connections.
-    type Dialer: Dial + Sync + Drop;
-    /// Its clock.
-    type Clock: Clock + Sync + Drop;
-    /// The gate that its workers pass.
-    type Gate: Gate + Sync + Drop;
-}
+    /// The bytes that the other end of a connection sends.
+    type Reader: Read + Send + Drop;
+    /// The bytes that go to the other end of a connection.
+    type Writer: Write + Send + Drop;
 
-/// How nodes meet: the dialer that makes their connections, the clock of all, and the gate that their workers pass.
-#[derive(Drop)]
-pub struct Network<N: NodeTypes> {
-    pub dialer: N::Dialer,
-    pub clock: N::Clock,
-    pub gate: N::Gate,
+    /// They are the two directions of a connection that it made with that node.
+    ghost leads: { Self → Node → Self.Reader → Self.Writer → Type 0 };
+
+    /// Waits for a connection that another one makes with the node, for a limited time, as `Listen::accept` does. Fails
+    /// if no connections are accepted for the node.
+    fn accept(&self, node: Node) -> Accepted<Self::Reader, Self::Writer>;
+
+    /// Takes back a connection of the node on which each line got a reply, as `Listen::give_back` does.
+    fn give_back(&self, node: Node, reader: Self::Reader, writer: Self::Writer);
+
+    /// Makes a connection with that node, and returns its two directions. `None` if that failed.
+    fn connect(&self, peer: Node) -> Option<(Self::Reader, Self::Writer)>
+        ensures { IfSome result (λ made. leads self.now peer made.0 made.1) };
 }

@@ -4,7 +4,7 @@ ghost use Rattle.sessions.specs.Orders.{HasNoOrder};
 ghost use Rattle.sessions.specs.Threads.{AreOfThread, thread_count};
 
 use crate::mustering::Muster;
-use crate::network::{Network, NodeTypes};
+use crate::network::Network;
 use crate::senders::send_all;
 use crate::session_threads::{SESSION_THREADS, serve_all};
 use crate::station::Station;
@@ -105,9 +105,9 @@ fn take_handing<R: Wait>(rt: &R, handings: &[Handing], number: usize) -> Option<
 /// time, a session ends at its next read, and the workers end once all session threads have ended, or once no job has
 /// come for a while.
 #[derive(Drop)]
-pub struct NodeThreads<'a, O: Opening, C: NodeCore, N: NodeTypes> {
+pub struct NodeThreads<'a, O: Opening, C: NodeCore, N: Network> {
     pub station: &'a Station<O, C, N>,
-    pub network: &'a Network<N>,
+    pub network: &'a N,
     /// The nodes that it sends to.
     pub peers: &'a [Node],
     /// The muster at which each thread reports once when it begins.
@@ -119,13 +119,13 @@ pub struct NodeThreads<'a, O: Opening, C: NodeCore, N: NodeTypes> {
     failures: Mutex<u32>,
 }
 
-impl<'a, O: Opening, C: NodeCore, N: NodeTypes> NodeThreads<'a, O, C, N> {
+impl<'a, O: Opening, C: NodeCore, N: Network> NodeThreads<'a, O, C, N> {
     /// The threads of the node at that station, which sends to these peers over that network. None has begun, and each
     /// reports at the muster when it does. Fails with `NoMemory` if memory ran out.
     pub fn new(
         alloc: Global,
         station: &'a Station<O, C, N>,
-        network: &'a Network<N>,
+        network: &'a N,
         peers: &'a [Node],
         muster: &'a Muster,
     ) -> Result<NodeThreads<'a, O, C, N>, NoMemory>
@@ -158,11 +158,11 @@ impl<'a, O: Opening, C: NodeCore, N: NodeTypes> NodeThreads<'a, O, C, N> {
     /// first, and ends soon after the desk stops, even if other threads of the node haven't begun.
     pub(crate) fn run_thread<R: Wait + SystemClock>(&self, rt: &R, index: usize, seat: &mut Seat)
         requires { AreOfThread
-            (N.Dialer.leads self.now.network.now.dialer) N.Dialer.Reader.remaining N.Dialer.Writer.contents
-            N.Store.NodeStore O.opened (N.Clock.tells self.now.network.now.clock) seat.old }
+            (N.leads self.now.network.now) N.Reader.remaining N.Writer.contents
+            N.Store.NodeStore O.opened (N.Clock.tells self.now.network.now) seat.old }
         ensures taken { AreOfThread
-            (N.Dialer.leads self.now.network.now.dialer) N.Dialer.Reader.remaining N.Dialer.Writer.contents
-            N.Store.NodeStore O.opened (N.Clock.tells self.now.network.now.clock) seat.new }
+            (N.leads self.now.network.now) N.Reader.remaining N.Writer.contents
+            N.Store.NodeStore O.opened (N.Clock.tells self.now.network.now) seat.new }
         ensures none { HasNoOrder seat.new }
     {
         self.muster.report(rt);
@@ -170,7 +170,15 @@ impl<'a, O: Opening, C: NodeCore, N: NodeTypes> NodeThreads<'a, O, C, N> {
             Post::Commit => commit_all(rt, &self.station.desk),
             Post::Serve(number) => {
                 if let Some(errands) = take_handing(rt, self.handings.as_slice(), number) {
-                    serve_all(rt, self.alloc, self.station, &self.failures, &errands, seat);
+                    serve_all(
+                        rt,
+                        self.alloc,
+                        self.station,
+                        self.network,
+                        &self.failures,
+                        &errands,
+                        seat,
+                    );
                 }
             }
             Post::Work => work(rt, self.station, self.network, &self.errands, seat),

@@ -4,7 +4,7 @@ ghost use Rattle.std.specs.Thread.{IsSync};
 ghost use Rattle.sessions.specs.Orders.{HasNoOrder, HaveNoOrders};
 ghost use Rattle.sessions.specs.Threads.{AreOfThread, thread_count};
 
-use crate::network::NodeTypes;
+use crate::network::Network;
 use crate::node_threads::NodeThreads;
 use desk::{Opening, Seat};
 use protocol::NodeCore;
@@ -41,12 +41,12 @@ pub fn run_node<O, C, N, R>(
 where
     O: Opening + Send,
     C: NodeCore + Send,
-    N: NodeTypes,
+    N: Network,
     R: Threads + Wait + SystemClock + Sync,
     ensures len { IfOk result (λ seats. vec_len seats ≡ thread_count (length node.now.peers.now)) }
     ensures taken { IfOk result (λ seats. All (AreOfThread
-        (N.Dialer.leads node.now.network.now.dialer) N.Dialer.Reader.remaining N.Dialer.Writer.contents
-        N.Store.NodeStore O.opened (N.Clock.tells node.now.network.now.clock)) seats.items) }
+        (N.leads node.now.network.now) N.Reader.remaining N.Writer.contents
+        N.Store.NodeStore O.opened (N.Clock.tells node.now.network.now)) seats.items) }
     ensures none { IfOk result (λ seats. All HasNoOrder seats.items) }
 {
     let mut seats = new_seats(alloc, node.count())?;
@@ -59,11 +59,11 @@ where
         &|index: usize, seat: &mut Seat|
             requires sync { IsSync R.row }
             requires taken { AreOfThread
-                (N.Dialer.leads node.now.network.now.dialer) N.Dialer.Reader.remaining N.Dialer.Writer.contents
-                N.Store.NodeStore O.opened (N.Clock.tells node.now.network.now.clock) seat.old }
+                (N.leads node.now.network.now) N.Reader.remaining N.Writer.contents
+                N.Store.NodeStore O.opened (N.Clock.tells node.now.network.now) seat.old }
             ensures taken { AreOfThread
-                (N.Dialer.leads node.entry.now.network.now.dialer) N.Dialer.Reader.remaining N.Dialer.Writer.contents
-                N.Store.NodeStore O.opened (N.Clock.tells node.entry.now.network.now.clock) seat.new }
+                (N.leads node.entry.now.network.now) N.Reader.remaining N.Writer.contents
+                N.Store.NodeStore O.opened (N.Clock.tells node.entry.now.network.now) seat.new }
             ensures none { HasNoOrder seat.new }
         { node.run_thread(rt, index, seat) },
     );
@@ -79,12 +79,12 @@ fn run_one<O, C, N, R>(
 where
     O: Opening + Send,
     C: NodeCore + Send,
-    N: NodeTypes,
+    N: Network,
     R: Threads + Wait + SystemClock + Sync,
     ensures len { IfOk result (λ seats. vec_len seats ≡ thread_count (length node.now.peers.now)) }
     ensures taken { IfOk result (λ seats. All (AreOfThread
-        (N.Dialer.leads node.now.network.now.dialer) N.Dialer.Reader.remaining N.Dialer.Writer.contents
-        N.Store.NodeStore O.opened (N.Clock.tells node.now.network.now.clock)) seats.items) }
+        (N.leads node.now.network.now) N.Reader.remaining N.Writer.contents
+        N.Store.NodeStore O.opened (N.Clock.tells node.now.network.now)) seats.items) }
     ensures none { IfOk result (λ seats. All HasNoOrder seats.items) }
 {
     let seats = run_node(rt, alloc, node);
@@ -106,7 +106,7 @@ pub fn run_all<O, C, N, R>(
 where
     O: Opening + Send,
     C: NodeCore + Send,
-    N: NodeTypes,
+    N: Network,
     R: Threads + Wait + SystemClock + Sync,
     ensures count { IfOk result (λ ends. vec_len ends ≡ vec_len nodes.entry) }
     ensures seats { IfOk result
@@ -117,8 +117,8 @@ where
         (λ ends. (k : ℕ) (node : _) (seats : _) → slice_get nodes.entry.items k ≡ Some node
         → slice_get ends.items k ≡ Some (Ok seats)
         → All (AreOfThread
-        (N.Dialer.leads node.network.now.dialer) N.Dialer.Reader.remaining N.Dialer.Writer.contents
-        N.Store.NodeStore O.opened (N.Clock.tells node.network.now.clock)) seats.items) }
+        (N.leads node.network.now) N.Reader.remaining N.Writer.contents
+        N.Store.NodeStore O.opened (N.Clock.tells node.network.now)) seats.items) }
     ensures none { IfOk result (λ ends. HaveNoOrders ends.items) }
 {
     let ends = thread::map_vec(
@@ -128,8 +128,8 @@ where
             requires { IsSync R.row }
             ensures len { IfOk result (λ seats. vec_len seats ≡ thread_count (length node.entry.peers.now)) }
             ensures taken { IfOk result (λ seats. All (AreOfThread
-                (N.Dialer.leads node.entry.network.now.dialer) N.Dialer.Reader.remaining N.Dialer.Writer.contents
-                N.Store.NodeStore O.opened (N.Clock.tells node.entry.network.now.clock)) seats.items) }
+                (N.leads node.entry.network.now) N.Reader.remaining N.Writer.contents
+                N.Store.NodeStore O.opened (N.Clock.tells node.entry.network.now)) seats.items) }
             ensures none { IfOk result (λ seats. All HasNoOrder seats.items) }
         { run_one(rt, alloc, &node) },
     )?;

@@ -3,7 +3,7 @@ ghost use Rattle.sessions.specs.Pauses.{RowAfter};
 ghost use Rattle.sessions.specs.Threads.{AreOfThread};
 
 use crate::elapsed::have_passed;
-use crate::network::{Network, NodeTypes};
+use crate::network::Network;
 use crate::patience::Patience;
 use crate::sending::{Sent, send_next};
 use crate::station::Station;
@@ -28,25 +28,25 @@ pub(crate) enum RoundEnd {
 /// Sends the unacknowledged messages to a peer: the one with the least key, and then those with higher keys, each once.
 /// Ends if no connection could be made, so that a peer that is down costs one connect a round. `patience` counts that
 /// failure, and each connection that was made ends the row before.
-fn send_round<O: Opening, C: NodeCore, N: NodeTypes, R: Wait>(
+fn send_round<O: Opening, C: NodeCore, N: Network, R: Wait>(
     rt: &R,
     alloc: Global,
     station: &Station<O, C, N>,
-    network: &Network<N>,
+    network: &N,
     peer: Node,
     seat: &mut Seat,
     patience: &mut Patience,
 ) -> RoundEnd
-    requires { AreOfThread (N.Dialer.leads network.now.dialer) N.Dialer.Reader.remaining N.Dialer.Writer.contents
-        N.Store.NodeStore O.opened (N.Clock.tells network.now.clock) seat.old }
+    requires { AreOfThread (N.leads network.now) N.Reader.remaining N.Writer.contents
+        N.Store.NodeStore O.opened (N.Clock.tells network.now) seat.old }
     ensures taken { AreOfThread
-        (N.Dialer.leads network.now.dialer) N.Dialer.Reader.remaining N.Dialer.Writer.contents
-        N.Store.NodeStore O.opened (N.Clock.tells network.now.clock) seat.new }
+        (N.leads network.now) N.Reader.remaining N.Writer.contents
+        N.Store.NodeStore O.opened (N.Clock.tells network.now) seat.new }
     ensures row { RowAfter patience.old.failures patience.new.failures result }
 {
     let mut from: usize = 0;
     for _ in rt.forever() {
-        match send_next(rt, alloc, &station.desk, seat, &network.dialer, peer, from) {
+        match send_next(rt, alloc, &station.desk, seat, network, peer, from) {
             Sent::Received(key) | Sent::NotReceived(key) => {
                 patience.end_row();
                 match key.checked_add(1) {
@@ -92,18 +92,18 @@ fn pause<O: Opening, C: NodeCore, S: NodeStore, B: Bell, R: Wait + SystemClock>(
 /// node. If a round ends because no connection could be made, the next one begins after a pause: of one second after
 /// the first such round, and of twice as long after each further one in a row, up to 60 seconds. A connection that was
 /// made ends the row.
-pub(crate) fn send_all<O: Opening, C: NodeCore, N: NodeTypes, R: Wait + SystemClock>(
+pub(crate) fn send_all<O: Opening, C: NodeCore, N: Network, R: Wait + SystemClock>(
     rt: &R,
     alloc: Global,
     station: &Station<O, C, N>,
-    network: &Network<N>,
+    network: &N,
     peer: Node,
     seat: &mut Seat,
 )
-    requires { AreOfThread (N.Dialer.leads network.now.dialer) N.Dialer.Reader.remaining N.Dialer.Writer.contents
-        N.Store.NodeStore O.opened (N.Clock.tells network.now.clock) seat.old }
-    ensures { AreOfThread (N.Dialer.leads network.now.dialer) N.Dialer.Reader.remaining N.Dialer.Writer.contents
-        N.Store.NodeStore O.opened (N.Clock.tells network.now.clock) seat.new }
+    requires { AreOfThread (N.leads network.now) N.Reader.remaining N.Writer.contents
+        N.Store.NodeStore O.opened (N.Clock.tells network.now) seat.old }
+    ensures { AreOfThread (N.leads network.now) N.Reader.remaining N.Writer.contents
+        N.Store.NodeStore O.opened (N.Clock.tells network.now) seat.new }
 {
     let mut patience = Patience::new();
     for _ in rt.forever() {

@@ -1,8 +1,8 @@
 //! Messages on their way to other nodes.
 ghost use Rattle.sessions.specs.Sending.{Acknowledges, Sends, Tries};
 
-use crate::connections::Dial;
 use crate::delivery::{Delivered, Undelivered, deliver};
+use crate::network::Network;
 use desk::stores::NodeStore;
 use desk::{Bell, Desk, Opening, Seat};
 use exchanges::Exchange;
@@ -14,7 +14,7 @@ use wire::{Input, Message, Number};
 
 /// The outcome for the next message to a peer.
 #[derive(Clone, Copy, Debug, PartialEq, Eq)]
-pub enum Sent {
+pub(crate) enum Sent {
     /// There is no such message.
     Nothing,
     /// The peer replied that it received the message with that key, and the desk was given its acknowledgement. A desk
@@ -42,13 +42,13 @@ fn take_acknowledgement<O: Opening, C: NodeCore, S: NodeStore, B: Bell, R: Wait>
 }
 
 /// Has the desk take the acknowledgement of a message that was delivered, if its key has few enough digits.
-fn acknowledge<O: Opening, C: NodeCore, S: NodeStore, B: Bell, D: Dial, R: Wait>(
+fn acknowledge<O: Opening, C: NodeCore, S: NodeStore, B: Bell, N: Network, R: Wait>(
     rt: &R,
     desk: &Desk<O, C, S, B>,
     seat: &mut Seat,
-    delivered: &Delivered<'_, D>,
+    delivered: &Delivered<'_, N>,
 ) -> Sent
-    ensures { Tries (D.leads delivered.now.dial) D.Reader.remaining D.Writer.contents
+    ensures { Tries (N.leads delivered.now.network) N.Reader.remaining N.Writer.contents
         delivered.now.peer delivered.now.message seat.old seat.new delivered.now.key result }
 {
     let key = delivered.key();
@@ -60,20 +60,20 @@ fn acknowledge<O: Opening, C: NodeCore, S: NodeStore, B: Bell, D: Dial, R: Wait>
 }
 
 /// Sends the message with that key over a connection of its own, and acknowledges it if it was delivered.
-fn send<O: Opening, C: NodeCore, S: NodeStore, B: Bell, D: Dial, R: Wait>(
+fn send<O: Opening, C: NodeCore, S: NodeStore, B: Bell, N: Network, R: Wait>(
     rt: &R,
     alloc: Global,
     desk: &Desk<O, C, S, B>,
     seat: &mut Seat,
-    dial: &D,
+    network: &N,
     peer: Node,
     key: usize,
     message: &Message,
 ) -> Sent
-    ensures { Tries (D.leads dial.now) D.Reader.remaining D.Writer.contents
+    ensures { Tries (N.leads network.now) N.Reader.remaining N.Writer.contents
         peer message.now seat.old seat.new key result }
 {
-    match deliver(alloc, dial, peer, key, message) {
+    match deliver(alloc, network, peer, key, message) {
         Ok(delivered) => acknowledge(rt, desk, seat, &delivered),
         Err(Undelivered::NoConnection) => Sent::Unreachable(key),
         Err(Undelivered::Ended(Exchange::NoMemory)) => Sent::NoMemory,
@@ -84,23 +84,23 @@ fn send<O: Opening, C: NodeCore, S: NodeStore, B: Bell, D: Dial, R: Wait>(
 /// Sends the next message to a peer: the one with the least key, from `from` on, that the committed records send and no
 /// record acknowledges. Makes one exchange over a connection of its own; if the peer replies that the message was
 /// received, the desk is given its acknowledgement with the sender's seat, and otherwise the seat notes nothing.
-pub fn send_next<O: Opening, C: NodeCore, S: NodeStore, B: Bell, D: Dial, R: Wait>(
+pub(crate) fn send_next<O: Opening, C: NodeCore, S: NodeStore, B: Bell, N: Network, R: Wait>(
     rt: &R,
     alloc: Global,
     desk: &Desk<O, C, S, B>,
     seat: &mut Seat,
-    dial: &D,
+    network: &N,
     peer: Node,
     from: usize,
 ) -> Sent
-    ensures { Sends (D.leads dial.now) D.Reader.remaining D.Writer.contents S.NodeStore O.opened
+    ensures { Sends (N.leads network.now) N.Reader.remaining N.Writer.contents S.NodeStore O.opened
         peer from seat.old seat.new result }
 {
     let Ok(found) = desk.next_send(rt, peer, from) else {
         return Sent::NoMemory;
     };
     match found {
-        Some((key, message)) => send(rt, alloc, desk, seat, dial, peer, key, &message),
+        Some((key, message)) => send(rt, alloc, desk, seat, network, peer, key, &message),
         None => Sent::Nothing,
     }
 }

@@ -2,8 +2,8 @@
 ghost use Rattle.std.specs.Prelude.{◌≡◌, IfSome};
 ghost use Rattle.sessions.specs.Serving.{IsRepliedTo};
 
-use crate::connections::{Accepted, Listen};
-use crate::network::NodeTypes;
+use crate::connections::Accepted;
+use crate::network::Network;
 use crate::station::Station;
 use crate::watched_reader::WatchedReader;
 use crate::workers::{Errand, WorkersAnswerer};
@@ -99,15 +99,16 @@ fn serve_one<
 }
 
 /// Accepts connections and serves each to its end, until the desk stops. A connection whose stream ended after a line
-/// is given back to the listener. It stops the desk if `MOST_FAILED_ACCEPTS` accepts in a row failed, at all session
+/// is given back to the network. It stops the desk if `MOST_FAILED_ACCEPTS` accepts in a row failed, at all session
 /// threads together. An accept to which nobody came isn't a failed one, and doesn't end the row.
 ///
 /// A node has `SESSION_THREADS` such threads. If the system has no thread for some of them, fewer sessions are served
 /// at a time, or none. The seat makes no record: it keeps the receipts of the thread's answers.
-pub(crate) fn serve_all<O: Opening, C: NodeCore, N: NodeTypes, R: Wait + SystemClock>(
+pub(crate) fn serve_all<O: Opening, C: NodeCore, N: Network, R: Wait + SystemClock>(
     rt: &R,
     alloc: Global,
     station: &Station<O, C, N>,
+    network: &N,
     failures: &Mutex<u32>,
     errands: &Sender<Errand>,
     seat: &mut Seat,
@@ -118,12 +119,12 @@ pub(crate) fn serve_all<O: Opening, C: NodeCore, N: NodeTypes, R: Wait + SystemC
         if !station.desk.is_running(rt) {
             break;
         }
-        match station.listener.accept() {
+        match network.accept(station.node) {
             Accepted::Connection(reader, writer) => {
                 *failures.lock(rt) = 0;
                 let served = serve_one(rt, alloc, &station.desk, reader, writer, errands, seat);
                 if let Some((reader, writer)) = served {
-                    station.listener.give_back(reader, writer);
+                    network.give_back(station.node, reader, writer);
                 }
             }
             Accepted::Nobody => {}

@@ -5,7 +5,7 @@ ghost use Rattle.replies.specs.Answers.{IsRefusedBy};
 ghost use Rattle.replies.specs.Lines.{IsNoLine};
 ghost use Rattle.sessions.specs.Threads.{AreOfThread};
 
-use crate::network::{Network, NodeTypes};
+use crate::network::Network;
 use crate::station::Station;
 use crossbeam_channel::{Receiver, RecvTimeoutError, Sender};
 use desk::stores::NodeStore;
@@ -189,24 +189,24 @@ impl<'a, O: Opening, C: NodeCore, S: NodeStore, B: Bell, R: Wait + SystemClock> 
 /// Has the desk take the jobs of errands with this seat, and hands back the result of each without waiting for a
 /// commit, until no session thread is left. It also ends if the desk has stopped and no job comes, since a session
 /// thread may not have begun yet.
-pub(crate) fn work<O: Opening, C: NodeCore, N: NodeTypes, R: Wait + SystemClock>(
+pub(crate) fn work<O: Opening, C: NodeCore, N: Network, R: Wait + SystemClock>(
     rt: &R,
     station: &Station<O, C, N>,
-    network: &Network<N>,
+    network: &N,
     errands: &Receiver<Errand>,
     seat: &mut Seat,
 )
-    requires { AreOfThread (N.Dialer.leads network.now.dialer) N.Dialer.Reader.remaining N.Dialer.Writer.contents
-        N.Store.NodeStore O.opened (N.Clock.tells network.now.clock) seat.old }
-    ensures { AreOfThread (N.Dialer.leads network.now.dialer) N.Dialer.Reader.remaining N.Dialer.Writer.contents
-        N.Store.NodeStore O.opened (N.Clock.tells network.now.clock) seat.new }
+    requires { AreOfThread (N.leads network.now) N.Reader.remaining N.Writer.contents
+        N.Store.NodeStore O.opened (N.Clock.tells network.now) seat.old }
+    ensures { AreOfThread (N.leads network.now) N.Reader.remaining N.Writer.contents
+        N.Store.NodeStore O.opened (N.Clock.tells network.now) seat.new }
 {
     for _ in rt.forever() {
         let Some(errand) = receive(rt, &station.desk, errands) else {
             break;
         };
         let Errand { job, back } = errand;
-        let begun = begin_job(rt, &station.desk, seat, &network.clock, &network.gate, job);
+        let begun = begin_job(rt, &station.desk, seat, network, network, job);
         drop(back.send(rt, begun));
         drop(back);
     }

@@ -1,5 +1,2 @@
 pub mod AcceptFaults
 pub mod Addresses
-pub mod LineEnds
-pub mod Loopback
-pub mod Waiting

@@ -1,7 +1,7 @@
 //! Connections that this side makes.
 ghost use Rattle.std.specs.Prelude.{◌≡◌, IfSome};
 
-use crate::loopback::{LONGEST_WAIT, directions};
+use connections::{LONGEST_WAIT, directions};
 use std::io::{self, ErrorKind, Read, Write};
 use std::marker::Model;
 use std::net::{Net, SocketAddr, TcpStream};

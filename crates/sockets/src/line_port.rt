@@ -1,13 +1,11 @@
 //! A port where connections wait for their lines.
 ghost use Rattle.std.specs.Prelude.{◌≡◌};
 ghost use Rattle.std.specs.VecDeque.{deque_len};
-ghost use Rattle.sockets.specs.Waiting.{MayHold};
+ghost use Rattle.connections.specs.Waiting.{MayHold};
 
 use crate::accept_faults::{AcceptFault, accept_fault};
-use crate::connections::{Connections, Ready};
-use crate::held::Held;
-use crate::loopback::limit_waits;
 use crate::port::LONGEST_ACCEPT;
+use connections::{Connections, Held, Ready, limit_waits};
 use mio::unix::SourceFd;
 use mio::{Events, Interest, Poll, Registry, Token};
 use sessions::{Accepted, Listen};

@@ -1,8 +1,8 @@
 //! Where one node accepts connections.
 ghost use Rattle.std.specs.Prelude.{◌≡◌, IfOk};
-ghost use Rattle.sockets.specs.Loopback.{IsOfLoopback};
+ghost use Rattle.connections.specs.Loopback.{IsOfLoopback};
 
-use crate::loopback::{at_loopback, directions};
+use connections::{at_loopback, directions};
 use sessions::{Accepted, Listen};
 use std::io::{self, ErrorKind};
 use std::marker::Model;
@@ -42,7 +42,7 @@ impl Drop for Port {
 
 impl Model for Port {
     ghost use Rattle.std.specs.declared.net.socket_addr.SocketAddr.{SocketAddr};
-    ghost use Rattle.sockets.specs.Loopback.{IsOfLoopback};
+    ghost use Rattle.connections.specs.Loopback.{IsOfLoopback};
 
     ghost Value = { SocketAddr };
 

@@ -86,7 +86,7 @@ pub fn open_path_watched<W: Watch>(
 {
     let options = options(rt)?;
     let files = files_at(rt, path)?;
-    match SqlStore::open_files_watched(rt.alloc(), files, options, node, watch) {
+    match SqlStore::open_files(rt.alloc(), files, options, node, watch) {
         Ok(store) => Ok(store),
         Err((fault, _)) => Err(fault),
     }

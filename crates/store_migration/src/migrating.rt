@@ -18,7 +18,8 @@ use sqlite::{Alter, Connection, Error as SqlError, Transaction};
 use std::alloc::Global;
 use store_tables::{bodies, fault_of, rows_inside};
 use stores::{PAGE, StoreFault};
-use wire::{RecordFormat, TextFault, decode_input_v1, encode_input};
+use wire::{RecordFormat, TextFault, encode_input};
+use wire_lines::decode_input_v1;
 
 /// Gives the record at a place another body, within the transaction.
 fn put_body<S: Alter>(tx: &mut Transaction<'_, S>, place: u64, body: &[u8]) -> Result<(), SqlError>

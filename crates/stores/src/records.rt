@@ -8,7 +8,8 @@ ghost use Rattle.stores.specs.declared.fault.StoreFault.TheVariants.{NoMemory as
 use crate::fault::StoreFault;
 use std::alloc::Global;
 use units::NoMemory;
-use wire::{Input, TextFault, decode_input, encode_input};
+use wire::{Input, TextFault, encode_input};
+use wire_lines::decode_input;
 
 /// The texts of the records of a batch, in their order.
 pub fn encode_records(alloc: Global, batch: &[Input]) -> Result<Vec<Vec<u8>>, NoMemory>

@@ -76,10 +76,6 @@ pub const SECOND_COMPLETED: &str =
 pub const SECOND_COMPLETED_TO_JP: &str =
     r#"{"call":"AcceptNotification","codes":[],"from":"ITL","status":"Completed","to":"JP","transaction":"NZ2"}"#;
 
-/// The log has cancelled NZ2, to JP.
-pub const SECOND_CANCELLED_TO_JP: &str =
-    r#"{"call":"AcceptNotification","codes":[],"from":"ITL","status":"Cancelled","to":"JP","transaction":"NZ2"}"#;
-
 /// The record of NZ that proposes NZ1.
 pub const PROPOSE_RECORD: &str =
     r#"{"account":1,"input":"propose","to_account":7,"to_registry":"JP","units":["NZ:1:1-100:AAU"],"v":2}"#;

@@ -139,16 +139,16 @@ fn push_members(
     text: &mut Vec<u8>,
     moment: &str,
     seat: &str,
-    record: &[u8],
+    body: &[u8],
     status: &str,
 ) -> Result<(), NoMemory>
     ensures { OnOk result (text.new.items ≡ text.old.items ++ (codes "{\"moment\":" ++ moment.now ++ seat.now
-        ++ record.now ++ codes ",\"status\":" ++ status.now ++ codes "}\n")) }
+        ++ body.now ++ codes ",\"status\":" ++ status.now ++ codes "}\n")) }
 {
     text.extend_from_slice(b"{\"moment\":")?;
     text.extend_from_slice(moment.as_bytes())?;
     text.extend_from_slice(seat.as_bytes())?;
-    text.extend_from_slice(record)?;
+    text.extend_from_slice(body)?;
     text.extend_from_slice(b",\"status\":")?;
     text.extend_from_slice(status.as_bytes())?;
     text.extend_from_slice(b"}\n")?;

@@ -1,31 +1,26 @@
-//! The messages of nodes and the records of their journals, as text.
+//! The messages of nodes and the records of their journals: their types, the grammar of their texts, and how they are
+//! written. `wire_lines` reads them.
 #![tactic(auto)]
 
 mod codes;
-mod exact;
-mod guesses;
 mod input;
-mod lists;
+mod laws;
 mod members;
 mod message;
 mod notified;
-mod reading;
-mod reading_records;
 mod record_format;
 mod reply;
 mod reply_code;
 mod same;
-mod values;
 mod writing;
 mod writing_records;
 
 pub use codes::{AcquirerCodes, LogCodes};
 pub use input::{Input, Number};
 pub use json_fields::TextFault;
+pub use laws::{one_input, one_message};
 pub use message::{Body, Message, Proposal, ProposalStatus};
 pub use notified::NotifiedStatus;
-pub use reading::{decode, one_message};
-pub use reading_records::{decode_input, decode_input_v1, one_input};
 pub use record_format::RecordFormat;
 pub use reply::{Reply, ReplyFault, one_reply};
 pub use reply_code::ReplyCode;

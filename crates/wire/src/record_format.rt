@@ -1,11 +1,7 @@
 //! The formats of a journal's records.
-ghost use Rattle.std.specs.Prelude.{◌≡◌, ◌≤◌, ◌↔◌, IsTrue, length};
-ghost use Rattle.serde_json.specs.View.{view};
-ghost use Rattle.wire.specs.Objects.{HasFields};
+ghost use Rattle.std.specs.Prelude.{◌≡◌, ◌≤◌, length};
 ghost use Rattle.wire.specs.Records.{format_fields, last_unit_of, number_of};
 
-use crate::values::has_number;
-use serde_json::Value;
 use units::limits::{LAST_UNIT, LAST_UNIT_OF_FORMAT_ONE};
 
 /// A format of a journal's records.
@@ -29,7 +25,7 @@ impl RecordFormat {
     }
 
     /// How many keys a record has besides those of its input.
-    pub(crate) fn keys(self) -> usize
+    pub fn keys(self) -> usize
         ensures count { result ≡ length (format_fields self) }
         ensures few { result ≤ 1 }
     {
@@ -40,22 +36,12 @@ impl RecordFormat {
     }
 
     /// The greatest number of a unit in a message.
-    pub(crate) fn last_unit(self) -> u64
+    pub fn last_unit(self) -> u64
         ensures { result ≡ last_unit_of self }
     {
         match self {
             RecordFormat::One => LAST_UNIT_OF_FORMAT_ONE,
             RecordFormat::Two => LAST_UNIT,
-        }
-    }
-
-    /// Whether the object has the fields that the format adds.
-    pub(crate) fn is_of(self, value: &Value) -> bool
-        ensures { IsTrue result ↔ HasFields (view value.now) (format_fields self) }
-    {
-        match self {
-            RecordFormat::One => true,
-            RecordFormat::Two => has_number(value, "v", u64::from(self.number())),
         }
     }
 }

@@ -2,8 +2,8 @@ use Rattle.std.proofs.Common.{◌∙◌, Ok, Err, ap, subst}
 use Rattle.units.specs.declared.code.Node.{Node}
 use Rattle.protocol.specs.Scheme.{Scheme}
 use Rattle.protocol.specs.Cores.{Replays}
-use Rattle.desk.specs.Loading.{IsLoaded}
-use Rattle.desk.specs.Views.{StateView}
+use Rattle.node_state.specs.Loading.{IsLoaded}
+use Rattle.node_state.specs.Views.{StateView}
 use Rattle.world.specs.Cores.{scheme_of}
 use Rattle.audit.proofs.Loaded.{fails_at}
 use Rattle.audit.proofs.loading.load_one.Goals as goal

@@ -1,7 +1,7 @@
 use Rattle.std.proofs.Common.{◌≡◌, ◌∙◌, ℕ, suc, List, Some, refl, sym, ap, subst, length, arith}
 use Rattle.std.specs.Prelude.{slice_get}
 use Rattle.desk.specs.Keeping.{IsKept, StoredView}
-use Rattle.desk.specs.Views.{StateView}
+use Rattle.node_state.specs.Views.{StateView}
 use Rattle.world.specs.declared.any_core.Core.{Core}
 use Rattle.audit.specs.Opened.{opened_core}
 use Rattle.audit.proofs.Pairs.{both_moved, one_moved}

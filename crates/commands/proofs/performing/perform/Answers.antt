@@ -3,7 +3,7 @@ use Rattle.std.specs.Io.KnownBytes.{Appends}
 use Rattle.std.specs.Prelude.{String}
 use Rattle.std.specs.declared.alloc.Global.{Global}
 use Rattle.command_faults.specs.declared.fault.OpFault.{OpFault}
-use Rattle.audit.proofs.Reporting.{if_err, on_ok}
+use Rattle.ended_nodes.proofs.Reporting.{if_err, on_ok}
 use Rattle.explain.specs.Topics.{Explains, FailsToExplain}
 use Rattle.commands.specs.Commands.{AuditsTo, FailsToAuditTo, FailsToListFolder, FailsToRunFolder, FailsToShowNode, FailsToTraceFolder, ListsFolder, RunsFolder, ShowsNode, TracesFolder}
 use Rattle.commands.proofs.performing.perform.Goals as goal

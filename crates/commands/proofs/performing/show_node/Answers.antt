@@ -1,6 +1,6 @@
 use Rattle.std.proofs.Common.{inl, inr}
 use Rattle.std.proofs.lemmas.Result.{err_from_is_err_and}
-use Rattle.audit.proofs.Reporting.{if_err, keeps_same, on_ok}
+use Rattle.ended_nodes.proofs.Reporting.{if_err, keeps_same, on_ok}
 use Rattle.commands.proofs.performing.show_node.Goals as goal
 
 pub returns-in_err-node-clause-err : goal.returns-in_err-node-clause-err

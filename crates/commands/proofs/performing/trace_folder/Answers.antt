@@ -1,7 +1,7 @@
 use Rattle.std.proofs.Common.{◌∙◌, ap, inl, inr, length, sym}
 use Rattle.std.proofs.lemmas.Result.{err_from_is_err_and}
 use Rattle.protocol.specs.Registries.{nodes}
-use Rattle.audit.proofs.Reporting.{if_err, keeps_same, on_ok}
+use Rattle.ended_nodes.proofs.Reporting.{if_err, keeps_same, on_ok}
 use Rattle.commands.proofs.InFolder.{count_of}
 use Rattle.commands.proofs.performing.trace_folder.Goals as goal
 

@@ -4,8 +4,8 @@ use Rattle.std.proofs.lemmas.List.Elements.{All-push}
 use Rattle.weave.proofs.Lists.{one_done, all_done}
 use Rattle.desk.specs.Keeping.{StoredView}
 use Rattle.command_faults.specs.Faults.{of_store}
-use Rattle.audit.specs.Ended.{stored_in}
-use Rattle.audit.proofs.Reporting.{on_ok}
+use Rattle.ended_nodes.specs.Ended.{stored_in}
+use Rattle.ended_nodes.proofs.Reporting.{on_ok}
 use Rattle.commands.specs.Commands.{AreClosed}
 use Rattle.commands.proofs.Closing.{at_next, part_done}
 use Rattle.commands.proofs.running.close_stores.Goals as goal

@@ -1,6 +1,6 @@
 use Rattle.std.proofs.Common.{◌≡◌, ◌++◌, List, IfErr, OnOk}
 use Rattle.desk.specs.Keeping.{StoredView}
-use Rattle.audit.specs.Ended.{stored_in}
+use Rattle.ended_nodes.specs.Ended.{stored_in}
 use Rattle.commands.specs.Commands.{AreClosed, HasClosingFault}
 use Rattle.commands.proofs.running.close_stores.Given as goal
 

@@ -1,6 +1,6 @@
 use Rattle.std.proofs.Common.{inl, inr}
-use Rattle.audit.specs.Ended.{stored_in}
-use Rattle.audit.proofs.Reporting.{if_err, on_ok}
+use Rattle.ended_nodes.specs.Ended.{stored_in}
+use Rattle.ended_nodes.proofs.Reporting.{if_err, on_ok}
 use Rattle.commands.proofs.running.run_loaded.Goals as goal
 
 pub returns-in-Ok-close_stores-clause-ok : goal.returns-in-Ok-close_stores-clause-ok

@@ -1,4 +1,4 @@
-use Rattle.audit.proofs.Reporting.{if_ok}
+use Rattle.ended_nodes.proofs.Reporting.{if_ok}
 use Rattle.one_node.proofs.Shifting.{life_as}
 use Rattle.commands.proofs.standing.run_over.Goals as goal
 

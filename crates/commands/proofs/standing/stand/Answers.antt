@@ -2,8 +2,8 @@ use Rattle.std.proofs.Common.{◌≡◌, ◌∙◌, ℕ, List, ap, subst}
 use denote.Ref.{Bor}
 use Rattle.std.specs.Io.KnownBytes.{Appends}
 use Rattle.units.specs.declared.code.Node.{Node}
-use Rattle.desk.specs.Views.{StateView}
-use Rattle.audit.proofs.Reporting.{on_ok}
+use Rattle.node_state.specs.Views.{StateView}
+use Rattle.ended_nodes.proofs.Reporting.{on_ok}
 use Rattle.node_setup.specs.Sums.{sum_text}
 use Rattle.commands.specs.Standing.{IsExported, Lives, LoadsNode, sum_line}
 use Rattle.commands.proofs.standing.stand.Goals as goal

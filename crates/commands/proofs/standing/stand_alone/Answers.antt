@@ -1,6 +1,6 @@
 use Rattle.std.proofs.Common.{Err, IfErr, List, Ok, Result, inl, inr, subst, ℕ}
 use Rattle.std.proofs.lemmas.Result.{err_from_is_err_and}
-use Rattle.audit.proofs.Reporting.{keeps_same, on_ok}
+use Rattle.ended_nodes.proofs.Reporting.{keeps_same, on_ok}
 use Rattle.commands.specs.Opened.{HasScheme}
 use Rattle.commands.proofs.standing.stand_alone.Goals as goal
 

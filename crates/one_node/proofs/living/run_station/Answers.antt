@@ -4,5 +4,5 @@ use Rattle.one_node.proofs.living.run_station.Goals as goal
 
 pub returns-clause-taken : goal.returns-clause-taken
 returns-clause-taken g c =
-    subst (λ q. IfOk c.run_shift.result (λ s. All (AreOfThread (g.N.Dialer.Dial.leads q.now.dialer) g.N.Dialer.Reader.Read.remaining g.N.Dialer.Writer.Write.contents g.N.Store.NodeStore g.O.Opening.opened (g.N.Clock.Clock.tells q.now.clock)) s.threads.items))
+    subst (λ q. IfOk c.run_shift.result (λ s. All (AreOfThread (g.N.Network.leads q.now) g.N.Reader.Read.remaining g.N.Writer.Write.contents g.N.Store.NodeStore g.O.Opening.opened (g.N.Clock.tells q.now)) s.threads.items))
     c.in_ok-threads.ensures.network c.run_shift.ensures.taken

@@ -1,6 +1,6 @@
 use Rattle.std.proofs.Common.{◌≡◌, ◌↔◌, ◌∙◌, Bool, IsTrue, ap, subst, sym}
 use Rattle.units.proofs.Same.{node_told}
-use Rattle.run.specs.Answers.{is_possible, node_of}
+use Rattle.serving.specs.Answers.{is_possible, node_of}
 use Rattle.one_node.proofs.Possible.{possible_order, possible_question}
 use Rattle.one_node.proofs.operator.is_possible.Goals as goal
 

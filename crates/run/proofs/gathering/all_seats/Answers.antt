@@ -1,5 +1,5 @@
 use Rattle.std.proofs.Common.{◌++◌, ◌∷◌, [], List, ap, subst, ◌∙◌}
-use Rattle.desk.specs.Views.{SeatView}
+use Rattle.node_state.specs.Views.{SeatView}
 use Rattle.sessions.specs.Orders.{HasOnly}
 use Rattle.run.proofs.Collected.{HasSuch, has_seats}
 use Rattle.run.proofs.gathering.all_seats.Goals as goal

@@ -4,10 +4,10 @@ use Rattle.std.specs.Prelude.{All}
 use Rattle.std.proofs.lemmas.List.{length-map, map-append}
 use Rattle.std.proofs.lemmas.List.Elements.{All-nil, All-push}
 use Rattle.std.proofs.lemmas.Result.{err_from_is_err_and}
-use Rattle.desk.specs.Views.{SeatView}
+use Rattle.node_state.specs.Views.{SeatView}
 use Rattle.sessions.specs.Orders.{HasOnly}
-use Rattle.audit.specs.Ended.{stored_in}
-use Rattle.run.specs.Runs.{EndsWell}
+use Rattle.ended_nodes.specs.Ended.{stored_in}
+use Rattle.serving.specs.Ends.{EndsWell}
 use Rattle.run.proofs.Collected.{gathered_more, rest_more, such_left}
 use Rattle.run.proofs.Wired.{all_handed, handed_on, part_of_part}
 use Rattle.run.proofs.gathering.end_all.Goals as goal

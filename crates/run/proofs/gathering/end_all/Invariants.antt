@@ -1,9 +1,9 @@
 use Rattle.std.proofs.Common.{◌≡◌, ◌+◌, ◌++◌, drop, length, map}
 use Rattle.std.specs.Prelude.{All}
 use Rattle.sessions.specs.Orders.{AreAll, HasOnly}
-use Rattle.audit.specs.Ended.{seats_in, stored_in}
+use Rattle.ended_nodes.specs.Ended.{seats_in, stored_in}
 use Rattle.run.specs.Gathered.{AreGatheredTo}
-use Rattle.run.specs.Runs.{EndsWell}
+use Rattle.serving.specs.Ends.{EndsWell}
 use Rattle.run.proofs.gathering.end_all.Given as goal
 
 abbrev pub invariant-loop-station : goal.invariant-loop-station

@@ -1,5 +1,5 @@
 use Rattle.std.proofs.Common.{◌∙◌, ap, sym}
-use Rattle.run.specs.Answers.{is_possible, node_of}
+use Rattle.serving.specs.Answers.{is_possible, node_of}
 use Rattle.run.proofs.Indices.{order_nowhere, order_placed, question_nowhere, question_placed}
 use Rattle.run.proofs.playing.index_for.Goals as goal
 

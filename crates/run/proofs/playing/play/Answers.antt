@@ -2,8 +2,8 @@ use Rattle.std.proofs.Common.{◌<◌, length, arith, sym}
 use Rattle.std.proofs.Math.ListN.{set}
 use Rattle.std.proofs.lemmas.List.{get_or-set_same, length-set}
 use Rattle.std.proofs.lemmas.Option.{slice_get-get_or, slice_get_read}
-use Rattle.run.proofs.HeardLines.{grow_at}
-use Rattle.run.proofs.Ordering.{orders_asked, orders_impossible}
+use Rattle.serving.proofs.HeardLines.{grow_at}
+use Rattle.serving.proofs.Ordering.{orders_asked, orders_impossible}
 use Rattle.run.proofs.playing.play.Goals as goal
 
 pub returns-in-Some-clause-heard : goal.returns-in-Some-clause-heard

@@ -1,7 +1,7 @@
 use Rattle.std.proofs.Common.{◌∙◌, ◌<◌, length, refl, arith}
-use Rattle.audit.proofs.Settling.{found_at}
-use Rattle.run.proofs.HeardLines.{heard_next}
-use Rattle.run.proofs.Ordering.{orders_next, played_none}
+use Rattle.ended_nodes.proofs.Settling.{found_at}
+use Rattle.serving.proofs.HeardLines.{heard_next}
+use Rattle.serving.proofs.Ordering.{orders_next, played_none}
 use Rattle.run.proofs.playing.play_all.Goals as goal
 
 pub loop-line-init : goal.loop-line-init

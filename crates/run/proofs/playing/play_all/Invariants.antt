@@ -1,5 +1,5 @@
 use Rattle.std.proofs.Common.{◌≡◌, length, take}
-use Rattle.run.specs.Orders.{IsPlayed}
+use Rattle.serving.specs.Orders.{IsPlayed}
 use Rattle.run.proofs.playing.play_all.Given as goal
 
 abbrev pub invariant-loop-line : goal.invariant-loop-line

@@ -4,8 +4,8 @@ use Rattle.run.specs.Runs.{IsLoadedAmong}
 use Rattle.run.proofs.running.run_script.Given as goal
 
 abbrev pub ghosts-run_opened-O-Opening : goal.ghosts-run_opened-O-Opening
-ghosts-run_opened-O-Opening g a = record { opened = IsLoadedAmong g.N.Store.NodeStore a.scheme.now (map (λ n. n.stored) a.loaded.items) }
+ghosts-run_opened-O-Opening g a = record { opened = IsLoadedAmong g.N.Store.NodeStore a.scheme.now a.loaded.items }
 
 -- the input is one that a thread of the run takes
 abbrev pub ghosts-run_opened-T-Taking : goal.ghosts-run_opened-T-Taking
-ghosts-run_opened-T-Taking g a = record { takes = IsOfThread (g.N.Dialer.Dial.leads a.network.now.dialer) g.N.Dialer.Reader.Read.remaining g.N.Dialer.Writer.Write.contents g.N.Store.NodeStore (IsLoadedAmong g.N.Store.NodeStore a.scheme.now (map (λ n. n.stored) a.loaded.items)) (g.N.Clock.Clock.tells a.network.now.clock) }
+ghosts-run_opened-T-Taking g a = record { takes = IsOfThread (g.N.Network.leads a.network.now) g.N.Reader.Read.remaining g.N.Writer.Write.contents g.N.Store.NodeStore (IsLoadedAmong g.N.Store.NodeStore a.scheme.now a.loaded.items) (g.N.Clock.tells a.network.now) }

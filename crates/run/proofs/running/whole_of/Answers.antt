@@ -3,11 +3,12 @@ use Rattle.std.proofs.lemmas.List.{length-map}
 use Rattle.std.proofs.lemmas.Result.{err_from_is_err_and}
 use Rattle.units.specs.declared.code.Node.{Node}
 use Rattle.protocol.specs.Registries.{nodes}
-use Rattle.audit.specs.Ended.{seats_in, states_in, stored_in}
-use Rattle.run.specs.Answers.{first_undone}
+use Rattle.ended_nodes.specs.Ended.{seats_in, states_in, stored_in}
+use Rattle.serving.specs.Answers.{first_undone}
 use Rattle.run.specs.Gathered.{AreGathered}
-use Rattle.run.specs.Runs.{HaveEnded, HaveOthers, IsRunReport}
-use Rattle.audit.specs.declared.ended.EndedNode.{EndedNode}
+use Rattle.serving.specs.Ends.{HaveEnded}
+use Rattle.run.specs.Runs.{HaveOthers, IsRunReport}
+use Rattle.ended_nodes.specs.declared.ended.EndedNode.{EndedNode}
 use Rattle.run.proofs.Written.{late_fault}
 use Rattle.run.proofs.running.whole_of.Goals as goal
 

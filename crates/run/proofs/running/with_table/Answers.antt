@@ -1,6 +1,6 @@
 use Rattle.std.proofs.Common.{◌∙◌, ◌++◌, ℕ, List, string_bytes, ap}
 use Rattle.std.proofs.lemmas.List.{length-map}
-use Rattle.audit.specs.Ended.{seats_in, states_in, stored_in}
+use Rattle.ended_nodes.specs.Ended.{seats_in, states_in, stored_in}
 use Rattle.run.proofs.Reported.{other_records, run_report}
 use Rattle.run.proofs.running.with_table.Goals as goal
 

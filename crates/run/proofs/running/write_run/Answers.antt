@@ -1,6 +1,6 @@
 use Rattle.std.proofs.Common.{◌∙◌, ap}
-use Rattle.run.specs.Answers.{answer_lines, first_undone}
-use Rattle.audit.specs.Ended.{states_in, stored_in}
+use Rattle.serving.specs.Answers.{answer_lines, first_undone}
+use Rattle.ended_nodes.specs.Ended.{states_in, stored_in}
 use Rattle.run.proofs.Written.{fails_in_report, fails_late, report_with}
 use Rattle.run.proofs.running.write_run.Goals as goal
 

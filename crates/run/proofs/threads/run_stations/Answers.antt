@@ -10,8 +10,8 @@ returns-clause-taken g c =
     let nodes = c.in_ok-nodes.nodes in
     both_ok c.run_beside.result
     (λ heard len each. all_taken nodes.items (λ n. n.network.now ≡ network)
-    (λ n. AreOfThread (g.N.Dialer.Dial.leads n.network.now.dialer) g.N.Dialer.Reader.Read.remaining g.N.Dialer.Writer.Write.contents g.N.Store.NodeStore g.O.Opening.opened (g.N.Clock.Clock.tells n.network.now.clock))
-    (AreOfThread (g.N.Dialer.Dial.leads network.dialer) g.N.Dialer.Reader.Read.remaining g.N.Dialer.Writer.Write.contents g.N.Store.NodeStore g.O.Opening.opened (g.N.Clock.Clock.tells network.clock))
-    (λ n alike s of. subst (λ net. AreOfThread (g.N.Dialer.Dial.leads net.dialer) g.N.Dialer.Reader.Read.remaining g.N.Dialer.Writer.Write.contents g.N.Store.NodeStore g.O.Opening.opened (g.N.Clock.Clock.tells net.clock) s) alike of)
+    (λ n. AreOfThread (g.N.Network.leads n.network.now) g.N.Reader.Read.remaining g.N.Writer.Write.contents g.N.Store.NodeStore g.O.Opening.opened (g.N.Clock.tells n.network.now))
+    (AreOfThread (g.N.Network.leads network) g.N.Reader.Read.remaining g.N.Writer.Write.contents g.N.Store.NodeStore g.O.Opening.opened (g.N.Clock.tells network))
+    (λ n alike s of. subst (λ net. AreOfThread (g.N.Network.leads net) g.N.Reader.Read.remaining g.N.Writer.Write.contents g.N.Store.NodeStore g.O.Opening.opened (g.N.Clock.tells net) s) alike of)
     c.in_ok-nodes.ensures.network heard.threads.items (sym heard.threads.ok.0 ∙ len ∙ nodes.ok.0) each)
     c.run_beside.ensures.len c.run_beside.ensures.taken

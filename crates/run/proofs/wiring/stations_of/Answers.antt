@@ -12,8 +12,7 @@ loop-node-init g c =
 pub push_station-requires-after_bounds : goal.push_station-requires-after_bounds
 push_station-requires-after_bounds g c = λ lifetimes live.
     let opens = MayOpen g.N.Store.NodeStore g.O.Opening.opened in
-    let step = ap (map (λ n. n.stored)) c.in-Some.ensures.steps.0 in
-    All-head opens c.in-Some.node.stored (map (λ n. n.stored) c.next.new.self.rest.items) (subst (All opens) step c.loop-node.invariant.may_open)
+    All-head opens c.in-Some.node c.next.new.self.rest.items (subst (All opens) c.in-Some.ensures.steps.0 c.loop-node.invariant.may_open)
 
 pub peers_at-peers-requires : goal.peers_at-peers-requires
 peers_at-peers-requires g c =
@@ -22,7 +21,7 @@ peers_at-peers-requires g c =
       arith,
       stations.ok.0,
       c.len.ensures,
-      room_left (λ s. s.node) (λ n. n.stored.state.node) stations.items c.loop-node.node-iterator.rest.items c.next.new.self.rest.items c.in-Some.node c.args.names.now c.in-Some.ensures.steps.0 c.loop-node.invariant.names,
+      room_left (λ s. s.node) (λ s. s.state.node) stations.items c.loop-node.node-iterator.rest.items c.next.new.self.rest.items c.in-Some.node c.args.names.now c.in-Some.ensures.steps.0 c.loop-node.invariant.names,
     )
 
 pub loop-node-preserved : goal.loop-node-preserved
@@ -33,13 +32,13 @@ loop-node-preserved g c =
     let next = c.next.new.self.rest.items in
     let step = c.in-Some.ensures.steps.0 in
     let before = map (λ s. s.node) c.loop-node.stations.items in
-    let names = map (λ n. n.stored.state.node) next in
+    let names = map (λ s. s.state.node) next in
     record {
-      names = ap (λ l. l ++ names) c.in_ok-push_station.ensures ∙ append_assoc before (c.in-Some.node.stored.state.node ∷ []) names ∙ ap (λ l. before ++ map (λ n. n.stored.state.node) l) (sym step) ∙ kept.names;
-      may_open = All-rest opens c.in-Some.node.stored (map (λ n. n.stored) next) (map (λ n. n.stored) rest) (ap (map (λ n. n.stored)) step) kept.may_open;
+      names = ap (λ l. l ++ names) c.in_ok-push_station.ensures ∙ append_assoc before (c.in-Some.node.state.node ∷ []) names ∙ ap (λ l. before ++ map (λ s. s.state.node) l) (sym step) ∙ kept.names;
+      may_open = All-rest opens c.in-Some.node next rest step kept.may_open;
     }
 
 pub returns : goal.returns
 returns g c =
     let rest = c.loop-node.node-iterator.rest in
-    all_handed (λ s. s.node) (λ n. n.stored.state.node) c.loop-node.stations.items rest.items c.args.names.now (sym rest.ok.0 ∙ c.in-None.ensures.steps.0) c.loop-node.invariant.names
+    all_handed (λ s. s.node) (λ s. s.state.node) c.loop-node.stations.items rest.items c.args.names.now (sym rest.ok.0 ∙ c.in-None.ensures.steps.0) c.loop-node.invariant.names

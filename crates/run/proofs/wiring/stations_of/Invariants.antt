@@ -5,6 +5,6 @@ use Rattle.run.proofs.wiring.stations_of.Given as goal
 
 abbrev pub invariant-loop-node : goal.invariant-loop-node
 invariant-loop-node g l = record {
-  names : map (λ s. s.node) l.stations.items ++ map (λ n. n.stored.state.node) l.node-iterator.rest.items ≡ l.names;
-  may_open : All (MayOpen g.N.Store.NodeStore g.O.Opening.opened) (map (λ n. n.stored) l.node-iterator.rest.items);
+  names : map (λ s. s.node) l.stations.items ++ map (λ s. s.state.node) l.node-iterator.rest.items ≡ l.names;
+  may_open : All (MayOpen g.N.Store.NodeStore g.O.Opening.opened) l.node-iterator.rest.items;
 }

@@ -5,6 +5,6 @@ use Rattle.sessions.proofs.senders.send_round.Goals as goal
 pub loop-preserved : goal.loop-preserved
 loop-preserved g c = record {
   taken =
-      after_sending (g.N.Dialer.Dial.leads c.args.network.now.dialer) g.N.Dialer.Reader.Read.remaining g.N.Dialer.Writer.Write.contents g.N.Store.NodeStore g.O.Opening.opened (g.N.Clock.Clock.tells c.args.network.now.clock) _ _ c.loop.seat c.send_next.new.seat _ c.send_next.ensures c.loop.invariant.taken;
+      after_sending (g.N.Network.leads c.args.network.now) g.N.Reader.Read.remaining g.N.Writer.Write.contents g.N.Store.NodeStore g.O.Opening.opened (g.N.Clock.tells c.args.network.now) _ _ c.loop.seat c.send_next.new.seat _ c.send_next.ensures c.loop.invariant.taken;
   row = grind arith;
 }

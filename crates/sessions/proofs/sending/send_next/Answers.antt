@@ -8,7 +8,7 @@ pub returns-in-Some : goal.returns-in-Some
 returns-in-Some g c =
     let s = g.S.NodeStore in
     let opened = g.O.Opening.opened in
-    tries_send (g.D.Dial.leads c.args.dial.now) g.D.Reader.Read.remaining g.D.Writer.Write.contents s opened c.args.peer c.args.from _ _ _ c.in-Some.message _
+    tries_send (g.N.Network.leads c.args.network.now) g.N.Reader.Read.remaining g.N.Writer.Write.contents s opened c.args.peer c.args.from _ _ _ c.in-Some.message _
     (subst (λ (found : Option (ℕ × Message)). IsToSend s opened c.args.peer c.args.from found) c.in-Some.is c.in-Ok.ensures) c.send.ensures
 
 pub returns-in-None : goal.returns-in-None

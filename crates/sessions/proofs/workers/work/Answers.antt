@@ -3,4 +3,4 @@ use Rattle.sessions.proofs.workers.work.Goals as goal
 
 pub loop-preserved : goal.loop-preserved
 loop-preserved g c =
-    after_begun (g.N.Dialer.Dial.leads c.args.network.now.dialer) g.N.Dialer.Reader.Read.remaining g.N.Dialer.Writer.Write.contents g.N.Store.NodeStore g.O.Opening.opened (g.N.Clock.Clock.tells c.args.network.now.clock) c.loop.seat c.begin_job-begun.new.seat _ _ c.begin_job-begun.ensures.begins c.loop.invariant
+    after_begun (g.N.Network.leads c.args.network.now) g.N.Reader.Read.remaining g.N.Writer.Write.contents g.N.Store.NodeStore g.O.Opening.opened (g.N.Clock.tells c.args.network.now) c.loop.seat c.begin_job-begun.new.seat _ _ c.begin_job-begun.ensures.begins c.loop.invariant

@@ -1,6 +1,6 @@
 use Rattle.std.proofs.Common.{subst}
 use Rattle.desk.specs.Desks.{IsConfirmation}
-use Rattle.desk.specs.Views.{StateView}
+use Rattle.node_state.specs.Views.{StateView}
 use Rattle.desk.proofs.at_desk.AtDesk.confirmation_of.Goals as goal
 
 pub returns-clause-confirmation : goal.returns-clause-confirmation

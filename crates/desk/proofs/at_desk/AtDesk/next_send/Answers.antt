@@ -1,6 +1,6 @@
 use Rattle.std.proofs.Common.{◌≡◌, ℕ, Option, None, Some, ap, refl, sym, subst, ◌∙◌}
 use Rattle.desk.specs.Desks.{HasToSend}
-use Rattle.desk.specs.Views.{StateView}
+use Rattle.node_state.specs.Views.{StateView}
 use Rattle.desk.proofs.at_desk.AtDesk.next_send.Goals as goal
 
 no_key : {X : Type 0} (key : ℕ) (found : Option X) → Some key ≡ None → found ≡ None

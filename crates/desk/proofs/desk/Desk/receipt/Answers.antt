@@ -1,6 +1,6 @@
 use Rattle.std.proofs.Common.{◌≡◌, MatchResult, subst}
-use Rattle.desk.specs.declared.notes.Note.{Note}
-use Rattle.desk.specs.Expected.{stopped}
+use Rattle.node_state.specs.declared.notes.Note.{Note}
+use Rattle.node_state.specs.Expected.{stopped}
 use Rattle.desk.specs.Keeping.{AreStored}
 use Rattle.desk.proofs.desk.Desk.receipt.Goals as goal
 

@@ -1,5 +1,5 @@
 use Rattle.std.proofs.Common.{◌∙◌, subst}
-use Rattle.desk.specs.declared.notes.Note.{Note}
+use Rattle.node_state.specs.declared.notes.Note.{Note}
 use Rattle.desk.specs.Keeping.{AreStored}
 use Rattle.desk.proofs.desk.Desk.wait_for_commit.Goals as goal
 

@@ -1,7 +1,7 @@
 use Rattle.std.proofs.Common.{sym, subst}
 use Rattle.desk.proofs.Keepings.{kept_committed}
 use Rattle.desk.specs.Keeping.{IsKept}
-use Rattle.desk.specs.Views.{StateView}
+use Rattle.node_state.specs.Views.{StateView}
 use Rattle.desk.proofs.stored.Stored.commit.Goals as goal
 
 pub invariant_of-self : goal.invariant_of-self

@@ -1,7 +1,7 @@
 use Rattle.std.proofs.Common.{sym, subst}
 use Rattle.desk.proofs.Keepings.{kept_loaded}
 use Rattle.desk.specs.Keeping.{IsKept}
-use Rattle.desk.specs.Views.{StateView}
+use Rattle.node_state.specs.Views.{StateView}
 use Rattle.desk.proofs.stored.Stored.load.Goals as goal
 
 pub invariant_of-result : goal.invariant_of-result

@@ -1,5 +1,5 @@
 use Rattle.std.proofs.Common.{true, subst}
-use Rattle.run.proofs.Ordering.{has_asked, has_unasked}
+use Rattle.serving.proofs.Ordering.{has_asked, has_unasked}
 use Rattle.one_node.specs.Turns.{IsPossible}
 use Rattle.one_node.proofs.operator.Counter.answer.Goals as goal
 

@@ -12,5 +12,5 @@ returns-clause-ahead g c = λ over.
 pub returns-clause-timely : goal.returns-clause-timely
 returns-clause-timely g c = λ within.
     let most = ltb-false _ _ within in
-    subst (λ o. IfSome o (λ moment. (now : Moment) × g.N.Clock.Clock.tells c.args.self.now.network.now.clock now × (moment.seconds ≤ now.seconds + most_ahead))) c.in-Some.ensures
+    subst (λ o. IfSome o (λ moment. (now : Moment) × g.N.Clock.tells c.args.self.now.network.now now × (moment.seconds ≤ now.seconds + most_ahead))) c.in-Some.ensures
     (c.now-now.result, c.now-now.ensures, omega (arith, most, c.saturating_sub.ensures))

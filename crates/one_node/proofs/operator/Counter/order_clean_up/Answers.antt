@@ -1,7 +1,7 @@
 use Rattle.std.proofs.Common.{◌≡◌, ◌∙◌, ◌∷◌, [], true, refl, sym, ap, subst}
 use Rattle.protocol.specs.Registries.{is_node}
-use Rattle.run.proofs.Hearing.{heard_on}
-use Rattle.run.proofs.Ordering.{has_asked}
+use Rattle.serving.proofs.Hearing.{heard_on}
+use Rattle.serving.proofs.Ordering.{has_asked}
 use Rattle.one_node.specs.Turns.{Timed}
 use Rattle.one_node.proofs.Possible.{clean_up_possible}
 use Rattle.one_node.proofs.Turning.{hears_one}
@@ -18,7 +18,7 @@ returns g c =
     record {
       turns = Timed moment told ∷ [];
       silent = (refl, (λ number. refl));
-      hears = hears_one scheme counter.node (g.N.Clock.Clock.tells counter.network.now.clock) c.args.seat.now c.ask-told.new.seat (Timed moment told)
+      hears = hears_one scheme counter.node (g.N.Clock.tells counter.network.now) c.args.seat.now c.ask-told.new.seat (Timed moment told)
           (λ question answer h. heard_on c.args.seat.now c.ask-told.new.seat question answer asked.grows h)
           (c.requires.log, c.now-moment.ensures, asked.heard)
           (λ ls given len has. has_asked scheme counter.node ls given _ len told c.args.seat.now c.ask-told.new.seat (sym c.requires.log) possible asked.adds asked.notes has);

@@ -1,6 +1,0 @@
-use Rattle.std.specs.List.{AllWithin}
-use Rattle.desk.specs.Covering.{Fits}
-use Rattle.desk.proofs.settling.check_tickets.Given as goal
-
-abbrev pub invariant-loop-ticket : goal.invariant-loop-ticket
-invariant-loop-ticket g l = AllWithin (Fits l.state) l.tickets 0 l.ticket-index

@@ -1,9 +1,0 @@
-use Rattle.std.proofs.Common.{arith}
-use Rattle.std.proofs.lemmas.Grind.{elements}
-use Rattle.desk.proofs.settling.fits.Goals as goal
-
-pub returns-then-opening-ticket : goal.returns-then-opening-ticket
-returns-then-opening-ticket g c = grind (arith, elements)
-
-pub returns-in-None : goal.returns-in-None
-returns-in-None g c = grind (arith, elements)

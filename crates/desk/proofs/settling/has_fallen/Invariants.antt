@@ -1,6 +1,0 @@
-use Rattle.std.specs.List.{AllWithin}
-use Rattle.desk.specs.Settling.{Stood}
-use Rattle.desk.proofs.settling.has_fallen.Given as goal
-
-abbrev pub invariant-loop-seat : goal.invariant-loop-seat
-invariant-loop-seat l = AllWithin Stood l.seats 0 l.seat-index

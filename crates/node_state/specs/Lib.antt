@@ -1,0 +1,6 @@
+pub mod Views
+pub mod Expected
+pub mod Calls
+pub mod Telling
+pub mod Rooms
+pub mod Loading

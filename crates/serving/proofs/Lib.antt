@@ -1,0 +1,11 @@
+pub mod HeardLines
+pub mod Hearing
+pub mod Lines
+pub mod Noting
+pub mod Ordering
+pub mod Undone
+pub mod WorkedNotes
+pub mod Borne
+pub mod Ordered
+pub mod WorkedUndone
+pub mod Ending

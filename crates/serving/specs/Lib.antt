@@ -1,0 +1,6 @@
+pub mod Answers
+pub mod Heard
+pub mod Notes
+pub mod Orders
+pub mod Ends
+pub mod Committed

@@ -1,0 +1,2 @@
+pub mod CountedPlaces
+pub mod NotesOfSeats

@@ -1,0 +1,15 @@
+use Rattle.serde_json.specs.View.{view}
+use Rattle.json_fields.proofs.Parts.{lacks_too}
+use Rattle.status.specs.declared.moment.Moment.{Moment}
+use Rattle.wire.specs.Reading.{HasMessage}
+use Rattle.wire.specs.Records.{IsRecord}
+use Rattle.wire.specs.declared.input.Input.TheVariants.{Received}
+use Rattle.wire.specs.declared.message.Message.{Message}
+use Rattle.wire_lines.proofs.reading_records.received.Goals as goal
+
+pub returns-in_err-message : goal.returns-in_err-message
+returns-in_err-message c =
+    let f = c.args.format in
+    let d = view c.args.value.now in
+    lacks_too (HasMessage f d) (λ (p : Message × Moment). IsRecord f d (Received p.0 p.1)) c.in_err-message.field-0.0 c.from_residual-in_err-message.result c.from_residual-in_err-message.ensures.1
+    (λ p is. (p.0, (is.0, is.1.1.1.0, is.2, is.3))) c.in_err-message.ensures

@@ -37,6 +37,7 @@ IN_CPP = TOP / "bench" / "orders.cpp"
 LONGEST_INPUT = 16_777_216
 MOST_RATIO = 2.3
 MOST_TIMES_PYTHON = 1.0
+MOST_TIMES_JSON = 1.5
 MOST_TIMES_CPP = 3.0
 MOST_TIMES_BYTES = 30.0
 # The memory that a process may have beside that.
@@ -249,8 +250,9 @@ def orders_in_cpp(room):
 def peer_of(name, given, taken, runs, room):
     """Returns the best time of the load's peer, its name, and the limit of `rehearse` as a multiple of that time."""
     if name not in ORDERS:
-        words = [sys.executable, "-c", READ_SCHEME if name == SCHEMES else COUNT_WORDS]
-        return min(run(words, given, taken)[0] for _ in range(runs)), "Python", MOST_TIMES_PYTHON
+        script, most = (READ_SCHEME, MOST_TIMES_JSON) if name == SCHEMES else (COUNT_WORDS, MOST_TIMES_PYTHON)
+        words = [sys.executable, "-c", script]
+        return min(run(words, given, taken)[0] for _ in range(runs)), "Python", most
     run([program(), "rehearse"], given, taken)
     written = taken.read_bytes()
     times = []
@@ -298,7 +300,7 @@ def main():
             if words.load is None or words.load in name:
                 kept = measure(name, lines_of, largest, max(1, words.runs), pathlib.Path(folder)) and kept
     print(f"limits: ratio {MOST_RATIO}, memory {MOST_TIMES_BYTES:.0f} times the input and 32 MB, {MOST_TIMES_CPP:.0f} times C++ of orders, "
-          f"otherwise {MOST_TIMES_PYTHON:.0f} times Python")
+          f"{MOST_TIMES_JSON} times Python of schemes, otherwise {MOST_TIMES_PYTHON:.0f}")
     sys.exit(0 if kept else 1)
 
 

@@ -350,7 +350,7 @@ impl<C: NodeCore> State<C> {
         self.runs = true;
     }
 
-    /// Marks all records of the journal as committed, and as those of the opening from now on.
+    /// From now on the committed records are those of the opening.
     pub fn open_anew(&mut self)
         ensures { self.new ≡ record self.old { opening = self.old.committed } }
     {

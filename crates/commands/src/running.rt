@@ -12,10 +12,9 @@ use audit::load_run;
 use command_faults::{OpFault, store_fault};
 use desk::{Stored, WallClock};
 use ended_nodes::EndedNode;
-use input_lines::ScriptLine;
 use operator::Strictness;
 use protocol::scheme::Scheme;
-use run::{EndedRun, run_script};
+use run::{EndedRun, Script, run_script};
 use serving::world::Core;
 use sessions::JoinedNetwork;
 use sockets::{Port, Ports};
@@ -136,8 +135,7 @@ fn close_stores<A: Archive>(archive: &A, nodes: Vec<EndedNode<A::Store>>) -> Res
 fn run_connected<S, W, P, R>(
     rt: &R,
     alloc: Global,
-    scheme: &Scheme,
-    lines: &[ScriptLine],
+    script: &Script<'_>,
     loaded: Vec<Stored<Core, S>>,
     writer: &mut W,
     progress: &P,
@@ -147,19 +145,20 @@ where
     W: Write,
     P: Progress,
     R: Threads + Wait + SystemClock + Net<Listener = TcpListener, Stream = TcpStream> + Sync,
-    requires opened { AreOpened scheme.now loaded.items }
-    ensures ok { IfOk result (λ r. HasReported S.NodeStore scheme.now lines.now loaded.items (stored_in r.nodes.items)
-        r.undone (W.contents writer.old) (W.contents writer.new)) }
+    requires opened { AreOpened script.now.scheme.now loaded.items }
+    ensures ok { IfOk result
+        (λ r. HasReported S.NodeStore script.now.scheme.now script.now.lines.now loaded.items
+        (stored_in r.nodes.items) r.undone (W.contents writer.old) (W.contents writer.new)) }
     ensures err { IfErr result
         (λ e. (IsPortFault e × Keeps (W.contents writer.old) (W.contents writer.new))
-        ⊎ FailsToRun S.NodeStore (IsLoadedAmong S.NodeStore scheme.now loaded.items) e scheme.now lines.now
-        (W.contents writer.old) (W.contents writer.new)) }
+        ⊎ FailsToRun S.NodeStore (IsLoadedAmong S.NodeStore script.now.scheme.now loaded.items) e
+        script.now.scheme.now script.now.lines.now (W.contents writer.old) (W.contents writer.new)) }
 {
     let (listeners, ports) = open_all(rt, alloc, loaded.as_slice())?;
     let network = JoinedNetwork::new(listeners, ports, WallClock::new(rt));
-    let mut watch = progress.of_run(lines.len());
+    let mut watch = progress.of_run(script.lines.len());
     let ended = run_script::<JoinedNetwork<S, Port, Ports<&R>, WallClock<&R>>, W, P::OfRun, R>(
-        rt, alloc, scheme, lines, loaded, &network, writer, &mut watch,
+        rt, alloc, script, loaded, &network, writer, &mut watch,
     );
     watch.finished();
     ended
@@ -185,8 +184,7 @@ fn run_loaded<A, W, P, R>(
     rt: &R,
     alloc: Global,
     archive: &A,
-    scheme: &Scheme,
-    lines: &[ScriptLine],
+    script: &Script<'_>,
     strictness: Strictness,
     loaded: Vec<Stored<Core, A::Store>>,
     writer: &mut W,
@@ -197,15 +195,16 @@ where
     W: Write,
     P: Progress,
     R: Threads + Wait + SystemClock + Net<Listener = TcpListener, Stream = TcpStream> + Sync,
-    requires opened { AreOpened scheme.now loaded.items }
-    ensures ok { OnOk result (RunsLoaded A.Store.NodeStore (A.closes archive.now) scheme.now lines.now strictness
+    requires opened { AreOpened script.now.scheme.now loaded.items }
+    ensures ok { OnOk result
+        (RunsLoaded A.Store.NodeStore (A.closes archive.now) script.now.scheme.now script.now.lines.now strictness
         loaded.items (W.contents writer.old) (W.contents writer.new)) }
     ensures err { IfErr result
         (λ e. FailsToRunLoaded A.Store.NodeStore (A.closes archive.now)
-        (A.unclosed archive.now) scheme.now lines.now strictness loaded.items e
+        (A.unclosed archive.now) script.now.scheme.now script.now.lines.now strictness loaded.items e
         (W.contents writer.old) (W.contents writer.new)) }
 {
-    match run_connected(rt, alloc, scheme, lines, loaded, writer, progress) {
+    match run_connected(rt, alloc, script, loaded, writer, progress) {
         Ok(EndedRun { nodes, undone }) => match close_stores(archive, nodes) {
             Ok(()) => judged(strictness, undone),
             Err(fault) => Err(fault),
@@ -248,15 +247,11 @@ where
     let lines = script_at(alloc, archive, script)?;
     find_folder(archive, folder)?;
     let loaded = load_nodes(alloc, archive, &scheme, folder, progress)?;
+    let script = Script {
+        scheme: &scheme,
+        lines: lines.as_slice(),
+    };
     run_loaded(
-        rt,
-        alloc,
-        archive,
-        &scheme,
-        lines.as_slice(),
-        strictness,
-        loaded,
-        writer,
-        progress,
+        rt, alloc, archive, &script, strictness, loaded, writer, progress,
     )
 }

@@ -10,6 +10,7 @@ mod desk;
 mod gate;
 mod locked;
 mod opening;
+mod shared_node;
 mod stored;
 
 pub use at_desk::BATCH;
@@ -23,6 +24,7 @@ pub use node_state::{
 };
 pub use opening::Opening;
 pub use settling::{Life, Settled, Unsettled, settle, settle_with};
+pub use shared_node::SharedNode;
 pub use stored::Stored;
 
 // A desk owns a store.

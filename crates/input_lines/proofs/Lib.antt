@@ -3,7 +3,10 @@ pub mod BlockWords
 pub mod Parties
 pub mod OneEvent
 pub mod WantedParts
-pub mod Questions
+pub mod Turns
+pub mod VerbsApart
+pub mod NamedWords
 pub mod ScriptsRead
 pub mod FirstLines
 pub mod LinesRead
+pub mod LinesCut

@@ -1,5 +1,5 @@
 -- A line writes one event at most.
-use Rattle.std.proofs.Common.{◌≡◌, ℕ, ◌+◌, ◌*◌, ◌^◌, ◌<◌, Bool, true, false, List, [], ◌∷◌, get_or, map, codes, refl, sym, ap, ◌∙◌, arith, subst, Result, Ok, Err, IfOk}
+use Rattle.std.proofs.Common.{◌≡◌, ℕ, ◌*◌, ◌^◌, ◌<◌, Bool, true, false, List, [], ◌∷◌, get_or, map, codes, refl, sym, ap, ◌∙◌, arith, subst, Result, Ok, Err, IfOk}
 use Rattle.std.specs.Fmt.{decimal}
 use Rattle.std.specs.List.{AllByRecursion}
 use Rattle.std.specs.Str.{IsUtf8}
@@ -18,53 +18,61 @@ use Rattle.wire.proofs.OneMessage.{node_same}
 use Rattle.wire.proofs.OneRecord.{moment_same, number_same as exact_number}
 use Rattle.protocol.specs.declared.event.WorldEvent.{WorldEvent}
 use Rattle.protocol.specs.declared.event.WorldEvent.TheVariants.{Take, Commit, Post, Deliver, Crash, Restart}
-use Rattle.input_lines.specs.EventLines.{AreWords, IsEventLine, yes_text}
+use Rattle.input_lines.specs.EventLines.{AreWords, IsEventLine}
+use Rattle.input_lines.specs.Instructions.{AreNamed, yes_text}
 use Rattle.input_lines.specs.Verbs.{verb_text}
 use Rattle.input_lines.specs.Words.{AreCut, IsShort}
+use Rattle.input_lines.specs.declared.instruction.Instruction.{Instruction}
+use Rattle.input_lines.specs.declared.instruction.Instruction.TheVariants.{Order as Ordered}
+use Rattle.input_lines.specs.declared.verbs.OrderVerb.TheVariants as order
 use Rattle.input_lines.specs.declared.verbs.Verb.{Verb}
 use Rattle.input_lines.specs.declared.verbs.Verb.TheVariants as verb
 use Rattle.input_lines.specs.declared.verbs.Numbered.TheVariants as numbered
 use Rattle.input_lines.proofs.SpacedWords.{one_cut}
+use Rattle.input_lines.proofs.VerbsApart.{letters, same_head}
 
 -- ---- the first word
 
 -- the verb of an event's line. A received message has no line
-verb_of : WorldEvent → Verb
-verb_of (Take n (Propose o)) = verb.Propose
-verb_of (Take n (Request t)) = verb.Request
-verb_of (Take n (OpenAccount k)) = verb.Numbered numbered.Open
-verb_of (Take n (CloseAccount k)) = verb.Numbered numbered.Close
+abbrev pub verb_of : WorldEvent → Verb
+verb_of (Take n (Propose o)) = verb.Order order.Propose
+verb_of (Take n (Request t)) = verb.Order order.Request
+verb_of (Take n (OpenAccount k)) = verb.Order order.Open
+verb_of (Take n (CloseAccount k)) = verb.Order order.Close
 verb_of (Take n (Ack k)) = verb.Numbered numbered.Ack
-verb_of (Take n (CleanUp m)) = verb.CleanUp
-verb_of (Take n (Eligible c b)) = verb.Eligible
-verb_of (Take n (Received m t)) = verb.Propose
+verb_of (Take n (CleanUp m)) = verb.Order order.CleanUp
+verb_of (Take n (Eligible c b)) = verb.Order order.Eligible
+verb_of (Take n (Received m t)) = verb.Order order.Propose
 verb_of (Commit n k) = verb.Numbered numbered.Commit
 verb_of (Post n k) = verb.Numbered numbered.Post
 verb_of (Deliver k m) = verb.Deliver
 verb_of (Crash n k) = verb.Numbered numbered.Crash
 verb_of (Restart n) = verb.Restart
 
+-- words with a name after the first one
+named : (words : List (List ℕ)) (n : Node) (i : Instruction) (p : AreNamed words n i) (w : List ℕ) (ws : List (List ℕ)) → p.first ∷ p.others ≡ w ∷ ws → words ≡ w ∷ node_text n ∷ ws
+named words n i p w ws e =
+    let first : p.first ≡ w = cc (e) in
+    let others : p.others ≡ ws = cc (e) in
+    p.spelled ∙ (ap (λ (x : List ℕ). x ∷ node_text n ∷ p.others) first ∙ ap (λ (l : List (List ℕ)). w ∷ node_text n ∷ l) others)
+
 abbrev Begins : List (List ℕ) → List ℕ → Type 0
 Begins words w = (rest : List (List ℕ)) × (words ≡ w ∷ rest)
 
-begins : (words : List (List ℕ)) (e : WorldEvent) → AreWords words e → Begins words (verb_text (verb_of e))
-unfolding verb_of
-begins words (Take n (Propose o)) p = (_, p.0)
-begins words (Take n (Request t)) p = (_, p)
-begins words (Take n (OpenAccount k)) p = (_, p)
-begins words (Take n (CloseAccount k)) p = (_, p)
+pub begins : (words : List (List ℕ)) (e : WorldEvent) → AreWords words e → Begins words (verb_text (verb_of e))
+begins words (Take n (Propose o)) p = (_, named words n (Ordered (Propose o)) p (codes "propose") _ p.told.0)
+begins words (Take n (Request t)) p = (_, named words n (Ordered (Request t)) p (codes "request") _ p.told)
+begins words (Take n (OpenAccount k)) p = (_, named words n (Ordered (OpenAccount k)) p (codes "open") _ p.told)
+begins words (Take n (CloseAccount k)) p = (_, named words n (Ordered (CloseAccount k)) p (codes "close") _ p.told)
 begins words (Take n (Ack k)) p = (_, p)
 begins words (Take n (CleanUp m)) p = (_, p.1.spelled)
 begins words (Take n (Eligible c b)) p = (_, p.1)
-begins words (Take n (Received m t)) p = absurd p
+begins words (Take n (Received m t)) p = absurd p.told
 begins words (Commit n k) p = (_, p.0)
 begins words (Post n k) p = (_, p.0)
 begins words (Deliver k m) p = (_, p.0.spelled)
 begins words (Crash n k) p = (_, p.0)
 begins words (Restart n) p = (_, p)
-
-same_head : {X : Type 0} (words : List X) (x y : X) (xs ys : List X) → words ≡ x ∷ xs → words ≡ y ∷ ys → (x ≡ y) × (xs ≡ ys)
-same_head words x y xs ys p q = let e : x ∷ xs ≡ y ∷ ys = sym p ∙ q in (cc (e), cc (e))
 
 -- words that begin with no verb write no event
 pub no_verb : (words : List (List ℕ)) (w : List ℕ) (rest : List (List ℕ)) → words ≡ w ∷ rest → ((v : Verb) → w ≡ verb_text v → ⊥) → (e : WorldEvent) → AreWords words e → ⊥
@@ -121,10 +129,6 @@ yes_same false true e = let h = ap (λ (t : List ℕ). get_or t 0 0) e in absurd
 
 -- ---- one event
 
--- the first three letters tell the verbs apart
-abbrev letters : List ℕ → ℕ
-letters w = get_or w 0 0 * 65_536 + (get_or w 1 0 * 256 + get_or w 2 0)
-
 same_letters : (words : List (List ℕ)) (a b : WorldEvent) → AreWords words a → AreWords words b → letters (verb_text (verb_of a)) ≡ letters (verb_text (verb_of b))
 same_letters words a b p q =
     let x = begins words a p in
@@ -132,23 +136,22 @@ same_letters words a b p q =
     ap letters (same_head words (verb_text (verb_of a)) (verb_text (verb_of b)) x.0 y.0 x.1 y.1).0
 
 words_once : (words : List (List ℕ)) (a b : WorldEvent) → AreWords words a → AreWords words b → a ≡ b
-unfolding verb_of
-words_once words (Take m (Received x t)) b p q = absurd p
-words_once words a (Take m (Received x t)) p q = absurd q
+words_once words (Take m (Received x t)) b p q = absurd p.told
+words_once words a (Take m (Received x t)) p q = absurd q.told
 words_once words (Take m (Propose o)) (Take n (Propose r)) p q =
-    let h = node_once words (codes "propose") m n _ _ p.0 q.0 in
-    let g = order_once _ o r p.1 q.1 refl h.1 in
+    let h = node_once words (codes "propose") m n _ _ (named words m (Ordered (Propose o)) p (codes "propose") _ p.told.0) (named words n (Ordered (Propose r)) q (codes "propose") _ q.told.0) in
+    let g = order_once _ o r p.told.1 q.told.1 refl h.1 in
     λ i. Take (h.0 i) (Propose (g i))
 words_once words (Take m (Request t)) (Take n (Request u)) p q =
-    let h = node_once words (codes "request") m n (id_text t ∷ []) (id_text u ∷ []) p q in
+    let h = node_once words (codes "request") m n (id_text t ∷ []) (id_text u ∷ []) (named words m (Ordered (Request t)) p (codes "request") _ p.told) (named words n (Ordered (Request u)) q (codes "request") _ q.told) in
     let g = id_text_same t u (same_head (id_text t ∷ []) (id_text t) (id_text u) [] [] refl h.1).0 in
     λ i. Take (h.0 i) (Request (g i))
 words_once words (Take m (OpenAccount j)) (Take n (OpenAccount k)) p q =
-    let h = node_and_number_once words (codes "open") m n j.value k.value j.short k.short p q in
+    let h = node_and_number_once words (codes "open") m n j.value k.value j.short k.short (named words m (Ordered (OpenAccount j)) p (codes "open") _ p.told) (named words n (Ordered (OpenAccount k)) q (codes "open") _ q.told) in
     let g = exact_number j k h.1 in
     λ i. Take (h.0 i) (OpenAccount (g i))
 words_once words (Take m (CloseAccount j)) (Take n (CloseAccount k)) p q =
-    let h = node_and_number_once words (codes "close") m n j.value k.value j.short k.short p q in
+    let h = node_and_number_once words (codes "close") m n j.value k.value j.short k.short (named words m (Ordered (CloseAccount j)) p (codes "close") _ p.told) (named words n (Ordered (CloseAccount k)) q (codes "close") _ q.told) in
     let g = exact_number j k h.1 in
     λ i. Take (h.0 i) (CloseAccount (g i))
 words_once words (Take m (Ack j)) (Take n (Ack k)) p q =

@@ -1,19 +1,18 @@
 //! Event lines.
-ghost use Rattle.std.specs.Prelude.{◌≡◌, ◌∷◌, Bool, Err, IfOk, IfSome, IfNone, codes};
+ghost use Rattle.std.specs.Prelude.{◌≡◌, ◌∷◌, Err, IfOk, IfSome, IfNone, codes};
 ghost use Rattle.protocol.specs.declared.event.WorldEvent.{WorldEvent};
-ghost use Rattle.input_lines.specs.EventLines.{AreWords, IsEventLine, yes_text};
-ghost use Rattle.input_lines.specs.Verbs.{numbered_text, verb_text};
+ghost use Rattle.input_lines.specs.EventLines.{AreWords, IsEventLine};
+ghost use Rattle.input_lines.specs.Verbs.{numbered_text, order_verb_text, verb_text};
 ghost use Rattle.input_lines.specs.Words.{texts};
 
 use crate::line::{
-    WordsFault, code_first, first_of, node_and_number, node_first, number_first, only_moment,
-    only_word, words_of,
+    WordsFault, first_of, node_and_number, number_first, only_moment, only_word, words_of,
 };
-use crate::orders::propose;
+use crate::orders::order_of;
 use crate::reading::WrittenLine;
-use crate::verbs::{Numbered, Verb};
+use crate::script_line::named;
+use crate::verbs::{LineVerb, Numbered, OrderVerb, Verb};
 use protocol::WorldEvent;
-use status::TransactionId;
 use std::alloc::Global;
 use std::str::from_utf8;
 use units::Node;
@@ -26,14 +25,6 @@ fn numbered(verb: Numbered, words: &[&str]) -> Option<WorldEvent>
 {
     let (node, number) = node_and_number(words)?;
     Some(match verb {
-        Numbered::Open => WorldEvent::Take {
-            node,
-            input: Input::OpenAccount(number),
-        },
-        Numbered::Close => WorldEvent::Take {
-            node,
-            input: Input::CloseAccount(number),
-        },
         Numbered::Ack => WorldEvent::Take {
             node,
             input: Input::Ack(number),
@@ -53,54 +44,15 @@ fn numbered(verb: Numbered, words: &[&str]) -> Option<WorldEvent>
     })
 }
 
-/// The order that the words after `request` write.
-fn request(words: &[&str]) -> Option<WorldEvent>
-    ensures some { IfSome result (λ e. AreWords (codes "request" ∷ texts words.now) e) }
-    ensures none { IfNone result ((e : WorldEvent) → AreWords (codes "request" ∷ texts words.now) e → ⊥) }
+/// The order that a verb and the words after it write, with the node that takes it.
+fn order(alloc: Global, verb: OrderVerb, words: &[&str]) -> Result<WorldEvent, WordsFault>
+    ensures ok { IfOk result (λ e. AreWords (order_verb_text verb ∷ texts words.now) e) }
+    ensures order { result ≡ Err WordsFault.Order → (e : WorldEvent)
+        → AreWords (order_verb_text verb ∷ texts words.now) e → ⊥ }
 {
-    let (node, words) = node_first(words)?;
-    let id = TransactionId::read(only_word(words)?)?;
-    let input = Input::Request(id);
-    Some(WorldEvent::Take { node, input })
-}
-
-/// The order that the word after `clean-up` writes.
-fn clean_up(words: &[&str]) -> Option<WorldEvent>
-    ensures some { IfSome result (λ e. AreWords (codes "clean-up" ∷ texts words.now) e) }
-    ensures none { IfNone result ((e : WorldEvent) → AreWords (codes "clean-up" ∷ texts words.now) e → ⊥) }
-{
-    let moment = only_moment(words)?;
-    let input = Input::CleanUp(moment);
-    Some(WorldEvent::Take {
-        node: Node::Itl,
-        input,
-    })
-}
-
-/// Whether a word is `yes`, where it is `yes` or `no`.
-fn yes_or_no(word: &str) -> Option<bool>
-    ensures some { IfSome result (λ b. word.now ≡ yes_text b) }
-    ensures none { IfNone result ((b : Bool) → word.now ≡ yes_text b → ⊥) }
-{
-    match word.as_bytes() {
-        b"yes" => Some(true),
-        b"no" => Some(false),
-        _ => None,
-    }
-}
-
-/// The order that the words after `eligible` write.
-fn eligible(words: &[&str]) -> Option<WorldEvent>
-    ensures some { IfSome result (λ e. AreWords (codes "eligible" ∷ texts words.now) e) }
-    ensures none { IfNone result ((e : WorldEvent) → AreWords (codes "eligible" ∷ texts words.now) e → ⊥) }
-{
-    let (registry, words) = code_first(words)?;
-    let may = yes_or_no(only_word(words)?)?;
-    let input = Input::Eligible { registry, may };
-    Some(WorldEvent::Take {
-        node: Node::Itl,
-        input,
-    })
+    let (node, words) = named(LineVerb::Order(verb), words).ok_or(WordsFault::Order)?;
+    let input = order_of(alloc, verb, words)?;
+    Ok(WorldEvent::Take { node, input })
 }
 
 /// The delivery that the words after `deliver` write.
@@ -129,11 +81,8 @@ fn event_of_verb(alloc: Global, verb: Verb, words: &[&str]) -> Result<WorldEvent
         → ⊥ }
 {
     let event = match verb {
-        Verb::Propose => return propose(alloc, words),
-        Verb::Request => request(words),
+        Verb::Order(verb) => return order(alloc, verb, words),
         Verb::Numbered(verb) => numbered(verb, words),
-        Verb::CleanUp => clean_up(words),
-        Verb::Eligible => eligible(words),
         Verb::Deliver => deliver(words),
         Verb::Restart => restart(words),
     };

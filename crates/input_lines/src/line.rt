@@ -4,11 +4,13 @@ ghost use Rattle.units.specs.Code.{code_text, node_text};
 ghost use Rattle.units.specs.Limits.{too_long};
 ghost use Rattle.units.specs.declared.code.Code.{Code};
 ghost use Rattle.units.specs.declared.code.Node.{Node};
+ghost use Rattle.status.specs.Id.{id_text};
 ghost use Rattle.status.specs.Moment.{IsMomentText};
+ghost use Rattle.status.specs.declared.id.TransactionId.{TransactionId};
 ghost use Rattle.status.specs.declared.moment.Moment.{Moment};
 ghost use Rattle.input_lines.specs.Words.{AreCut, texts};
 
-use status::Moment;
+use status::{Moment, TransactionId};
 use std::alloc::{AllocFailed, Global};
 use units::{Code, NoMemory, Node, cut, number};
 use wire::Number;
@@ -106,6 +108,16 @@ pub(crate) fn number_first<'w, 'a>(words: &'w [&'a str]) -> Option<(u64, &'w [&'
     Some((n, others))
 }
 
+/// The number that one word writes.
+pub(crate) fn only_number(words: &[&str]) -> Option<Number>
+    ensures some { IfSome result (λ n. texts words.now ≡ decimal n.value ∷ []) }
+    ensures none { IfNone result ((k : ℕ) → k < too_long → texts words.now ≡ decimal k ∷ [] → ⊥) }
+{
+    let word = only_word(words)?;
+    let n = number(word)?;
+    Number::new(n)
+}
+
 /// The node and the number that two words write.
 pub(crate) fn node_and_number(words: &[&str]) -> Option<(Node, Number)>
     ensures some { IfSome result (λ p. texts words.now ≡ node_text p.0 ∷ decimal p.1.value ∷ []) }
@@ -113,10 +125,16 @@ pub(crate) fn node_and_number(words: &[&str]) -> Option<(Node, Number)>
         → ⊥) }
 {
     let (node, others) = node_first(words)?;
-    let word = only_word(others)?;
-    let n = number(word)?;
-    let n = Number::new(n)?;
-    Some((node, n))
+    let number = only_number(others)?;
+    Some((node, number))
+}
+
+/// The transaction that one word names.
+pub(crate) fn only_id(words: &[&str]) -> Option<TransactionId>
+    ensures some { IfSome result (λ t. texts words.now ≡ id_text t ∷ []) }
+    ensures none { IfNone result ((t : TransactionId) → texts words.now ≡ id_text t ∷ [] → ⊥) }
+{
+    TransactionId::read(only_word(words)?)
 }
 
 /// The moment that one word names.

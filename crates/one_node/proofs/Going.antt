@@ -1,12 +1,11 @@
 -- How a node's journal goes on in a shift, and in one shift after another.
-use Rattle.std.proofs.Common.{◌≡◌, ◌∙◌, ◌+◌, ◌-◌, ◌<◌, ◌≤◌, ℕ, zero, suc, Bool, true, false, cond, List, [], ◌∷◌, ◌++◌, length, take, drop, All, Some, refl, sym, ap, subst, arith, append-nil, append_assoc, length-append, get_or}
+use Rattle.std.proofs.Common.{◌≡◌, ◌∙◌, ◌+◌, ◌-◌, ◌≤◌, ℕ, zero, suc, Bool, true, false, cond, List, [], ◌∷◌, ◌++◌, length, take, drop, All, Some, refl, sym, ap, subst, arith, append-nil, append_assoc, length-append, get_or}
 use Rattle.std.proofs.lemmas.List.{take-append-drop, length-take-le}
-use Rattle.std.proofs.lemmas.List.Elements.{All-append, All-head, All-tail, All-weaker, Contains-push}
-use Rattle.std.proofs.lemmas.Option.{slice_get-get_or, slice_get_within}
+use Rattle.std.proofs.lemmas.List.Elements.{All-append, All-head, All-tail, Contains-push}
+use Rattle.std.proofs.lemmas.Option.{slice_get-get_or}
 use Rattle.std.specs.Prelude.{slice_get}
 use Rattle.units.proofs.Lists.OneValue.{one_some}
 use Rattle.units.specs.declared.code.Node.{Node}
-use Rattle.units.specs.declared.code.Node.TheVariants.{Itl}
 use Rattle.protocol.specs.Input.{Input}
 use Rattle.protocol.specs.Input.TheVariants.{CleanUp}
 use Rattle.protocol.specs.Moment.{Moment}
@@ -20,10 +19,11 @@ use Rattle.node_state.specs.declared.notes.Lengths.TheVariants.{Grew}
 use Rattle.node_state.specs.declared.notes.Ticket.{Ticket}
 use Rattle.node_state.specs.declared.notes.Told.{Told}
 use Rattle.node_state.specs.declared.notes.Told.TheVariants.{Step}
+use Rattle.input_lines.specs.declared.instruction.Instruction.{Instruction}
+use Rattle.input_lines.specs.declared.instruction.Instruction.TheVariants.{Order}
 use Rattle.input_lines.specs.declared.script_line.ScriptLine.{ScriptLine}
-use Rattle.input_lines.specs.declared.script_line.ScriptLine.TheVariants.{Order}
 use Rattle.sessions.specs.Orders.{HasNoOrder, HasOnly, was_ordered}
-use Rattle.serving.specs.Answers.{IsBorne, asked_by, node_of}
+use Rattle.serving.specs.Answers.{IsBorne, asked_by}
 use Rattle.serving.specs.Heard.{HasHeard}
 use Rattle.serving.specs.Notes.{AreOfLines}
 use Rattle.serving.specs.Orders.{AreOrders, IsRecordOf}
@@ -34,7 +34,7 @@ use Rattle.serving.proofs.Borne.{all_of, borne, borne_more, front_of_front}
 use Rattle.serving.proofs.Ordered.{committed_orders, orders_in_turn, others_taken, taken_at, get_after}
 use Rattle.one_node.specs.Lives.{GoesOn, IsCarried}
 use Rattle.one_node.specs.Shifts.{HasTurns, never}
-use Rattle.one_node.specs.Turns.{IsTurn, Turn, Line, Unread, Exported, Timed, answers_of, lines_of}
+use Rattle.one_node.specs.Turns.{IsTurn, Turn, Line, Unread, Exported, Timed, answers_of, line_to, lines_of}
 use Rattle.one_node.proofs.Turning.{answers_append, as_many, lines_append, turns_as}
 
 -- ---- one shift after another
@@ -75,39 +75,39 @@ module _ (scheme : Scheme) (n : Node) (tells : Moment → Type 0) (Takes : Input
   pub goes_on : (a b c : List Input) (ts us : List Turn) → GoesOn scheme n tells Takes Holds a b ts → GoesOn scheme n tells Takes Holds b c us → GoesOn scheme n tells Takes Holds a c (ts ++ us)
   goes_on a b c ts us f g =
       let long : length b ≡ length a + length f.more = ap length f.goes ∙ length-append a f.more in
-      let orders : AreOrders n (lines_of ts ++ lines_of us) (answers_of ts ++ answers_of us) (ordered_from (length a) f.more ++ ordered_from (length b) g.more) =
-      lines_join (λ l told. IsRecordOf (asked_by l) told) n (lines_of ts) (lines_of us) (answers_of ts) (answers_of us) _ _ (as_many ts) f.orders g.orders in
+      let orders : AreOrders n (lines_of n ts ++ lines_of n us) (answers_of ts ++ answers_of us) (ordered_from (length a) f.more ++ ordered_from (length b) g.more) =
+      lines_join (λ l told. IsRecordOf (asked_by l.instruction) told) n (lines_of n ts) (lines_of n us) (answers_of ts) (answers_of us) _ _ (as_many n ts) f.orders g.orders in
       record {
         more = f.more ++ g.more;
         goes = g.goes ∙ (ap (λ (j : List Input). j ++ g.more) f.goes ∙ append_assoc a f.more g.more);
         borne = All-append (IsTurn scheme n (IsBorne scheme n c) tells (IsCarried Holds c)) ts us
             (turns_as scheme n tells (IsBorne scheme n b) (IsBorne scheme n c) (λ asked told h. subst (λ (j : List Input). IsBorne scheme n j asked told) (sym g.goes) (borne_more scheme n b g.more asked told h)) (IsCarried Holds b) (IsCarried Holds c) (carried_more b c g.more g.goes) ts f.borne) g.borne;
-        orders = subst (λ (ls : List ScriptLine). AreOrders n ls (answers_of (ts ++ us)) (ordered_from (length a) (f.more ++ g.more))) (sym (lines_append ts us))
-            (subst (λ (given : List ScriptAnswer). AreOrders n (lines_of ts ++ lines_of us) given (ordered_from (length a) (f.more ++ g.more))) (sym (answers_append ts us))
-            (subst (AreOrders n (lines_of ts ++ lines_of us) (answers_of ts ++ answers_of us)) (sym (ordered_append (length a) f.more g.more ∙ ap (λ (p : ℕ). ordered_from (length a) f.more ++ ordered_from p g.more) (sym long))) orders));
+        orders = subst (λ (ls : List ScriptLine). AreOrders n ls (answers_of (ts ++ us)) (ordered_from (length a) (f.more ++ g.more))) (sym (lines_append n ts us))
+            (subst (λ (given : List ScriptAnswer). AreOrders n (lines_of n ts ++ lines_of n us) given (ordered_from (length a) (f.more ++ g.more))) (sym (answers_append ts us))
+            (subst (AreOrders n (lines_of n ts ++ lines_of n us) (answers_of ts ++ answers_of us)) (sym (ordered_append (length a) f.more g.more ∙ ap (λ (p : ℕ). ordered_from (length a) f.more ++ ordered_from p g.more) (sym long))) orders));
         others = All-append (λ input. was_ordered input ≡ false → Takes input) f.more g.more f.others g.others;
       }
 
   -- ---- one shift
 
-  heard_at : (seat : SeatView) (ts : List Turn) (k : ℕ) (l : ScriptLine) (told : Told) → All (IsTurn scheme n (HasHeard seat) tells never) ts → slice_get (lines_of ts) k ≡ Some l → slice_get (answers_of ts) k ≡ Some (Answered told) → HasHeard seat (asked_by l) told
+  heard_at : (seat : SeatView) (ts : List Turn) (k : ℕ) (l : ScriptLine) (told : Told) → All (IsTurn scheme n (HasHeard seat) tells never) ts → slice_get (lines_of n ts) k ≡ Some l → slice_get (answers_of ts) k ≡ Some (Answered told) → HasHeard seat (asked_by l.instruction) told
   heard_at seat [] k l told all at_line at_answer = absurd (cc (at_line))
   heard_at seat (Line raw m a ∷ ts) zero l told all at_line at_answer =
       let is = All-head (IsTurn scheme n (HasHeard seat) tells never) (Line raw m a) ts all in
-      asked_there raw m a is (one_some m l at_line) (one_some a (Answered told) at_answer)
+      asked_there raw m a is (one_some (line_to n m) l at_line) (one_some a (Answered told) at_answer)
     where
-      asked_there : (raw : List ℕ) (m : ScriptLine) (a : ScriptAnswer) → IsTurn scheme n (HasHeard seat) tells never (Line raw m a) → m ≡ l → a ≡ Answered told → HasHeard seat (asked_by l) told
+      asked_there : (raw : List ℕ) (m : Instruction) (a : ScriptAnswer) → IsTurn scheme n (HasHeard seat) tells never (Line raw m a) → line_to n m ≡ l → a ≡ Answered told → HasHeard seat (asked_by l.instruction) told
       asked_there raw m NotPossible is same given = absurd (cc (given))
       asked_there raw m (Answered heard) is same given =
           let told_is : heard ≡ told = cc (given) in
-          subst (λ (x : ScriptLine). HasHeard seat (asked_by x) told) same (subst (λ (t : Told). HasHeard seat (asked_by m) t) told_is is.1.2)
+          subst (λ (x : ScriptLine). HasHeard seat (asked_by x.instruction) told) same (subst (λ (t : Told). HasHeard seat (asked_by m) t) told_is is.1.1)
   heard_at seat (Line raw m a ∷ ts) (suc k) l told all at_line at_answer = heard_at seat ts k l told (All-tail (IsTurn scheme n (HasHeard seat) tells never) (Line raw m a) ts all) at_line at_answer
   heard_at seat (Unread raw fault ∷ ts) k l told all at_line at_answer = heard_at seat ts k l told (All-tail (IsTurn scheme n (HasHeard seat) tells never) (Unread raw fault) ts all) at_line at_answer
   heard_at seat (Exported raw count ∷ ts) k l told all at_line at_answer = heard_at seat ts k l told (All-tail (IsTurn scheme n (HasHeard seat) tells never) (Exported raw count) ts all) at_line at_answer
   heard_at seat (Timed m heard ∷ ts) zero l told all at_line at_answer =
       let is = All-head (IsTurn scheme n (HasHeard seat) tells never) (Timed m heard) ts all in
       let told_is : heard ≡ told = cc (at_answer) in
-      subst (λ (x : ScriptLine). HasHeard seat (asked_by x) told) (one_some (Order Itl (CleanUp m)) l at_line) (subst (λ (t : Told). HasHeard seat (Take (CleanUp m)) t) told_is is.2)
+      subst (λ (x : ScriptLine). HasHeard seat (asked_by x.instruction) told) (one_some (line_to n (Order (CleanUp m))) l at_line) (subst (λ (t : Told). HasHeard seat (Take (CleanUp m)) t) told_is is.2)
   heard_at seat (Timed m heard ∷ ts) (suc k) l told all at_line at_answer = heard_at seat ts k l told (All-tail (IsTurn scheme n (HasHeard seat) tells never) (Timed m heard) ts all) at_line at_answer
 
   module _ (held : StateView) (threads : List SeatView) (seat : SeatView) (turns : List Turn) (settled : IsSettled scheme n held (threads ++ seat ∷ [])) (none : All HasNoOrder threads) (took : All (HasOnly Takes) threads)
@@ -136,7 +136,7 @@ module _ (scheme : Scheme) (n : Node) (tells : Moment → Type 0) (Takes : Input
           more = drop held.opening held.journal;
           goes = sym (take-append-drop held.opening held.journal);
           borne = borne_by held.journal (drop held.committed held.journal) (sym (take-append-drop held.committed held.journal));
-          orders = subst (AreOrders n (lines_of turns) (answers_of turns)) (in_turn ∙ ap (λ (p : ℕ). ordered_from p (drop held.opening held.journal)) (sym low)) has.orders.orders;
+          orders = subst (AreOrders n (lines_of n turns) (answers_of turns)) (in_turn ∙ ap (λ (p : ℕ). ordered_from p (drop held.opening held.journal)) (sym low)) has.orders.orders;
           others = λ k d below other.
               taken_at held heard threads seat settled.covers refl Takes took has.orders.ordered (held.opening + k) (get_or (drop held.opening held.journal) k d) (omega arith)
               (sym (get_after held.opening held.journal k) ∙ slice_get-get_or (drop held.opening held.journal) k d below) other;
@@ -148,8 +148,8 @@ module _ (scheme : Scheme) (n : Node) (tells : Moment → Type 0) (Takes : Input
         let low = first_long held.journal (omega (arith, early, within)) in
         let first : take held.opening (committed_records held) ≡ take held.opening held.journal = front_of_front held.committed held.opening held.journal early in
         let confirmed : seat.confirmed ≤ held.committed = all_of (λ (s : SeatView). s.confirmed ≤ held.committed) heard seat settled.within (Contains-push threads seat) in
-        let orders : AreOrders n (lines_of turns) (answers_of turns) (orders_of held) =
-        committed_orders n held heard threads seat (lines_of turns) (answers_of turns) settled.covers grew refl none has.orders
+        let orders : AreOrders n (lines_of n turns) (answers_of turns) (orders_of held) =
+        committed_orders n held heard threads seat (lines_of n turns) (answers_of turns) settled.covers grew refl none has.orders
         (λ k l input place at_line at_answer here asked.
         let h : HasHeard seat (Take input) (Step (Recorded place)) = subst (λ (a : Asked). HasHeard seat a (Step (Recorded place))) asked (heard_at seat turns k l (Step (Recorded place)) has.heard at_line at_answer) in
         omega (arith, h.1, confirmed)) in
@@ -157,6 +157,6 @@ module _ (scheme : Scheme) (n : Node) (tells : Moment → Type 0) (Takes : Input
           more = since held;
           goes = sym (take-append-drop held.opening (committed_records held)) ∙ ap (λ (js : List Input). js ++ since held) first;
           borne = borne_by (committed_records held) [] (sym (append-nil (committed_records held)));
-          orders = subst (λ (p : ℕ). AreOrders n (lines_of turns) (answers_of turns) (ordered_from p (since held))) (sym low) orders;
+          orders = subst (λ (p : ℕ). AreOrders n (lines_of n turns) (answers_of turns) (ordered_from p (since held))) (sym low) orders;
           others = others_taken held heard threads seat settled.covers refl Takes took has.orders.ordered;
         }

@@ -1,5 +1,5 @@
 -- A node's shifts, one after another.
-use Rattle.std.proofs.Common.{◌≡◌, ◌∙◌, ◌+◌, ◌≤◌, ℕ, true, false, All, List, [], ◌∷◌, ◌++◌, Option, None, Some, length, take, refl, sym, ap, subst, inl, inr, arith, append-nil, append_assoc}
+use Rattle.std.proofs.Common.{◌≡◌, ◌∙◌, ◌+◌, ℕ, false, List, [], ◌∷◌, ◌++◌, Option, length, take, refl, sym, ap, subst, inl, inr, arith, append-nil}
 use Rattle.std.proofs.KnownBytes.{Appends-nil, Appends-trans, Consumes-nil}
 use Rattle.std.proofs.lemmas.List.{take_all}
 use Rattle.std.proofs.lemmas.List.Elements.{All-cons, All-nil, All-weaker}
@@ -10,9 +10,10 @@ use Rattle.protocol.specs.Input.{Input}
 use Rattle.protocol.specs.Input.TheVariants.{Propose, Request, OpenAccount, CloseAccount, Ack, CleanUp, Eligible, Received}
 use Rattle.protocol.specs.Moment.{Moment}
 use Rattle.protocol.specs.Scheme.{Scheme}
-use Rattle.desk.specs.Keeping.{IsKept, IsOfRun, MayOpen, StoredView}
+use Rattle.desk.specs.Keeping.{IsOfRun, IsToSend, MayOpen, StoredView}
 use Rattle.desk.specs.NodeStore.{Ghosts}
 use Rattle.node_state.specs.Views.{SeatView, StateView, committed_records, opened_with}
+use Rattle.wire.specs.declared.message.Message.{Message}
 use Rattle.node_state.specs.declared.notes.Asked.{Asked}
 use Rattle.node_state.specs.declared.notes.Told.{Told}
 use Rattle.streams.specs.Lines.{stream_of}
@@ -26,14 +27,14 @@ use Rattle.serving.specs.declared.answer.ScriptAnswer.{ScriptAnswer}
 use Rattle.serving.proofs.Ordering.{has_none}
 use Rattle.one_node.specs.Lives.{AnswersExport, EndsShift, GoesOn, IsCarried, IsLife, IsShift, begins_with, held_nowhere, opens_with, records_line}
 use Rattle.one_node.specs.Shifts.{AsksToEnd, HasTurns, IsAnswered, Talks, empty_seat, never}
-use Rattle.one_node.specs.Turns.{AsksExport, IsTurn, Turn, Exported, Line, Timed, Unread, answers_of, answers_text, clean_up_moment, lines_of, raw_lines}
+use Rattle.one_node.specs.Turns.{IsTurn, Turn, Exported, Line, Timed, Unread, answers_of, answers_text, clean_up_moment, lines_of, raw_lines}
 use Rattle.one_node.specs.declared.answering.LineFault.TheVariants as faults
 use Rattle.one_node.proofs.Going.{goes_on, goes_to_committed, goes_to_journal}
 use Rattle.one_node.proofs.Turning.{answered_on, read_on, turns_as}
 
 -- ---- what is known of the desks of a shift
 
-module _ {R W S : Type 0} (leads : Node → R → W → Type 0) (remaining : R → Option (List ℕ)) (contents : W → Option (List ℕ)) (g : Ghosts S) (tells : Moment → Type 0)
+module _ {S : Type 0} (g : Ghosts S) (received : Node → Message → Type 0) (tells : Moment → Type 0)
     (F G : Scheme → Node → List Input → ℕ → Type 0) (more : (scheme : Scheme) (n : Node) (journal : List Input) (faults : ℕ) → F scheme n journal faults → G scheme n journal faults) where
   of_run : (kept : StoredView S) → IsOfRun g F kept → IsOfRun g G kept
   of_run kept is = record {
@@ -49,14 +50,14 @@ module _ {R W S : Type 0} (leads : Node → R → W → Type 0) (remaining : R �
   }
 
   -- the same with more known of the desks
-  pub of_thread : (input : Input) → IsOfThread leads remaining contents g F tells input → IsOfThread leads remaining contents g G tells input
+  pub of_thread : (input : Input) → IsOfThread (IsToSend g F) received tells input → IsOfThread (IsToSend g G) received tells input
   of_thread (Propose o) is = is
   of_thread (Request t) is = is
   of_thread (OpenAccount account) is = is
   of_thread (CloseAccount account) is = is
   of_thread (CleanUp moment) is = is
   of_thread (Eligible c may) is = is
-  of_thread (Ack number) is = record { peer = is.peer; from = is.from; message = is.message; sent = (is.sent.0, of_run is.sent.0 is.sent.1, is.sent.2); received = is.received }
+  of_thread (Ack number) is = record { peer = is.peer; from = is.from; message = is.message; sent = (is.sent.0, of_run is.sent.0 is.sent.1, is.sent.2); replied = is.replied }
   of_thread (Received m moment) is = is
 
 pub opens : {S : Type 0} (g : Ghosts S) (scheme : Scheme) (kept : StoredView S) → kept.state ≡ opened_with scheme kept.state.node kept.state.journal → MayOpen g (opens_with scheme kept.state.node kept.state.journal) kept
@@ -121,7 +122,7 @@ module _ (scheme : Scheme) (n : Node) (tells : Moment → Type 0) (Takes : Input
   }
 
   -- a line asked for an export, and its result was written
-  one_turn : (journal : List Input) (line : List ℕ) (t : Turn) (r v w : Option (List ℕ)) (count counted : ℕ) → raw_lines (t ∷ []) ≡ line ∷ [] → lines_of (t ∷ []) ≡ [] → answers_of (t ∷ []) ≡ []
+  one_turn : (journal : List Input) (line : List ℕ) (t : Turn) (r v w : Option (List ℕ)) (count counted : ℕ) → raw_lines (t ∷ []) ≡ line ∷ [] → lines_of n (t ∷ []) ≡ [] → answers_of (t ∷ []) ≡ []
       → IsTurn scheme n (IsBorne scheme n journal) tells (IsCarried Holds journal) t → IsAnswered count v w (t ∷ []) counted → IsShift scheme n tells Takes Holds journal journal (line ++ 10 ∷ []) r r v w count counted []
   one_turn journal line t r v w count counted raw asks told is answered = record {
     turns = t ∷ [];
@@ -180,7 +181,7 @@ shift_as scheme n tells Takes Holds first last begun r s v w count counted left 
 -- the same with more moments that the clock gave and more inputs that were taken
 module _ (scheme : Scheme) (n : Node) (tells also_tells : Moment → Type 0) (more : (m : Moment) → tells m → also_tells m) where
   told_turn : (Backs : Asked → Told → Type 0) (Carries : List ℕ → ℕ → Type 0) (t : Turn) → IsTurn scheme n Backs tells Carries t → IsTurn scheme n Backs also_tells Carries t
-  told_turn Backs Carries (Line raw l a) is = (is.0, is.1, IfSome_then (clean_up_moment l) is.2 (λ moment timely. (timely.0, more timely.0 timely.1, timely.2)))
+  told_turn Backs Carries (Line raw i a) is = (is.0, is.1, IfSome_then (clean_up_moment i) is.2 (λ moment timely. (timely.0, more timely.0 timely.1, timely.2)))
   told_turn Backs Carries (Unread raw faults.Order) is = is
   told_turn Backs Carries (Unread raw faults.TooLong) is = is
   told_turn Backs Carries (Unread raw faults.Export) is = is

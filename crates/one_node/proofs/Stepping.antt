@@ -1,7 +1,7 @@
 -- The result of one step of an operator.
 use Rattle.std.proofs.Common.{◌≡◌, ◌∙◌, ◌<◌, ◌≤◌, ◌+◌, ℕ, List, [], ◌∷◌, ◌++◌, Option, Some, None, codes, length, Result, Ok, Err, IfOk, OnOk, refl, sym, ap, subst, inl, inr, arith, append-nil, append_assoc, length-append}
 use Rattle.std.proofs.KnownBytes.{Appends-nil, Consumes-nil}
-use Rattle.std.specs.Io.KnownBytes.{Appends, Consumes, IsAtEnd, Keeps}
+use Rattle.std.specs.Io.KnownBytes.{Appends, IsAtEnd, Keeps}
 use Rattle.units.specs.Limits.{longest_line}
 use Rattle.streams.specs.Lines.{stream_of}
 use Rattle.units.specs.declared.code.Node.{Node}
@@ -9,17 +9,18 @@ use Rattle.streams.proofs.Streams.{free_join}
 use Rattle.protocol.specs.Moment.{Moment}
 use Rattle.protocol.specs.Scheme.{Scheme}
 use Rattle.node_state.specs.Views.{SeatView}
+use Rattle.input_lines.specs.Instructions.{IsInstruction}
+use Rattle.input_lines.specs.declared.instruction.Instruction.{Instruction}
 use Rattle.input_lines.specs.declared.script_line.ScriptLine.{ScriptLine}
 use Rattle.serving.specs.Answers.{answer_line}
 use Rattle.serving.specs.Heard.{Grows, HasHeard}
 use Rattle.serving.specs.Orders.{HasOrders}
 use Rattle.serving.specs.declared.answer.ScriptAnswer.{ScriptAnswer}
-use Rattle.serving.proofs.Hearing.{heard_on, same_seat}
-use Rattle.one_node.specs.Asking.{Asks}
+use Rattle.serving.proofs.Hearing.{heard_on}
 use Rattle.one_node.specs.Reading.{ReadsLine, ReadsOn, held_of}
 use Rattle.command_faults.specs.declared.fault.OpFault.{OpFault}
 use Rattle.one_node.specs.Shifts.{AnswersLine, AwaitsExport, EndsThere, Hears, IsBegun, IsNext, TakesLine, Talks, never}
-use Rattle.one_node.specs.Turns.{AsksExport, IsAhead, IsAnswer, IsTimely, IsTurn, Turn, Line, Unread, Timed, answers_text, fault_line, raw_lines}
+use Rattle.one_node.specs.Turns.{AsksExport, IsAhead, IsAnswer, IsTimely, IsTurn, Turn, Line, Unread, answers_text, fault_line, line_to, raw_lines}
 use Rattle.one_node.specs.declared.answering.LineFault.{LineFault}
 use Rattle.one_node.specs.declared.answering.LineFault.TheVariants as faults
 use Rattle.one_node.specs.declared.operator.Next.{Next}
@@ -55,15 +56,15 @@ begins held is = record { held_is = is; none = tt }
 module _ (scheme : Scheme) (n : Node) (tells : Moment → Type 0) where
   -- ---- the result of a line
 
-  pub line_answered : (held after text : List ℕ) (v w : Option (List ℕ)) (count counted : ℕ) (old new : SeatView) (l : ScriptLine) (a : ScriptAnswer)
-      → Asks n held l → IsAnswer scheme n (HasHeard new) l a → IsTimely tells l → Grows old new
-      → ((ls : List ScriptLine) (given : List ScriptAnswer) → length given ≡ length ls → HasOrders n ls given old → HasOrders n (ls ++ l ∷ []) (given ++ a ∷ []) new)
+  pub line_answered : (held after text : List ℕ) (v w : Option (List ℕ)) (count counted : ℕ) (old new : SeatView) (i : Instruction) (a : ScriptAnswer)
+      → IsInstruction held i → IsAnswer scheme n (HasHeard new) i a → IsTimely tells i → Grows old new
+      → ((ls : List ScriptLine) (given : List ScriptAnswer) → length given ≡ length ls → HasOrders n ls given old → HasOrders n (ls ++ line_to n i ∷ []) (given ++ a ∷ []) new)
       → Appends v w text → text ≡ answer_line (count + 1) a → counted ≡ count + 1 → after ≡ [] → AnswersLine scheme n tells held v w count counted old new after
-  line_answered held after text v w count counted old new l a asks is timely grows step written text_is one begun = record {
-    turn = Line held l a;
+  line_answered held after text v w count counted old new i a writes is timely grows step written text_is one begun = record {
+    turn = Line held i a;
     raw = refl;
     answered = record { written = subst (Appends v w) (text_is ∙ sym (append-nil (answer_line (count + 1) a))) written; counts = one };
-    hears = hears_one scheme n tells old new (Line held l a) (λ asked told h. heard_on old new asked told grows h) (asks, is, timely) step;
+    hears = hears_one scheme n tells old new (Line held i a) (λ asked told h. heard_on old new asked told grows h) (writes, is, timely) step;
     begins = begun;
   }
 
@@ -78,13 +79,13 @@ module _ (scheme : Scheme) (n : Node) (tells : Moment → Type 0) where
     begins = begun;
   }
 
-  pub line_refused : (held after : List ℕ) (v w : Option (List ℕ)) (count counted : ℕ) (seat : SeatView) → ((l : ScriptLine) → Asks n held l → ⊥)
+  pub line_refused : (held after : List ℕ) (v w : Option (List ℕ)) (count counted : ℕ) (seat : SeatView) → ((i : Instruction) → IsInstruction held i → ⊥)
       → Appends v w (fault_line (count + 1) faults.Order) → counted ≡ count + 1 → after ≡ [] → AnswersLine scheme n tells held v w count counted seat seat after
   line_refused held after v w count counted seat none written one begun = unread held faults.Order v w count counted seat after none written one begun
 
-  pub line_ahead : (held after : List ℕ) (v w : Option (List ℕ)) (count counted : ℕ) (seat : SeatView) (l : ScriptLine) → Asks n held l → IsAhead tells l
+  pub line_ahead : (held after : List ℕ) (v w : Option (List ℕ)) (count counted : ℕ) (seat : SeatView) (i : Instruction) → IsInstruction held i → IsAhead tells i
       → Appends v w (fault_line (count + 1) faults.Moment) → counted ≡ count + 1 → after ≡ [] → AnswersLine scheme n tells held v w count counted seat seat after
-  line_ahead held after v w count counted seat l asks ahead written one begun = unread held faults.Moment v w count counted seat after (l, asks, ahead) written one begun
+  line_ahead held after v w count counted seat i writes ahead written one begun = unread held faults.Moment v w count counted seat after (i, writes, ahead) written one begun
 
   -- ---- a step
 

@@ -1,4 +1,3 @@
-pub mod Asking
 pub mod Lives
 pub mod Reading
 pub mod Shifts

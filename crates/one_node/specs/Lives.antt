@@ -40,7 +40,7 @@ module _ (scheme : Scheme) (n : Node) (tells : Moment → Type 0) (Takes : Input
     pub more : List Input
     pub goes : last ≡ first ++ more
     pub borne : All (IsTurn scheme n (IsBorne scheme n last) tells (IsCarried Holds last)) turns
-    pub orders : AreOrders n (lines_of turns) (answers_of turns) (ordered_from (length first) more)
+    pub orders : AreOrders n (lines_of n turns) (answers_of turns) (ordered_from (length first) more)
     pub others : All (λ input. was_ordered input ≡ false → Takes input) more
 
 -- the desks of one node: they have the scheme, and the journal that they open with begins with these records

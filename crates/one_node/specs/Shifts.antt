@@ -11,7 +11,7 @@ use Rattle.serving.specs.Heard.{HasHeard}
 use Rattle.serving.specs.Orders.{HasOrders}
 use Rattle.command_faults.specs.declared.fault.OpFault.{OpFault}
 use Rattle.one_node.specs.Reading.{held_of}
-use Rattle.one_node.specs.Turns.{AsksExport, IsTurn, Turn, Exported, Unread, answers_of, answers_text, lines_of, raw_lines}
+use Rattle.one_node.specs.Turns.{AsksExport, IsTurn, Turn, answers_of, answers_text, lines_of, raw_lines}
 use Rattle.one_node.specs.declared.operator.Next.{Next}
 use Rattle.one_node.specs.declared.operator.Next.TheVariants.{On, Export, End}
 
@@ -42,7 +42,7 @@ module _ (scheme : Scheme) (n : Node) (tells : Moment → Type 0) where
   -- the seat has noted the results, and its records are the orders in their order. Nothing was exported
   pub record HasTurns (turns : List Turn) (seat : SeatView) : Type 0 where
     pub heard : All (IsTurn scheme n (HasHeard seat) tells never) turns
-    pub orders : HasOrders n (lines_of turns) (answers_of turns) seat
+    pub orders : HasOrders n (lines_of n turns) (answers_of turns) seat
 
   -- the seat has these turns in addition to those that it had
   abbrev pub Hears : SeatView → List Turn → SeatView → Type 0

@@ -1,5 +1,5 @@
 -- The questions of a node's operator and of its clock, one after another, each with its result.
-use Rattle.std.specs.Prelude.{◌≡◌, ◌≢◌, ◌⊎◌, ◌<◌, ◌≤◌, ◌+◌, ℕ, Bool, true, false, All, List, [], ◌∷◌, ◌++◌, Option, Some, None, IfSome, codes, decimal, length}
+use Rattle.std.specs.Prelude.{◌≡◌, ◌<◌, ◌≤◌, ◌+◌, ℕ, true, false, List, [], ◌∷◌, ◌++◌, Option, Some, None, IfSome, codes, decimal, length}
 use Rattle.units.specs.Limits.{longest_line}
 use Rattle.units.specs.declared.code.Node.{Node}
 use Rattle.units.specs.declared.code.Node.TheVariants.{Itl}
@@ -9,18 +9,19 @@ use Rattle.protocol.specs.Scheme.{Scheme}
 use Rattle.node_state.specs.declared.notes.Asked.{Asked}
 use Rattle.node_state.specs.declared.notes.Asked.TheVariants.{Take}
 use Rattle.node_state.specs.declared.notes.Told.{Told}
+use Rattle.input_lines.specs.Instructions.{IsInstruction}
+use Rattle.input_lines.specs.declared.instruction.Instruction.{Instruction}
+use Rattle.input_lines.specs.declared.instruction.Instruction.TheVariants.{Order}
 use Rattle.input_lines.specs.declared.script_line.ScriptLine.{ScriptLine}
-use Rattle.input_lines.specs.declared.script_line.ScriptLine.TheVariants.{Order}
-use Rattle.serving.specs.Answers.{answer_line, asked_by, is_possible, node_of}
+use Rattle.serving.specs.Answers.{answer_line, asked_by, is_possible}
 use Rattle.serving.specs.declared.answer.ScriptAnswer.{ScriptAnswer}
 use Rattle.serving.specs.declared.answer.ScriptAnswer.TheVariants.{NotPossible, Told as Answered}
-use Rattle.one_node.specs.Asking.{Asks}
 use Rattle.one_node.specs.declared.answering.LineFault.{LineFault}
 use Rattle.one_node.specs.declared.answering.LineFault.TheVariants as faults
 
 pub data Turn : Type 0 where
   -- a line, the order or question that it writes, and its result
-  Line : List ℕ → ScriptLine → ScriptAnswer → Turn
+  Line : List ℕ → Instruction → ScriptAnswer → Turn
   -- a line that asks for nothing, for an export that failed or for a clean-up that is refused, and why
   Unread : List ℕ → LineFault → Turn
   -- a line that asks for an export, and how many records were exported
@@ -33,7 +34,7 @@ pub data Turn : Type 0 where
 -- the lines, without their newlines
 abbrev pub raw_lines : List Turn → List (List ℕ)
 raw_lines [] = []
-raw_lines (Line raw l answer ∷ turns) = raw ∷ raw_lines turns
+raw_lines (Line raw i answer ∷ turns) = raw ∷ raw_lines turns
 raw_lines (Unread raw fault ∷ turns) = raw ∷ raw_lines turns
 raw_lines (Exported raw count ∷ turns) = raw ∷ raw_lines turns
 raw_lines (Timed moment told ∷ turns) = raw_lines turns
@@ -55,25 +56,29 @@ export_line number count = decimal number ++ codes " exported " ++ decimal count
 -- the results of the lines, the first with that number
 abbrev pub answers_text : ℕ → List Turn → List ℕ
 answers_text number [] = []
-answers_text number (Line raw l answer ∷ turns) = answer_line number answer ++ answers_text (number + 1) turns
+answers_text number (Line raw i answer ∷ turns) = answer_line number answer ++ answers_text (number + 1) turns
 answers_text number (Unread raw fault ∷ turns) = fault_line number fault ++ answers_text (number + 1) turns
 answers_text number (Exported raw count ∷ turns) = export_line number count ++ answers_text (number + 1) turns
 answers_text number (Timed moment told ∷ turns) = answers_text number turns
 
 -- ---- the questions
 
--- the orders and questions, those of the clock too
-abbrev pub lines_of : List Turn → List ScriptLine
-lines_of [] = []
-lines_of (Line raw l answer ∷ turns) = l ∷ lines_of turns
-lines_of (Unread raw fault ∷ turns) = lines_of turns
-lines_of (Exported raw count ∷ turns) = lines_of turns
-lines_of (Timed moment told ∷ turns) = Order Itl (CleanUp moment) ∷ lines_of turns
+-- the order or question as a script's line, which has the node's name
+abbrev pub line_to : Node → Instruction → ScriptLine
+line_to n i = record { node = n; instruction = i }
+
+-- the orders and questions to the node, those of the clock too
+abbrev pub lines_of : Node → List Turn → List ScriptLine
+lines_of n [] = []
+lines_of n (Line raw i answer ∷ turns) = line_to n i ∷ lines_of n turns
+lines_of n (Unread raw fault ∷ turns) = lines_of n turns
+lines_of n (Exported raw count ∷ turns) = lines_of n turns
+lines_of n (Timed moment told ∷ turns) = line_to n (Order (CleanUp moment)) ∷ lines_of n turns
 
 -- the result of each
 abbrev pub answers_of : List Turn → List ScriptAnswer
 answers_of [] = []
-answers_of (Line raw l answer ∷ turns) = answer ∷ answers_of turns
+answers_of (Line raw i answer ∷ turns) = answer ∷ answers_of turns
 answers_of (Unread raw fault ∷ turns) = answers_of turns
 answers_of (Exported raw count ∷ turns) = answers_of turns
 answers_of (Timed moment told ∷ turns) = Answered told ∷ answers_of turns
@@ -87,9 +92,9 @@ AsksExport line = (path : List ℕ) × IsExportLine line path
 
 -- ---- clean-ups and the clock
 
--- the moment of the clean-up that the line orders
-abbrev pub clean_up_moment : ScriptLine → Option Moment
-clean_up_moment (Order n (CleanUp moment)) = Some moment
+-- the moment of the clean-up that is ordered
+abbrev pub clean_up_moment : Instruction → Option Moment
+clean_up_moment (Order (CleanUp moment)) = Some moment
 clean_up_moment _ = None
 
 -- how many seconds ahead of the clock this moment may be: a day
@@ -98,35 +103,28 @@ most_ahead = 86_400
 
 -- the moments that the node's clock gave
 module _ (tells : Moment → Type 0) where
-  -- if the line orders a clean-up, its moment is at most a day ahead of the clock
-  abbrev pub IsTimely : ScriptLine → Type 0
-  IsTimely l = IfSome (clean_up_moment l) (λ moment. (now : Moment) × tells now × (moment.seconds ≤ now.seconds + most_ahead))
+  -- if a clean-up is ordered, its moment is at most a day ahead of the clock
+  abbrev pub IsTimely : Instruction → Type 0
+  IsTimely i = IfSome (clean_up_moment i) (λ moment. (now : Moment) × tells now × (moment.seconds ≤ now.seconds + most_ahead))
 
-  -- the line orders a clean-up at a moment that is more than a day ahead of the clock
-  abbrev pub IsAhead : ScriptLine → Type 0
-  IsAhead l = (moment : Moment) × (now : Moment) × (clean_up_moment l ≡ Some moment) × tells now × (now.seconds + most_ahead < moment.seconds)
+  -- a clean-up is ordered at a moment that is more than a day ahead of the clock
+  abbrev pub IsAhead : Instruction → Type 0
+  IsAhead i = (moment : Moment) × (now : Moment) × (clean_up_moment i ≡ Some moment) × tells now × (now.seconds + most_ahead < moment.seconds)
 
 -- the node under the scheme, and what holds for each question and its result
 module _ (scheme : Scheme) (n : Node) (Backs : Asked → Told → Type 0) where
   -- the node takes no such order, or it was asked
-  abbrev pub IsAnswer : ScriptLine → ScriptAnswer → Type 0
-  IsAnswer l NotPossible = (node_of l ≢ n) ⊎ (is_possible scheme l ≡ false)
-  IsAnswer l (Answered told) = (node_of l ≡ n) × (is_possible scheme l ≡ true) × Backs (asked_by l) told
+  abbrev pub IsAnswer : Instruction → ScriptAnswer → Type 0
+  IsAnswer i NotPossible = is_possible scheme n i ≡ false
+  IsAnswer i (Answered told) = (is_possible scheme n i ≡ true) × Backs (asked_by i) told
 
   -- the same; the moments that the node's clock gave; and what holds for an export
   module _ (tells : Moment → Type 0) (Carries : List ℕ → ℕ → Type 0) where
     abbrev pub IsTurn : Turn → Type 0
-    IsTurn (Line raw l answer) = Asks n raw l × IsAnswer l answer × IsTimely tells l
-    IsTurn (Unread raw faults.Order) = (l : ScriptLine) → Asks n raw l → ⊥
+    IsTurn (Line raw i answer) = IsInstruction raw i × IsAnswer i answer × IsTimely tells i
+    IsTurn (Unread raw faults.Order) = (i : Instruction) → IsInstruction raw i → ⊥
     IsTurn (Unread raw faults.TooLong) = longest_line < length raw
     IsTurn (Unread raw faults.Export) = AsksExport raw
-    IsTurn (Unread raw faults.Moment) = (l : ScriptLine) × Asks n raw l × IsAhead tells l
+    IsTurn (Unread raw faults.Moment) = (i : Instruction) × IsInstruction raw i × IsAhead tells i
     IsTurn (Exported raw count) = Carries raw count
     IsTurn (Timed moment told) = (n ≡ Itl) × tells moment × Backs (Take (CleanUp moment)) told
-
--- ---- what the code follows; no public contract cites what stands below
-
--- whether the line is the node's and it takes such an order
-abbrev pub IsPossible : Scheme → Node → ScriptLine → Bool → Type 0
-IsPossible scheme n l true = (node_of l ≡ n) × (is_possible scheme l ≡ true)
-IsPossible scheme n l false = (node_of l ≢ n) ⊎ (is_possible scheme l ≡ false)

@@ -1,28 +1,29 @@
 //! The life of a node that stands alone: shift after shift, until its operator ends it.
 ghost use Rattle.std.specs.Prelude.{◌≡◌, ◌<◌, ◌++◌, ◌∷◌, [], true, false, ℕ, List, All, IfOk, Ok, OnOk, length, string_bytes};
 ghost use Rattle.std.specs.Io.KnownBytes.{Appends};
-ghost use Rattle.desk.specs.Keeping.{IsKept, MayOpen, StoredView};
+ghost use Rattle.desk.specs.Keeping.{IsKept, IsToSend, MayOpen, StoredView};
 ghost use Rattle.node_state.specs.Views.{SeatView, committed_records, opened_with};
 ghost use Rattle.protocol.specs.Input.{Input as AnInput};
 ghost use Rattle.protocol.specs.Registries.{is_node};
 ghost use Rattle.sessions.specs.Orders.{HasNoOrder, HasOnly};
+ghost use Rattle.sessions.specs.Sending.{IsReceivedBy};
 ghost use Rattle.sessions.specs.Threads.{AreOfThread, IsOfThread};
 ghost use Rattle.one_node.specs.Lives.{EndsShift, IsLife, WorksOn, begins_with, records_line};
 ghost use Rattle.one_node.specs.Shifts.{IsBegun, Operates, empty_seat};
 
 use crate::exporting::Exporter;
 use crate::life::Life;
-use crate::operator::{Counter, Next, Operator};
+use crate::operator::{Client, Next, Operator};
 use crate::shift::Shift;
 use crate::timer::Timer;
 use command_faults::{OpFault, store_fault, write_out};
 use desk::stores::NodeStore;
-use desk::{Opening, Seat, Stored};
+use desk::{Desk, Opening, RoomBell, Seat, SharedNode, Stored};
 use ended_nodes::settle_node;
 use protocol::NodeCore;
 use protocol::scheme::Scheme;
-use serving::{end_desk, station_of};
-use sessions::{Muster, Network, NodeThreads, Station};
+use serving::{desk_of, end_desk};
+use sessions::{Network, NodeThreads, StartBarrier};
 use std::alloc::Global;
 use std::fmt::Write as FmtWrite;
 use std::io::{Read, Write};
@@ -44,41 +45,47 @@ pub struct Setting<'a, N: Network> {
     pub clean_up: Option<Duration>,
 }
 
-/// The one station of the node. Fails with `NoMemory` if memory ran out: then its store is closed.
-fn one_station<O: Opening, N: Network>(
+/// The one desk of a node.
+type OneDesk<O, S> = Vec<Desk<O, Core, S, RoomBell>>;
+
+/// The one desk of the node's state, which has a bell for each of these peers. Fails with `NoMemory` if memory ran out:
+/// then the store is closed.
+fn one_desk<O: Opening, S: NodeStore + Drop>(
     alloc: Global,
-    station: Station<O, Core, N>,
-) -> Result<Vec<Station<O, Core, N>>, NoMemory>
+    peers: &[Node],
+    loaded: Stored<Core, S>,
+) -> Result<OneDesk<O, S>, NoMemory>
+    requires { MayOpen S.NodeStore O.opened loaded }
     ensures { IfOk result (λ v. 0 < length v.items) }
 {
-    let mut stations = Vec::new(alloc);
-    stations.push(station)?;
-    Ok(stations)
+    let desk = desk_of::<O, S>(alloc, peers, loaded)?;
+    let mut desks = Vec::new(alloc);
+    desks.push(desk)?;
+    Ok(desks)
 }
 
-/// Runs the node at its one station for a shift, and writes the results of the operator's lines.
-fn run_station<O, N, I, W, R>(
+/// Runs the node at its one desk for a shift, and writes the results of the operator's lines. It has five type
+/// parameters: the desk, the network, the operator's two streams, and the system.
+fn run_desk<D, N, I, W, R>(
     rt: &R,
-    alloc: Global,
     setting: &Setting<'_, N>,
     node: Node,
-    stations: &[Station<O, Core, N>],
+    desks: &[D],
     operator: &mut Operator,
-    timer: &mut Timer,
     reader: &mut I,
     writer: &mut W,
 ) -> Result<Shift, OpFault>
 where
-    O: Opening + Send,
+    D: SharedNode + Sync,
     N: Network,
     I: Read,
     W: Write,
     R: Threads + Wait + SystemClock + Sync,
     requires member { is_node setting.now.scheme.now node ≡ true }
-    requires station { 0 < length stations.now }
-    ensures taken { IfOk result (λ s. All (AreOfThread
-        (N.leads setting.now.network.now) N.Reader.remaining N.Writer.contents
-        N.Store.NodeStore O.opened (N.Clock.tells setting.now.network.now)) s.threads.items) }
+    requires desk { 0 < length desks.now }
+    ensures taken { IfOk result (λ s. All (AreOfThread D.is_to_send
+        (IsReceivedBy (N.leads setting.now.network.now) N.Reader.remaining N.Writer.contents)
+        (N.Clock.tells setting.now.network.now)) s.threads.items) }
     ensures none { IfOk result (λ s. All HasNoOrder s.threads.items) }
     ensures talks { IfOk result (λ s. Operates setting.now.scheme.now node
         (N.Clock.tells setting.now.network.now)
@@ -86,17 +93,22 @@ where
         (W.contents writer.old) (W.contents writer.new) operator.old.count operator.new.count empty_seat s.seat
         (Ok s.next)) }
 {
-    let muster = Muster::new();
-    let threads = NodeThreads::new(alloc, &stations[0], setting.network, setting.peers, &muster)?;
-    let counter = Counter {
+    let barrier = StartBarrier::new();
+    let threads = NodeThreads::new(
+        operator.alloc,
+        node,
+        &desks[0],
+        setting.network,
+        setting.peers,
+        &barrier,
+    )?;
+    let client = Client {
         scheme: setting.scheme,
         node,
-        stations,
+        desks,
         network: setting.network,
     };
-    operator.run_shift(
-        rt, alloc, &counter, &threads, &muster, timer, reader, writer,
-    )
+    operator.run_shift(rt, &client, &threads, &barrier, reader, writer)
 }
 
 /// The seats of the node's threads, and the operator's after them. Fails with `NoMemory` if memory ran out.
@@ -114,18 +126,17 @@ fn all_seats(threads: Vec<Seat>, seat: Seat) -> Result<Vec<Seat>, NoMemory>
 }
 
 /// Takes the node's desk apart, which no thread shares any more, and settles the notes made at it.
-fn end_shift<O: Opening, L: Life, N: Network>(
+fn end_shift<K: Opening + Life, S: NodeStore + Drop>(
     alloc: Global,
     scheme: &Scheme,
     node: Node,
-    stations: Vec<Station<O, Core, N>>,
+    desks: OneDesk<K, S>,
     shift: Shift,
-) -> Result<(Stored<Core, N::Store>, Next), OpFault>
-    requires took { All (HasOnly L.takes) shift.threads.items }
+) -> Result<(Stored<Core, S>, Next), OpFault>
+    requires took { All (HasOnly K.takes) shift.threads.items }
     requires none { All HasNoOrder shift.threads.items }
-    ensures ends { IfOk result (λ r. EndsShift N.Store.NodeStore O.opened scheme.now node L.takes r.0
-        shift.seat) }
-    ensures stands { IfOk result (λ r. N.Store.must_reopen r.0.store ≡ false) }
+    ensures ends { IfOk result (λ r. EndsShift S.NodeStore K.opened scheme.now node K.takes r.0 shift.seat) }
+    ensures stands { IfOk result (λ r. S.must_reopen r.0.store ≡ false) }
     ensures next { IfOk result (λ r. r.1 ≡ shift.next) }
 {
     let Shift {
@@ -133,10 +144,10 @@ fn end_shift<O: Opening, L: Life, N: Network>(
         seat,
         next,
     } = shift;
-    let mut stations = stations;
-    let popped = stations.pop();
-    drop(stations);
-    let Some(Station { desk, .. }) = popped else {
+    let mut desks = desks;
+    let popped = desks.pop();
+    drop(desks);
+    let Some(desk) = popped else {
         drop(threads);
         drop(seat);
         return Err(OpFault::Unsettled { node });
@@ -150,56 +161,52 @@ fn end_shift<O: Opening, L: Life, N: Network>(
 }
 
 /// Makes a desk of the node's state, and runs the node at it for a shift, while the results of the operator's lines are
-/// written. Then the notes are settled.
-fn work_shift<O, L, N, I, W, R>(
+/// written. Then the notes are settled. `K` stands for what is known of the desk when it opens, and of the node's life;
+/// `next_shift` picks it, and passes on all of its own type parameters but one.
+fn work_shift<K, N, I, W, R>(
     rt: &R,
-    alloc: Global,
     setting: &Setting<'_, N>,
     loaded: Stored<Core, N::Store>,
     operator: &mut Operator,
-    timer: &mut Timer,
     reader: &mut I,
     writer: &mut W,
 ) -> Result<(Stored<Core, N::Store>, Next), OpFault>
 where
-    O: Opening + Send,
-    L: Life,
+    K: Opening + Life + Send,
     N: Network,
     I: Read,
     W: Write,
     R: Threads + Wait + SystemClock + Sync,
     requires member { is_node setting.now.scheme.now loaded.state.node ≡ true }
-    requires may_open { MayOpen N.Store.NodeStore O.opened loaded }
+    requires may_open { MayOpen N.Store.NodeStore K.opened loaded }
     requires takes { (input : AnInput)
-        → IsOfThread
-        (N.leads setting.now.network.now) N.Reader.remaining N.Writer.contents
-        N.Store.NodeStore O.opened (N.Clock.tells setting.now.network.now) input → L.takes input }
+        → IsOfThread (IsToSend N.Store.NodeStore K.opened)
+        (IsReceivedBy (N.leads setting.now.network.now) N.Reader.remaining N.Writer.contents)
+        (N.Clock.tells setting.now.network.now) input → K.takes input }
     ensures stands { IfOk result (λ r. N.Store.must_reopen r.0.store ≡ false) }
     ensures shift { IfOk result (λ r. (seat : SeatView)
-        × EndsShift N.Store.NodeStore O.opened setting.now.scheme.now loaded.state.node L.takes r.0 seat
+        × EndsShift N.Store.NodeStore K.opened setting.now.scheme.now loaded.state.node K.takes r.0 seat
         × Operates setting.now.scheme.now loaded.state.node
         (N.Clock.tells setting.now.network.now)
         operator.old.line.held.items operator.new.line.held.items (I.remaining reader.old) (I.remaining reader.new)
         (W.contents writer.old) (W.contents writer.new) operator.old.count operator.new.count empty_seat seat
         (Ok r.1)) }
 {
+    let alloc = operator.alloc;
     let node = loaded.state().node();
-    let stations = one_station(alloc, station_of::<O, N>(alloc, setting.peers, loaded)?)?;
-    let ran = run_station(
+    let desks = one_desk::<K, N::Store>(alloc, setting.peers, loaded)?;
+    match run_desk(
         rt,
-        alloc,
         setting,
         node,
-        stations.as_slice(),
+        desks.as_slice(),
         operator,
-        timer,
         reader,
         writer,
-    );
-    match ran {
-        Ok(shift) => end_shift::<O, L, N>(alloc, setting.scheme, node, stations, shift),
+    ) {
+        Ok(shift) => end_shift::<K, N::Store>(alloc, setting.scheme, node, desks, shift),
         Err(fault) => {
-            drop(stations);
+            drop(desks);
             Err(fault)
         }
     }
@@ -224,14 +231,12 @@ fn reopen_node<S: NodeStore + Drop>(left: Stored<Core, S>) -> Result<Stored<Core
 }
 
 /// Runs the node for a shift. If it is to go on, its state runs afterwards, with its whole journal as that of its
-/// opening; if it is to end, the state has stopped.
+/// opening; if it is to end, the state has stopped. It has the type parameters of `live`, except for the exporter.
 fn next_shift<L, N, I, W, R>(
     rt: &R,
-    alloc: Global,
     setting: &Setting<'_, N>,
     loaded: Stored<Core, N::Store>,
     operator: &mut Operator,
-    timer: &mut Timer,
     reader: &mut I,
     writer: &mut W,
 ) -> Result<(Stored<Core, N::Store>, Next), OpFault>
@@ -247,8 +252,8 @@ where
     requires first { (more : List AnInput) × (loaded.state.journal ≡ L.first ++ more) }
     requires takes { (input : AnInput)
         → IsOfThread
-        (N.leads setting.now.network.now) N.Reader.remaining N.Writer.contents
-        N.Store.NodeStore (begins_with setting.now.scheme.now loaded.state.node L.first)
+        (IsToSend N.Store.NodeStore (begins_with setting.now.scheme.now loaded.state.node L.first))
+        (IsReceivedBy (N.leads setting.now.network.now) N.Reader.remaining N.Writer.contents)
         (N.Clock.tells setting.now.network.now) input → L.takes input }
     ensures shift { (begun : List ℕ) → IsBegun operator.old.line.held.items begun → IfOk result
         (λ r. WorksOn setting.now.scheme.now loaded.state.node (N.Clock.tells setting.now.network.now) L.takes
@@ -257,8 +262,8 @@ where
         r.1) }
     ensures keeps { IfOk result (λ r. IsKept N.Store.NodeStore r.0) }
 {
-    let (left, next) = work_shift::<Brand, L, N, I, W, R>(
-        rt, alloc, setting, loaded, operator, timer, reader, writer,
+    let (left, next) = work_shift::<Brand, N, I, W, R>(
+        rt, setting, loaded, operator, reader, writer,
     )?;
     match next {
         Next::On => Ok((reopen_node(left)?, Next::On)),
@@ -289,7 +294,8 @@ fn write_end<C: NodeCore, S: NodeStore, W: Write>(
     write_out(writer, text.as_str())
 }
 
-/// As `run_alone`, with `L` for what is known of the node's life.
+/// As `run_alone`, with `L` for what is known of the node's life. It has six type parameters, since `run_alone` picks
+/// `L` and passes on all of its own.
 fn live<L, N, E, I, W, R>(
     rt: &R,
     alloc: Global,
@@ -312,8 +318,8 @@ where
     requires first { loaded.state.journal ≡ L.first }
     requires takes { (input : AnInput)
         → IsOfThread
-        (N.leads setting.now.network.now) N.Reader.remaining N.Writer.contents
-        N.Store.NodeStore (begins_with setting.now.scheme.now loaded.state.node L.first)
+        (IsToSend N.Store.NodeStore (begins_with setting.now.scheme.now loaded.state.node L.first))
+        (IsReceivedBy (N.leads setting.now.network.now) N.Reader.remaining N.Writer.contents)
         (N.Clock.tells setting.now.network.now) input → L.takes input }
     ensures life { IfOk result (λ s. IsLife setting.now.scheme.now loaded.state.node
         (N.Clock.tells setting.now.network.now) L.takes
@@ -321,17 +327,14 @@ where
         (committed_records s.state) (I.remaining reader.old) (I.remaining reader.new) (W.contents writer.old) (W.contents writer.new)) }
     ensures keeps { IfOk result (IsKept N.Store.NodeStore) }
 {
-    let mut operator = Operator::new(alloc)?;
-    let mut timer = Timer::new(rt, setting.clean_up);
+    let mut operator = Operator::new(alloc, Timer::new(rt, setting.clean_up))?;
     let mut standing = loaded;
     for _ in rt.forever() {
         let (left, next) = next_shift::<L, N, I, W, R>(
             rt,
-            alloc,
             setting,
             standing,
             &mut operator,
-            &mut timer,
             reader,
             writer,
         )?;
@@ -373,6 +376,8 @@ where
 /// - `Read`: the reader failed.
 /// - `Write`: the output failed, after the number of bytes of a line that the fault has.
 /// - `NoMemory`: memory ran out, or the system had too few threads.
+///
+/// It has five type parameters: the network, the exporter, the operator's two streams, and the system.
 pub fn run_alone<N, E, I, W, R>(
     rt: &R,
     alloc: Global,
@@ -393,9 +398,9 @@ where
         ≡ opened_with setting.now.scheme.now loaded.state.node loaded.state.journal }
     ensures life { IfOk result (λ s. IsLife setting.now.scheme.now loaded.state.node
         (N.Clock.tells setting.now.network.now) (IsOfThread
-        (N.leads setting.now.network.now) N.Reader.remaining N.Writer.contents
-        N.Store.NodeStore
-        (begins_with setting.now.scheme.now loaded.state.node loaded.state.journal)
+        (IsToSend N.Store.NodeStore
+        (begins_with setting.now.scheme.now loaded.state.node loaded.state.journal))
+        (IsReceivedBy (N.leads setting.now.network.now) N.Reader.remaining N.Writer.contents)
         (N.Clock.tells setting.now.network.now))
         (λ path records. E.holds exporter.now path loaded.state.node records) loaded.state.journal
         (committed_records s.state) (I.remaining reader.old) (I.remaining reader.new) (W.contents writer.old) (W.contents writer.new)) }

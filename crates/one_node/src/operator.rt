@@ -3,25 +3,23 @@ ghost use Rattle.std.specs.Prelude.{◌≡◌, ◌<◌, ◌+◌, ◌++◌, ◌�
 ghost use Rattle.std.specs.Io.KnownBytes.{Appends};
 ghost use Rattle.units.specs.declared.code.Node.{Node as ANode};
 ghost use Rattle.protocol.specs.Registries.{is_node};
-ghost use Rattle.protocol.specs.Scheme.{Scheme as AScheme};
 ghost use Rattle.input_lines.specs.declared.script_line.ScriptLine.{ScriptLine as ALine};
 ghost use Rattle.serving.specs.Heard.{Grows, HasHeard};
 ghost use Rattle.serving.specs.Orders.{HasOrders};
 ghost use Rattle.serving.specs.declared.answer.ScriptAnswer.{ScriptAnswer as AnAnswer};
 ghost use Rattle.one_node.specs.Shifts.{IsBegun, IsNext, IsTimed, Operates, TakesLine, Talks};
-ghost use Rattle.one_node.specs.Turns.{IsAhead, IsAnswer, IsPossible, IsTimely, clean_up_moment, fault_line};
+ghost use Rattle.one_node.specs.Turns.{IsAhead, IsAnswer, IsTimely, clean_up_moment, fault_line, line_to};
 
 use crate::answering::{LineFault, push_fault};
-use crate::asking::asked_by;
 use crate::exporting::export_path;
 use crate::reading::{LineBuffer, Step};
 use crate::timer::Timer;
 use command_faults::{OpFault, write_out};
-use desk::{Clock, Opening, Seat};
-use input_lines::{ScriptLine, WordsFault};
+use desk::{Clock, Seat, SharedNode};
+use input_lines::{Instruction, WordsFault, instruction_of};
 use protocol::scheme::Scheme;
 use serving::{Nobody, ScriptAnswer, ask, push_answer, takes};
-use sessions::{Network, Station};
+use sessions::Network;
 use status::Moment;
 use std::alloc::Global;
 use std::io::{Read, Write};
@@ -31,7 +29,6 @@ use std::thread;
 use std::time::Duration;
 use units::{NoMemory, Node};
 use wire::Input;
-use world::Core;
 
 /// How long the operator's thread sleeps if there is nothing to read, in milliseconds.
 const QUIET_PAUSE: u64 = 10;
@@ -62,70 +59,56 @@ pub(crate) enum Next {
     End,
 }
 
-/// The node that gets the orders and questions: at its station, under its scheme.
+/// A node that is given orders and asked questions: at its desk, under its scheme.
 #[derive(Drop)]
-pub(crate) struct Counter<'a, O: Opening, N: Network> {
+pub(crate) struct Client<'a, D: SharedNode, N: Network> {
     pub(crate) scheme: &'a Scheme,
     pub(crate) node: Node,
-    /// The node's one station.
-    pub(crate) stations: &'a [Station<O, Core, N>],
+    /// The node's one desk.
+    pub(crate) desks: &'a [D],
     pub(crate) network: &'a N,
 }
 
-/// Whether the line is for that node, which is one of the scheme's, and the node takes such an order.
-fn is_possible(node: Node, line: &ScriptLine) -> bool
-    ensures { (scheme : AScheme) → is_node scheme node ≡ true → IsPossible scheme node line.now result }
+/// The moment of the clean-up, if one is ordered.
+fn clean_up_moment(instruction: &Instruction) -> Option<Moment>
+    ensures { result ≡ clean_up_moment instruction.now }
 {
-    match line {
-        ScriptLine::Order { node: named, input } => *named == node && takes(node, input),
-        ScriptLine::Status { node: named, .. } => *named == node,
-        ScriptLine::Until { node: named, .. } => *named == node,
-    }
-}
-
-/// The moment of the clean-up that the line orders, if it orders one.
-fn clean_up_moment(line: &ScriptLine) -> Option<Moment>
-    ensures { result ≡ clean_up_moment line.now }
-{
-    match line {
-        ScriptLine::Order {
-            input: Input::CleanUp(moment),
-            ..
-        } => Some(*moment),
+    match instruction {
+        Instruction::Order(Input::CleanUp(moment)) => Some(*moment),
         _ => None,
     }
 }
 
-impl<'a, O: Opening, N: Network> Counter<'a, O, N> {
-    /// Whether the line orders a clean-up at a moment that is more than a day ahead of the clock.
-    fn is_ahead(&self, line: &ScriptLine) -> bool
-        ensures ahead { result ≡ true → IsAhead (N.Clock.tells self.now.network.now) line.now }
-        ensures timely { result ≡ false → IsTimely (N.Clock.tells self.now.network.now) line.now }
+impl<'a, D: SharedNode, N: Network> Client<'a, D, N> {
+    /// Whether a clean-up is ordered at a moment that is more than a day ahead of the clock.
+    fn is_ahead(&self, instruction: &Instruction) -> bool
+        ensures ahead { result ≡ true → IsAhead (N.Clock.tells self.now.network.now) instruction.now }
+        ensures timely { result ≡ false → IsTimely (N.Clock.tells self.now.network.now) instruction.now }
     {
-        let Some(moment) = clean_up_moment(line) else {
+        let Some(moment) = clean_up_moment(instruction) else {
             return false;
         };
         let now = self.network.now();
         moment.seconds.saturating_sub(now.seconds) > MOST_AHEAD
     }
 
-    /// The node's result for an order or a question, if the line is possible.
+    /// The node's result for an order or a question, if the node takes such an order.
     fn answer<R: Wait + SystemClock>(
         &self,
         rt: &R,
         seat: &mut Seat,
-        line: &ScriptLine,
+        instruction: Instruction,
     ) -> ScriptAnswer
         requires member { is_node self.now.scheme.now self.now.node ≡ true }
-        requires station { 0 < length self.now.stations.now }
-        ensures answer { IsAnswer self.now.scheme.now self.now.node (HasHeard seat.new) line.now result }
+        requires desk { 0 < length self.now.desks.now }
+        ensures answer { IsAnswer self.now.scheme.now self.now.node (HasHeard seat.new) instruction result }
         ensures grows { Grows seat.old seat.new }
         ensures orders { (lines : List ALine) (answers : List AnAnswer) → length answers ≡ length lines
             → HasOrders self.now.node lines answers seat.old
-            → HasOrders self.now.node (lines ++ line.now ∷ []) (answers ++ result ∷ []) seat.new }
+            → HasOrders self.now.node (lines ++ line_to self.now.node instruction ∷ []) (answers ++ result ∷ []) seat.new }
     {
-        if is_possible(self.node, line) {
-            ScriptAnswer::Told(ask(rt, self.stations, 0, seat, line, &mut Nobody))
+        if takes(self.node, &instruction) {
+            ScriptAnswer::Told(ask(rt, self.desks, 0, seat, instruction, &mut Nobody))
         } else {
             ScriptAnswer::NotPossible
         }
@@ -133,23 +116,20 @@ impl<'a, O: Opening, N: Network> Counter<'a, O, N> {
 
     /// Whether the desk has stopped, or so many notes were made there that they are to be settled.
     fn is_to_settle<R: Wait>(&self, rt: &R, seat: &Seat) -> bool {
-        let Some(station) = self.stations.first() else {
+        let Some(desk) = self.desks.first() else {
             return true;
         };
-        if !station.desk.is_running(rt) {
+        if !desk.is_running(rt) {
             return true;
         }
-        let notes = station
-            .desk
-            .unrecorded_count(rt)
-            .saturating_add(seat.notes().len());
-        notes >= LEAST_NOTES.max(station.desk.committed_count(rt) / RECORDS_A_NOTE)
+        let notes = desk.unrecorded_count(rt).saturating_add(seat.notes().len());
+        notes >= LEAST_NOTES.max(desk.committed_count(rt) / RECORDS_A_NOTE)
     }
 
     /// Orders a clean-up at the clock's moment, if the node is the log.
     fn clean_up<R: Wait + SystemClock>(&self, rt: &R, seat: &mut Seat)
         requires member { is_node self.now.scheme.now self.now.node ≡ true }
-        requires station { 0 < length self.now.stations.now }
+        requires desk { 0 < length self.now.desks.now }
         ensures { IsTimed self.now.scheme.now self.now.node (N.Clock.tells self.now.network.now) seat.old
             seat.new }
     {
@@ -163,30 +143,29 @@ impl<'a, O: Opening, N: Network> Counter<'a, O, N> {
     fn order_clean_up<R: Wait + SystemClock>(&self, rt: &R, seat: &mut Seat)
         requires log { self.now.node ≡ ANode.Itl }
         requires member { is_node self.now.scheme.now self.now.node ≡ true }
-        requires station { 0 < length self.now.stations.now }
+        requires desk { 0 < length self.now.desks.now }
         ensures { IsTimed self.now.scheme.now self.now.node (N.Clock.tells self.now.network.now) seat.old
             seat.new }
     {
         let moment = self.network.now();
-        let line = ScriptLine::Order {
-            node: Node::Itl,
-            input: Input::CleanUp(moment),
-        };
-        let _told = ask(rt, self.stations, 0, seat, &line, &mut Nobody);
+        let order = Instruction::Order(Input::CleanUp(moment));
+        let _told = ask(rt, self.desks, 0, seat, order, &mut Nobody);
     }
 }
 
-/// An operator: the part of the next line that was read, and how many lines have had their result written.
+/// An operator: the part of the next line that was read, how many lines have had their result written, and when the
+/// node's clock orders its next clean-up.
 #[derive(Drop)]
 pub(crate) struct Operator {
     pub(crate) alloc: Global,
     pub(crate) line: LineBuffer,
     count: u64,
+    timer: Timer,
 }
 
 impl Operator {
     /// An operator with no line read. Fails with `NoMemory` if memory ran out.
-    pub(crate) fn new(alloc: Global) -> Result<Operator, NoMemory>
+    pub(crate) fn new(alloc: Global, timer: Timer) -> Result<Operator, NoMemory>
         ensures line { IfOk result (λ o. o.line.held.items ≡ []) }
         ensures count { IfOk result (λ o. o.count ≡ 0) }
     {
@@ -195,6 +174,7 @@ impl Operator {
             alloc,
             line,
             count: 0,
+            timer,
         })
     }
 
@@ -245,17 +225,17 @@ impl Operator {
     /// Asks the node for what the held line says, and writes the result. A clean-up more than a day ahead of the clock
     /// is refused. Returns `Export` if the line asks for an export, whose result isn't written yet, and `End` if it
     /// asks for the node's end.
-    fn take_line<O: Opening, N: Network, W: Write, R: Wait + SystemClock>(
+    fn take_line<D: SharedNode, N: Network, W: Write, R: Wait + SystemClock>(
         &mut self,
         rt: &R,
-        counter: &Counter<'_, O, N>,
+        client: &Client<'_, D, N>,
         writer: &mut W,
         seat: &mut Seat,
     ) -> Result<Next, OpFault>
-        requires member { is_node counter.now.scheme.now counter.now.node ≡ true }
-        requires station { 0 < length counter.now.stations.now }
-        ensures { IfOk result (λ next. TakesLine counter.now.scheme.now counter.now.node
-            (N.Clock.tells counter.now.network.now) self.old.line.held.items (W.contents writer.old)
+        requires member { is_node client.now.scheme.now client.now.node ≡ true }
+        requires desk { 0 < length client.now.desks.now }
+        ensures { IfOk result (λ next. TakesLine client.now.scheme.now client.now.node
+            (N.Clock.tells client.now.network.now) self.old.line.held.items (W.contents writer.old)
             (W.contents writer.new) self.old.count self.new.count seat.old seat.new self.new.line.held.items next) }
     {
         if self.line.held() == b"stop".as_slice() {
@@ -269,13 +249,13 @@ impl Operator {
         let Ok(mut text) = String::with_capacity(self.alloc, LONGEST_ANSWER) else {
             return Err(OpFault::NoMemory);
         };
-        match asked_by(self.alloc, counter.node, self.line.held()) {
-            Ok(line) => {
-                if counter.is_ahead(&line) {
+        match instruction_of(self.alloc, self.line.held()) {
+            Ok(instruction) => {
+                if client.is_ahead(&instruction) {
                     self.refuse(writer, LineFault::Moment)?;
                     return Ok(Next::On);
                 }
-                let answer = counter.answer(rt, seat, &line);
+                let answer = client.answer(rt, seat, instruction);
                 push_answer(&mut text, number, answer)?;
                 self.write_answer(writer, text.as_str(), number)?;
                 Ok(Next::On)
@@ -289,30 +269,30 @@ impl Operator {
     }
 
     /// Orders the clean-up if one is due. Otherwise reads on, and if a line has been read to its end takes it and
-    /// writes its result.
-    fn step<O: Opening, N: Network, I: Read, W: Write, R: Wait + SystemClock>(
+    /// writes its result. It has five type parameters: the desk, the network, the operator's two streams, and the
+    /// system.
+    fn step<D: SharedNode, N: Network, I: Read, W: Write, R: Wait + SystemClock>(
         &mut self,
         rt: &R,
-        counter: &Counter<'_, O, N>,
-        timer: &mut Timer,
+        client: &Client<'_, D, N>,
         reader: &mut I,
         writer: &mut W,
         seat: &mut Seat,
     ) -> Result<Next, OpFault>
-        requires member { is_node counter.now.scheme.now counter.now.node ≡ true }
-        requires station { 0 < length counter.now.stations.now }
+        requires member { is_node client.now.scheme.now client.now.node ≡ true }
+        requires desk { 0 < length client.now.desks.now }
         ensures { (begun : List ℕ) → IsBegun self.old.line.held.items begun → IfOk result
-            (λ next. (left : List ℕ) × Talks counter.now.scheme.now counter.now.node
-            (N.Clock.tells counter.now.network.now) begun (I.remaining reader.old) (I.remaining reader.new)
+            (λ next. (left : List ℕ) × Talks client.now.scheme.now client.now.node
+            (N.Clock.tells client.now.network.now) begun (I.remaining reader.old) (I.remaining reader.new)
             (W.contents writer.old) (W.contents writer.new) self.old.count self.new.count seat.old seat.new left
             × IsNext self.new.line.held.items (I.remaining reader.new) left next) }
     {
-        if timer.is_due(rt) {
-            counter.clean_up(rt, seat);
+        if self.timer.is_due(rt) {
+            client.clean_up(rt, seat);
             return Ok(Next::On);
         }
         match self.line.step(reader) {
-            Step::Line => self.take_line(rt, counter, writer, seat),
+            Step::Line => self.take_line(rt, client, writer, seat),
             Step::TooLong => {
                 self.refuse(writer, LineFault::TooLong)?;
                 Ok(Next::On)
@@ -328,27 +308,26 @@ impl Operator {
 
     /// Reads lines and writes their results until the operator asks for an export, which returns `Export`, or for the
     /// node's end, which returns `End`; or until the desk has stopped or has enough notes to settle, which returns
-    /// `On`.
-    pub(crate) fn operate<O: Opening, N: Network, I: Read, W: Write, R: Wait + SystemClock>(
+    /// `On`. It has the type parameters of `step`.
+    pub(crate) fn operate<D: SharedNode, N: Network, I: Read, W: Write, R: Wait + SystemClock>(
         &mut self,
         rt: &R,
-        counter: &Counter<'_, O, N>,
-        timer: &mut Timer,
+        client: &Client<'_, D, N>,
         reader: &mut I,
         writer: &mut W,
         seat: &mut Seat,
     ) -> Result<Next, OpFault>
-        requires member { is_node counter.now.scheme.now counter.now.node ≡ true }
-        requires station { 0 < length counter.now.stations.now }
-        ensures { Operates counter.now.scheme.now counter.now.node (N.Clock.tells counter.now.network.now)
+        requires member { is_node client.now.scheme.now client.now.node ≡ true }
+        requires desk { 0 < length client.now.desks.now }
+        ensures { Operates client.now.scheme.now client.now.node (N.Clock.tells client.now.network.now)
             self.old.line.held.items self.new.line.held.items (I.remaining reader.old) (I.remaining reader.new)
             (W.contents writer.old) (W.contents writer.new) self.old.count self.new.count seat.old seat.new result }
     {
         for _ in rt.forever() {
-            if counter.is_to_settle(rt, seat) {
+            if client.is_to_settle(rt, seat) {
                 return Ok(Next::On);
             }
-            match self.step(rt, counter, timer, reader, writer, seat)? {
+            match self.step(rt, client, reader, writer, seat)? {
                 Next::On => {}
                 Next::Export => return Ok(Next::Export),
                 Next::End => return Ok(Next::End),

@@ -5,10 +5,8 @@ ghost use Rattle.replies.specs.Answers.{Replies};
 use crate::answer::Answer;
 use crate::job::Job;
 use crate::pending::answer_job;
-use desk::stores::NodeStore;
-use desk::{Bell, Clock, Desk, OpenGate, Opening, Seat};
+use desk::{Clock, OpenGate, Seat, SharedNode};
 use exchanges::Answerer;
-use protocol::NodeCore;
 use std::alloc::Global;
 use std::marker::Model;
 use std::rt::Clock as SystemClock;
@@ -18,17 +16,16 @@ use wire::Reply;
 
 /// Replies to lines by a desk, with a seat of its own, and keeps the answers.
 #[derive(Drop)]
-pub struct DeskAnswerer<'a, O: Opening, C: NodeCore, S: NodeStore, B: Bell, K: Clock, R: Wait> {
+pub struct DeskAnswerer<'a, D: SharedNode, K: Clock, R: Wait> {
     rt: &'a R,
     alloc: Global,
-    desk: &'a Desk<O, C, S, B>,
+    desk: &'a D,
     clock: &'a K,
     seat: Seat,
     answers: Vec<Answer>,
 }
 
-impl<'a, O: Opening, C: NodeCore, S: NodeStore, B: Bell, K: Clock, R: Wait> Model
-    for DeskAnswerer<'a, O, C, S, B, K, R> {
+impl<'a, D: SharedNode, K: Clock, R: Wait> Model for DeskAnswerer<'a, D, K, R> {
     ghost use Rattle.replies.specs.Answers.{DeskAnswererView};
 
     ghost Value = { DeskAnswererView K };
@@ -38,10 +35,10 @@ impl<'a, O: Opening, C: NodeCore, S: NodeStore, B: Bell, K: Clock, R: Wait> Mode
 
 /// The answer to a line, by the desk with that seat if the line writes a message. Fails with `NoMemory` if memory ran
 /// out, and the desk has taken nothing.
-fn answer_line<O: Opening, C: NodeCore, S: NodeStore, B: Bell, K: Clock, R: Wait + SystemClock>(
+fn answer_line<D: SharedNode, K: Clock, R: Wait + SystemClock>(
     rt: &R,
     alloc: Global,
-    desk: &Desk<O, C, S, B>,
+    desk: &D,
     seat: &mut Seat,
     clock: &K,
     line: &[u8],
@@ -56,23 +53,15 @@ fn answer_line<O: Opening, C: NodeCore, S: NodeStore, B: Bell, K: Clock, R: Wait
     }
 }
 
-impl<'a, O: Opening, C: NodeCore, S: NodeStore, B: Bell, K: Clock, R: Wait> DeskAnswerer<
-    'a,
-    O,
-    C,
-    S,
-    B,
-    K,
-    R,
-> {
+impl<'a, D: SharedNode, K: Clock, R: Wait> DeskAnswerer<'a, D, K, R> {
     /// Replies by that desk with that seat, at the moments of the clock. It has no answers yet.
     pub fn new(
         rt: &'a R,
         alloc: Global,
-        desk: &'a Desk<O, C, S, B>,
+        desk: &'a D,
         seat: Seat,
         clock: &'a K,
-    ) -> DeskAnswerer<'a, O, C, S, B, K, R>
+    ) -> DeskAnswerer<'a, D, K, R>
         ensures { result ≡ record { clock = clock.now; seat = seat; answers = [] } }
     {
         DeskAnswerer {
@@ -108,8 +97,7 @@ impl<'a, O: Opening, C: NodeCore, S: NodeStore, B: Bell, K: Clock, R: Wait> Desk
     }
 }
 
-impl<'a, O: Opening, C: NodeCore, S: NodeStore, B: Bell, K: Clock, R: Wait + SystemClock> Answerer
-    for DeskAnswerer<'a, O, C, S, B, K, R> {
+impl<'a, D: SharedNode, K: Clock, R: Wait + SystemClock> Answerer for DeskAnswerer<'a, D, K, R> {
     ghost use Rattle.exchanges.specs.Given.{GivesOne};
     ghost use Rattle.replies.specs.Answers.{RepliesOnce, given_of};
 

@@ -7,9 +7,8 @@ ghost use Rattle.replies.specs.Beginning.{Becomes, Begins, line_of};
 
 use crate::answer::{Answer, refused_by};
 use crate::job::Job;
-use desk::stores::NodeStore;
-use desk::{Bell, Clock, Desk, Gate, Opening, Seat, Taken, Told, is_unjudged};
-use protocol::{NodeCore, refusals_have_causes};
+use desk::{Clock, Gate, Seat, SharedNode, Taken, Told, is_unjudged};
+use protocol::refusals_have_causes;
 use std::marker::Model;
 use std::rt::Clock as SystemClock;
 use std::sync::Wait;
@@ -77,11 +76,7 @@ impl PendingAnswer {
     /// Waits for the commit at that desk, and returns the answer: with its reply and the receipt, or with refusal
     /// `NODE_STOPPED` if the node stopped before. The caller keeps the receipt with the seat with which the message was
     /// taken, or with another seat of the same desk.
-    pub fn wait<O: Opening, C: NodeCore, S: NodeStore, B: Bell, R: Wait + SystemClock>(
-        self,
-        rt: &R,
-        desk: &Desk<O, C, S, B>,
-    ) -> Answer
+    pub fn wait<D: SharedNode, R: Wait + SystemClock>(self, rt: &R, desk: &D) -> Answer
         ensures judged { is_without_journal self.note.told ≡ false }
         ensures line { result.line ≡ self.line }
         ensures end { EndsWith self.note result }
@@ -95,10 +90,10 @@ impl PendingAnswer {
     }
 
     /// As `wait`. The seat has kept the receipt.
-    fn confirm<O: Opening, C: NodeCore, S: NodeStore, B: Bell, R: Wait + SystemClock>(
+    fn confirm<D: SharedNode, R: Wait + SystemClock>(
         self,
         rt: &R,
-        desk: &Desk<O, C, S, B>,
+        desk: &D,
         seat: &mut Seat,
     ) -> Answer
         ensures judged { is_without_journal self.note.told ≡ false }
@@ -140,9 +135,9 @@ fn begun_of(line: Vec<u8>, taken: Taken) -> Begun
 }
 
 /// As `begin_job`, for a line and the message that it writes.
-fn begin_message<O: Opening, C: NodeCore, S: NodeStore, B: Bell, K: Clock, G: Gate, R: Wait>(
+fn begin_message<D: SharedNode, K: Clock, G: Gate, R: Wait>(
     rt: &R,
-    desk: &Desk<O, C, S, B>,
+    desk: &D,
     seat: &mut Seat,
     clock: &K,
     gate: &G,
@@ -161,9 +156,9 @@ fn begin_message<O: Opening, C: NodeCore, S: NodeStore, B: Bell, K: Clock, G: Ga
 /// Has the desk take a job's message once, at the clock's moment. Returns the answer to the job's line if the node had
 /// stopped or memory ran out, and otherwise one that waits until all records are committed that the journal had then.
 /// While the desk holds its lock, it passes the gate.
-pub fn begin_job<O: Opening, C: NodeCore, S: NodeStore, B: Bell, K: Clock, G: Gate, R: Wait>(
+pub fn begin_job<D: SharedNode, K: Clock, G: Gate, R: Wait>(
     rt: &R,
-    desk: &Desk<O, C, S, B>,
+    desk: &D,
     seat: &mut Seat,
     clock: &K,
     gate: &G,
@@ -178,15 +173,14 @@ pub fn begin_job<O: Opening, C: NodeCore, S: NodeStore, B: Bell, K: Clock, G: Ga
 
 /// As `begin_job`, and returns the answer once it has waited for the commit. If the node stops before, the reply is
 /// refusal `NODE_STOPPED`.
-pub fn answer_job<
-    O: Opening,
-    C: NodeCore,
-    S: NodeStore,
-    B: Bell,
-    K: Clock,
-    G: Gate,
-    R: Wait + SystemClock,
->(rt: &R, desk: &Desk<O, C, S, B>, seat: &mut Seat, clock: &K, gate: &G, job: Job) -> Answer
+pub fn answer_job<D: SharedNode, K: Clock, G: Gate, R: Wait + SystemClock>(
+    rt: &R,
+    desk: &D,
+    seat: &mut Seat,
+    clock: &K,
+    gate: &G,
+    job: Job,
+) -> Answer
     ensures line { result.line ≡ job.line }
     ensures asks { Asks (K.tells clock.now) seat.old seat.new job.message result }
 {

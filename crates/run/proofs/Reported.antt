@@ -20,7 +20,7 @@ use Rattle.weave.specs.Following.{journal_of}
 use Rattle.protocol.proofs.NodeIndices.{node_of_index, index_within}
 use Rattle.weave.proofs.NodeIndices.{journal_is}
 use Rattle.input_lines.specs.declared.script_line.ScriptLine.{ScriptLine}
-use Rattle.serving.specs.Answers.{IsAnswer, IsBorne, IsRecordAt, answer_lines, asked_by, first_undone, node_of}
+use Rattle.serving.specs.Answers.{IsAnswer, IsBorne, IsRecordAt, answer_lines, asked_by, first_undone}
 use Rattle.run.specs.Gathered.{AreGathered, IsGathered}
 use Rattle.serving.specs.Heard.{IsHeard}
 use Rattle.serving.specs.Orders.{IsPlayed}
@@ -70,17 +70,17 @@ module _ (scheme : Scheme) (helds : List StateView) (own : List SeatView) (seats
   is_answer l NotPossible h = h
   is_answer l (Answered told) h =
       let x = h.1 in
-      let low : x.at < length (nodes scheme) = index_within scheme (node_of l) x.at x.index in
+      let low : x.at < length (nodes scheme) = index_within scheme l.node x.at x.index in
       let held = some_at helds x.at (omega (arith, low, all)) in
-      let s = seated (node_of l) x.at held.0 x.seat x.index held.1 x.is in
-      let journal = journal_at (node_of l) x.at held.0 x.index held.1 in
-      (h.0, subst (λ (js : List Input). IsBorne scheme (node_of l) js (asked_by l) told) (sym journal) (borne scheme (node_of l) held.0 s.heard x.seat s.settled (among s.heard x.seat s.gathers) (asked_by l) told x.heard))
+      let s = seated l.node x.at held.0 x.seat x.index held.1 x.is in
+      let journal = journal_at l.node x.at held.0 x.index held.1 in
+      (h.0, subst (λ (js : List Input). IsBorne scheme l.node js (asked_by l.instruction) told) (sym journal) (borne scheme l.node held.0 s.heard x.seat s.settled (among s.heard x.seat s.gathers) (asked_by l.instruction) told x.heard))
 
   -- an order whose answer says that it is recorded is committed
-  recorded_within : (n : Node) (held : StateView) (l : ScriptLine) (input : Input) (place : ℕ) → journal_of scheme (committed_by_all helds) n ≡ committed_records held → node_of l ≡ n → asked_by l ≡ Take input
+  recorded_within : (n : Node) (held : StateView) (l : ScriptLine) (input : Input) (place : ℕ) → journal_of scheme (committed_by_all helds) n ≡ committed_records held → l.node ≡ n → asked_by l.instruction ≡ Take input
       → IsAnswer scheme (journal_of scheme (committed_by_all helds)) l (Answered (Step (Recorded place))) → place < held.committed
   recorded_within n held l input place journal here asked h =
-      let at_line : IsRecordAt (journal_of scheme (committed_by_all helds) (node_of l)) place (Take input) = subst (IsRecordAt (journal_of scheme (committed_by_all helds) (node_of l)) place) asked h.1 in
+      let at_line : IsRecordAt (journal_of scheme (committed_by_all helds) l.node) place (Take input) = subst (IsRecordAt (journal_of scheme (committed_by_all helds) l.node) place) asked h.1 in
       let at : slice_get (committed_records held) place ≡ Some input = ap (λ (js : List Input). slice_get js place) (sym (ap (journal_of scheme (committed_by_all helds)) here ∙ journal)) ∙ at_line in
       let low = slice_get_within (committed_records held) place input at in
       omega (arith, low, short held.committed held.journal)

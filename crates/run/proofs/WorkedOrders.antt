@@ -12,8 +12,9 @@ use Rattle.protocol.proofs.WorkedScheme.{nz, jp, nz_node, jp_node, block, nz1, s
 use Rattle.node_state.specs.Views.{StateView}
 use Rattle.node_state.specs.declared.notes.Ticket.{Ticket}
 use Rattle.node_state.specs.declared.notes.Told.TheVariants.{Step, Status, Refused}
+use Rattle.input_lines.specs.declared.instruction.Instruction.{Instruction}
+use Rattle.input_lines.specs.declared.instruction.Instruction.TheVariants.{Order, Status as Ask}
 use Rattle.input_lines.specs.declared.script_line.ScriptLine.{ScriptLine}
-use Rattle.input_lines.specs.declared.script_line.ScriptLine.TheVariants.{Order, Status as Ask}
 use Rattle.serving.specs.Orders.{AreOrders}
 use Rattle.serving.specs.declared.answer.ScriptAnswer.{ScriptAnswer}
 use Rattle.serving.specs.declared.answer.ScriptAnswer.TheVariants.{NotPossible, Told}
@@ -97,9 +98,12 @@ told place = Told (Step (Recorded place))
 abbrev refused : ℕ → ScriptAnswer
 refused code = Told (Refused (record { code = code }))
 
+abbrev to : Node → Instruction → ScriptLine
+to n i = record { node = n; instruction = i }
+
 -- NZ transfers, JP closes an account that it hasn't, a question, and NZ closes an account
 abbrev lines : List ScriptLine
-lines = Order nz_node transfer ∷ Order jp_node close ∷ Ask nz_node nz1 ∷ Order nz_node close ∷ []
+lines = to nz_node (Order transfer) ∷ to jp_node (Order close) ∷ to nz_node (Ask nz1) ∷ to nz_node (Order close) ∷ []
 
 abbrev answers : List ScriptAnswer
 answers = told 1 ∷ refused 113 ∷ Told (Status None) ∷ told 4 ∷ []
@@ -127,7 +131,7 @@ orders_of_nz = (
 )
 
 abbrev one_line : ScriptAnswer → List Ticket → Type 0
-one_line answer records = AreOrders nz_node (Order nz_node transfer ∷ []) (answer ∷ []) records
+one_line answer records = AreOrders nz_node (to nz_node (Order transfer) ∷ []) (answer ∷ []) records
 
 -- the records that one line left, if its node returned that result
 same_records : (records first rest : List Ticket) → records ≡ first ++ rest → rest ≡ [] → (expected : List Ticket) → first ≡ expected → records ≡ expected ++ []

@@ -5,8 +5,10 @@
 mod gathering;
 mod playing;
 mod running;
+mod script;
 mod taking;
 mod threads;
 mod wiring;
 
 pub use running::{EndedRun, run_script};
+pub use script::Script;

@@ -1,15 +1,16 @@
 //! A script, played while all nodes run in threads of their own.
 ghost use Rattle.std.specs.Prelude.{◌≡◌, ◌++◌, ℕ, false, All, List, length, map, vec_len, IfErr, IfOk, string_bytes};
 ghost use Rattle.std.specs.Io.KnownBytes.{Appends};
-ghost use Rattle.protocol.specs.Registries.{nodes};
+ghost use Rattle.protocol.specs.Registries.{nodes as all_nodes};
 ghost use Rattle.protocol.specs.Input.{Input as AnInput};
-ghost use Rattle.desk.specs.Keeping.{MayOpen};
+ghost use Rattle.desk.specs.Keeping.{IsToSend, MayOpen};
 ghost use Rattle.node_state.specs.Views.{SeatView, opened_with};
 ghost use Rattle.input_lines.specs.declared.script_line.ScriptLine.{ScriptLine as ALine};
 ghost use Rattle.serving.specs.Answers.{answer_lines, first_undone};
 ghost use Rattle.ended_nodes.specs.Ended.{seats_in, states_in, stored_in};
 ghost use Rattle.serving.specs.Orders.{IsPlayed};
 ghost use Rattle.sessions.specs.Orders.{AreAll, HasOnly, was_ordered};
+ghost use Rattle.sessions.specs.Sending.{IsReceivedBy};
 ghost use Rattle.sessions.specs.Threads.{IsOfThread};
 ghost use Rattle.run.specs.Gathered.{AreGathered};
 ghost use Rattle.ended_nodes.specs.Reported.{IsTableFault};
@@ -18,23 +19,24 @@ ghost use Rattle.serving.specs.Ends.{HaveEnded, IsLateFault};
 ghost use Rattle.serving.specs.declared.answer.ScriptAnswer.{ScriptAnswer as AnAnswer};
 
 use crate::gathering::{ThreadSeats, end_all};
+use crate::script::Script;
 use crate::taking::Taking;
 use crate::threads::{Heard, Played, Run, run_and_play};
+use crate::wiring::NodeDesk;
 use command_faults::{OpFault, write_out};
 use desk::stores::NodeStore;
 use desk::{Opening, Seat, Stored};
 use ended_nodes::{EndedNode, table_of_ended};
-use input_lines::ScriptLine;
 use protocol::scheme::Scheme;
 use serving::{Watch, first_undone, lines_of};
-use sessions::{Network, Station};
+use sessions::Network;
 use std::alloc::Global;
 use std::io::Write;
 use std::marker::Brand;
 use std::rt::Clock as SystemClock;
 use std::sync::Wait;
 use std::thread::Threads;
-use units::NoMemory;
+use units::{NoMemory, Node};
 use world::Core;
 
 /// What a run leaves.
@@ -62,10 +64,10 @@ fn with_table<T: Taking, S: NodeStore, P: weave::Watch>(
     answers: &str,
     watch: &mut P,
 ) -> Result<String, OpFault>
-    requires ended { length ended.now ≡ length (nodes scheme.now) }
+    requires ended { length ended.now ≡ length (all_nodes scheme.now) }
     requires unordered { (input : AnInput) → T.takes input → was_ordered input ≡ false }
     ensures ok { IfOk result
-        (λ s. (own : List SeatView) → length own ≡ length (nodes scheme.now)
+        (λ s. (own : List SeatView) → length own ≡ length (all_nodes scheme.now)
         → AreGathered T.takes own (seats_in ended.now)
         → (lines : List ALine) (told : List AnAnswer) → IsPlayed scheme.now lines told own
         → answers.now ≡ answer_lines 1 told
@@ -79,6 +81,15 @@ fn with_table<T: Taking, S: NodeStore, P: weave::Watch>(
     }
 }
 
+/// The nodes of a run at its end: their names and desks, and the seats of each node's threads and of the script.
+#[derive(Drop)]
+struct EndingNodes<O: Opening, S: NodeStore + Drop> {
+    names: Vec<Node>,
+    desks: Vec<NodeDesk<O, S>>,
+    threads: Vec<ThreadSeats>,
+    script: Vec<Seat>,
+}
+
 /// The nodes that a run leaves, and the answers with the table of their committed records.
 #[derive(Drop)]
 struct Whole<S: NodeStore> {
@@ -86,30 +97,35 @@ struct Whole<S: NodeStore> {
     text: String,
 }
 
-/// Ends the nodes, and adds the table of their committed records to the answers.
-fn whole_of<O: Opening, T: Taking, N: Network, P: weave::Watch>(
+/// Ends these nodes at their desks, and adds the table of their committed records to the answers.
+fn whole_of<K: Opening + Taking, S: NodeStore + Drop, P: weave::Watch>(
     alloc: Global,
     scheme: &Scheme,
-    stations: Vec<Station<O, Core, N>>,
-    threads: Vec<ThreadSeats>,
-    seats: Vec<Seat>,
+    nodes: EndingNodes<K, S>,
     answers: &str,
     watch: &mut P,
-) -> Result<Whole<N::Store>, OpFault>
-    requires stations { map (λ s. s.node) stations.items ≡ nodes scheme.now }
-    requires taken { AreAll (HasOnly T.takes) threads.items }
-    requires seats { vec_len seats ≡ length (nodes scheme.now) }
-    requires unordered { (input : AnInput) → T.takes input → was_ordered input ≡ false }
+) -> Result<Whole<S>, OpFault>
+    requires names { nodes.names.items ≡ all_nodes scheme.now }
+    requires desks { vec_len nodes.desks ≡ length nodes.names.items }
+    requires taken { AreAll (HasOnly K.takes) nodes.threads.items }
+    requires seats { vec_len nodes.script ≡ length (all_nodes scheme.now) }
+    requires unordered { (input : AnInput) → K.takes input → was_ordered input ≡ false }
     ensures ok { IfOk result
-        (λ w. (lines : List ALine) (told : List AnAnswer) → IsPlayed scheme.now lines told seats.items
+        (λ w. (lines : List ALine) (told : List AnAnswer) → IsPlayed scheme.now lines told nodes.script.items
         → answers.now ≡ answer_lines 1 told
         → IsRunReport scheme.now lines (states_in w.ended.items) (first_undone 1 lines told) (string_bytes w.text)
-        × HaveOthers T.takes scheme.now (states_in w.ended.items)) }
-    ensures ended { IfOk result (λ w. HaveEnded N.Store.NodeStore O.opened scheme.now (stored_in w.ended.items)) }
-    ensures err { IfErr result (IsLateFault N.Store.NodeStore O.opened scheme.now) }
+        × HaveOthers K.takes scheme.now (states_in w.ended.items)) }
+    ensures ended { IfOk result (λ w. HaveEnded S.NodeStore K.opened scheme.now (stored_in w.ended.items)) }
+    ensures err { IfErr result (IsLateFault S.NodeStore K.opened scheme.now) }
 {
-    let ended = end_all::<O, T, N>(alloc, stations, threads, seats)?;
-    let text = with_table::<T, N::Store, P>(alloc, scheme, ended.as_slice(), answers, watch);
+    let EndingNodes {
+        names,
+        desks,
+        threads,
+        script,
+    } = nodes;
+    let ended = end_all::<K, S>(alloc, names.as_slice(), desks, threads, script)?;
+    let text = with_table::<K, S, P>(alloc, scheme, ended.as_slice(), answers, watch);
     watch.finished();
     match text {
         Ok(text) => Ok(Whole { ended, text }),
@@ -121,45 +137,53 @@ fn whole_of<O: Opening, T: Taking, N: Network, P: weave::Watch>(
 }
 
 /// Writes the results of a run: the answers in any case, and then the table or the fault. Returns what the run leaves.
-fn write_run<O: Opening, T: Taking, N: Network, W: Write, P: weave::Watch>(
+fn write_run<K: Opening + Taking, N: Network, W: Write, P: weave::Watch>(
     alloc: Global,
-    scheme: &Scheme,
-    run: Run<O, N>,
-    lines: &[ScriptLine],
+    script: &Script<'_>,
+    run: Run<K, N>,
     writer: &mut W,
     watch: &mut P,
 ) -> Result<EndedRun<N::Store>, OpFault>
-    requires stations { map (λ s. s.node) run.stations.items ≡ nodes scheme.now }
-    requires taken { AreAll (HasOnly T.takes) run.heard.threads.items }
-    requires seats { vec_len run.heard.script.seats ≡ length (nodes scheme.now) }
-    requires played { IsPlayed scheme.now lines.now run.heard.script.answers.items run.heard.script.seats.items }
-    requires unordered { (input : AnInput) → T.takes input → was_ordered input ≡ false }
+    requires names { run.names.items ≡ all_nodes script.now.scheme.now }
+    requires desks { vec_len run.desks ≡ length run.names.items }
+    requires taken { AreAll (HasOnly K.takes) run.heard.threads.items }
+    requires seats { vec_len run.heard.script.seats ≡ length (all_nodes script.now.scheme.now) }
+    requires played { IsPlayed script.now.scheme.now script.now.lines.now run.heard.script.answers.items
+        run.heard.script.seats.items }
+    requires unordered { (input : AnInput) → K.takes input → was_ordered input ≡ false }
     ensures ok { IfOk result
-        (λ r. (text : List ℕ) × IsRunReport scheme.now lines.now (states_in r.nodes.items) r.undone text
+        (λ r. (text : List ℕ)
+        × IsRunReport script.now.scheme.now script.now.lines.now (states_in r.nodes.items) r.undone text
         × Appends (W.contents writer.old) (W.contents writer.new) text) }
-    ensures others { IfOk result (λ r. HaveOthers T.takes scheme.now (states_in r.nodes.items)) }
-    ensures ended { IfOk result (λ r. HaveEnded N.Store.NodeStore O.opened scheme.now (stored_in r.nodes.items)) }
+    ensures others { IfOk result (λ r. HaveOthers K.takes script.now.scheme.now (states_in r.nodes.items)) }
+    ensures ended { IfOk result
+        (λ r. HaveEnded N.Store.NodeStore K.opened script.now.scheme.now (stored_in r.nodes.items)) }
     ensures err { IfErr result
-        (λ e. FailsToRun N.Store.NodeStore O.opened e scheme.now lines.now (W.contents writer.old)
-        (W.contents writer.new)) }
+        (λ e. FailsToRun N.Store.NodeStore K.opened e script.now.scheme.now script.now.lines.now
+        (W.contents writer.old) (W.contents writer.new)) }
 {
-    let Run { stations, heard } = run;
-    let Heard { threads, script } = heard;
-    let Played { seats, answers } = script;
+    let Run {
+        names,
+        desks,
+        heard,
+    } = run;
+    let Heard {
+        threads,
+        script: played,
+    } = heard;
+    let Played { seats, answers } = played;
     let told = answers.as_slice();
     let Ok(text) = lines_of(alloc, told) else {
         return Err(OpFault::NoMemory);
     };
-    let undone = first_undone(lines, told);
-    match whole_of::<O, T, N, P>(
-        alloc,
-        scheme,
-        stations,
+    let undone = first_undone(script.lines, told);
+    let nodes = EndingNodes {
+        names,
+        desks,
         threads,
-        seats,
-        text.as_str(),
-        watch,
-    ) {
+        script: seats,
+    };
+    match whole_of::<K, N::Store, P>(alloc, script.scheme, nodes, text.as_str(), watch) {
         Ok(Whole { ended, text }) => match write_out(writer, text.as_str()) {
             Ok(()) => Ok(EndedRun {
                 nodes: ended,
@@ -177,42 +201,43 @@ fn write_run<O: Opening, T: Taking, N: Network, W: Write, P: weave::Watch>(
     }
 }
 
-/// As `run_script`, with `O` for what is known of the nodes when their desks open, and `T` for what their threads take.
-fn run_opened<O, T, N, W, P, R>(
+/// As `run_script`, with `K` for what is known of the nodes when their desks open, and of what their threads take. It
+/// has five type parameters, since `run_script` picks `K` and passes on all of its own.
+fn run_opened<K, N, W, P, R>(
     rt: &R,
     alloc: Global,
-    scheme: &Scheme,
-    lines: &[ScriptLine],
+    script: &Script<'_>,
     loaded: Vec<Stored<Core, N::Store>>,
     network: &N,
     writer: &mut W,
     watch: &mut P,
 ) -> Result<EndedRun<N::Store>, OpFault>
 where
-    O: Opening + Send,
-    T: Taking,
+    K: Opening + Taking + Send,
     N: Network,
     W: Write,
     P: Watch + weave::Watch,
     R: Threads + Wait + SystemClock + Sync,
-    requires nodes { map (λ s. s.state.node) loaded.items ≡ nodes scheme.now }
-    requires may_open { All (MayOpen N.Store.NodeStore O.opened) loaded.items }
+    requires nodes { map (λ s. s.state.node) loaded.items ≡ all_nodes script.now.scheme.now }
+    requires may_open { All (MayOpen N.Store.NodeStore K.opened) loaded.items }
     requires takes { (input : AnInput)
-        → IsOfThread
-        (N.leads network.now) N.Reader.remaining N.Writer.contents N.Store.NodeStore
-        O.opened (N.Clock.tells network.now) input → T.takes input }
-    requires unordered { (input : AnInput) → T.takes input → was_ordered input ≡ false }
+        → IsOfThread (IsToSend N.Store.NodeStore K.opened)
+        (IsReceivedBy (N.leads network.now) N.Reader.remaining N.Writer.contents) (N.Clock.tells network.now) input
+        → K.takes input }
+    requires unordered { (input : AnInput) → K.takes input → was_ordered input ≡ false }
     ensures ok { IfOk result
-        (λ r. (text : List ℕ) × IsRunReport scheme.now lines.now (states_in r.nodes.items) r.undone text
+        (λ r. (text : List ℕ)
+        × IsRunReport script.now.scheme.now script.now.lines.now (states_in r.nodes.items) r.undone text
         × Appends (W.contents writer.old) (W.contents writer.new) text) }
-    ensures others { IfOk result (λ r. HaveOthers T.takes scheme.now (states_in r.nodes.items)) }
-    ensures ended { IfOk result (λ r. HaveEnded N.Store.NodeStore O.opened scheme.now (stored_in r.nodes.items)) }
+    ensures others { IfOk result (λ r. HaveOthers K.takes script.now.scheme.now (states_in r.nodes.items)) }
+    ensures ended { IfOk result
+        (λ r. HaveEnded N.Store.NodeStore K.opened script.now.scheme.now (stored_in r.nodes.items)) }
     ensures err { IfErr result
-        (λ e. FailsToRun N.Store.NodeStore O.opened e scheme.now lines.now (W.contents writer.old)
-        (W.contents writer.new)) }
+        (λ e. FailsToRun N.Store.NodeStore K.opened e script.now.scheme.now script.now.lines.now
+        (W.contents writer.old) (W.contents writer.new)) }
 {
-    let run = run_and_play::<O, N, P, R>(rt, alloc, scheme, lines, loaded, network, watch)?;
-    write_run::<O, T, N, W, P>(alloc, scheme, run, lines, writer, watch)
+    let run = run_and_play::<K, N, P, R>(rt, alloc, script, loaded, network, watch)?;
+    write_run::<K, N, W, P>(alloc, script, run, writer, watch)
 }
 
 /// Runs all nodes, each in threads of its own, while the script's lines are ordered and asked one after another; then
@@ -245,8 +270,7 @@ where
 pub fn run_script<N, W, P, R>(
     rt: &R,
     alloc: Global,
-    scheme: &Scheme,
-    lines: &[ScriptLine],
+    script: &Script<'_>,
     loaded: Vec<Stored<Core, N::Store>>,
     network: &N,
     writer: &mut W,
@@ -257,25 +281,26 @@ where
     W: Write,
     P: Watch + weave::Watch,
     R: Threads + Wait + SystemClock + Sync,
-    requires nodes { map (λ s. s.state.node) loaded.items ≡ nodes scheme.now }
-    requires opened { All (λ s. s.state ≡ opened_with scheme.now s.state.node s.state.journal)
+    requires nodes { map (λ s. s.state.node) loaded.items ≡ all_nodes script.now.scheme.now }
+    requires opened { All (λ s. s.state ≡ opened_with script.now.scheme.now s.state.node s.state.journal)
         loaded.items }
     ensures ok { IfOk result
-        (λ r. (text : List ℕ) × IsRunReport scheme.now lines.now (states_in r.nodes.items) r.undone text
+        (λ r. (text : List ℕ)
+        × IsRunReport script.now.scheme.now script.now.lines.now (states_in r.nodes.items) r.undone text
         × Appends (W.contents writer.old) (W.contents writer.new) text) }
     ensures others { IfOk result
         (λ r. HaveOthers (IsOfThread
-        (N.leads network.now) N.Reader.remaining N.Writer.contents N.Store.NodeStore
-        (IsLoadedAmong N.Store.NodeStore scheme.now loaded.items)
-        (N.Clock.tells network.now)) scheme.now (states_in r.nodes.items)) }
+        (IsToSend N.Store.NodeStore (IsLoadedAmong N.Store.NodeStore script.now.scheme.now loaded.items))
+        (IsReceivedBy (N.leads network.now) N.Reader.remaining N.Writer.contents)
+        (N.Clock.tells network.now)) script.now.scheme.now (states_in r.nodes.items)) }
     ensures ended { IfOk result
         (λ r. HaveEnded N.Store.NodeStore
-        (IsLoadedAmong N.Store.NodeStore scheme.now loaded.items) scheme.now
+        (IsLoadedAmong N.Store.NodeStore script.now.scheme.now loaded.items) script.now.scheme.now
         (stored_in r.nodes.items)) }
     ensures err { IfErr result
         (λ e. FailsToRun N.Store.NodeStore
-        (IsLoadedAmong N.Store.NodeStore scheme.now loaded.items) e scheme.now lines.now
-        (W.contents writer.old) (W.contents writer.new)) }
+        (IsLoadedAmong N.Store.NodeStore script.now.scheme.now loaded.items) e script.now.scheme.now
+        script.now.lines.now (W.contents writer.old) (W.contents writer.new)) }
 {
-    run_opened::<Brand, Brand, N, W, P, R>(rt, alloc, scheme, lines, loaded, network, writer, watch)
+    run_opened::<Brand, N, W, P, R>(rt, alloc, script, loaded, network, writer, watch)
 }

@@ -1,29 +1,26 @@
 //! The threads of all nodes, and the one that plays a script.
 ghost use Rattle.std.specs.Prelude.{◌≡◌, ℕ, All, length, map, slice_get, vec_len, IfOk, Ok, Some};
 ghost use Rattle.std.specs.Thread.{IsSync};
-ghost use Rattle.desk.specs.Keeping.{MayOpen};
+ghost use Rattle.desk.specs.Keeping.{IsToSend, MayOpen};
 ghost use Rattle.protocol.specs.Registries.{nodes as nodes_in};
 ghost use Rattle.sessions.specs.Orders.{AreAll};
+ghost use Rattle.sessions.specs.Sending.{IsReceivedBy};
 ghost use Rattle.sessions.specs.Threads.{AreOfThread};
 ghost use Rattle.serving.specs.Orders.{IsPlayed};
 
 use crate::gathering::ThreadSeats;
 use crate::playing::play_all;
-use crate::wiring::{nodes_to_run, stations_of};
-use desk::{Opening, Seat, Stored};
-use input_lines::ScriptLine;
+use crate::script::Script;
+use crate::wiring::{NodeDesk, desks_of, nodes_to_run};
+use desk::{Opening, Seat, SharedNode, Stored};
 use protocol::nodes_of;
-use protocol::scheme::Scheme;
-use serving::{ScriptAnswer, Watch};
-use sessions::{
-    LONGEST_MUSTER, Muster, Mustered, Network, NodeThreads, Station, new_seats, run_all,
-};
+use serving::{ScriptAnswer, Starting, Watch};
+use sessions::{Network, NodeThreads, StartBarrier, new_seats, run_all};
 use std::alloc::Global;
 use std::rt::Clock as SystemClock;
 use std::sync::Wait;
 use std::thread;
 use std::thread::Threads;
-use std::time::Duration;
 use units::{NoMemory, Node};
 use world::Core;
 
@@ -41,93 +38,67 @@ pub(crate) struct Heard {
     pub script: Played,
 }
 
-/// The remains of a run: the nodes at their stations, and the notes made there.
+/// The remains of a run: the names of the nodes, their desks, and the notes made there.
 #[derive(Drop)]
 pub(crate) struct Run<O: Opening, N: Network> {
-    pub stations: Vec<Station<O, Core, N>>,
+    pub names: Vec<Node>,
+    pub desks: Vec<NodeDesk<O, N::Store>>,
     pub heard: Heard,
 }
 
-/// A script that is to be played: its lines, their scheme, and its nodes.
-#[derive(Drop)]
-struct Script<'a, O: Opening, N: Network> {
-    scheme: &'a Scheme,
-    lines: &'a [ScriptLine],
-    stations: &'a [Station<O, Core, N>],
+/// Plays the script with new seats at these desks of all nodes.
+fn play_with_seats<D: SharedNode, P: Watch, R: Wait + SystemClock>(
+    rt: &R,
+    alloc: Global,
+    script: &Script<'_>,
+    desks: &[D],
+    watch: &mut P,
+) -> Result<Played, NoMemory>
+    requires { length desks.now ≡ length (nodes_in script.now.scheme.now) }
+    ensures played { IfOk result
+        (λ p. IsPlayed script.now.scheme.now script.now.lines.now p.answers.items p.seats.items) }
+    ensures seats { IfOk result (λ p. vec_len p.seats ≡ length (nodes_in script.now.scheme.now)) }
+{
+    let mut seats = new_seats(alloc, desks.len())?;
+    let answers = play_all(
+        rt,
+        alloc,
+        script.scheme,
+        desks,
+        seats.as_mut_slice(),
+        script.lines,
+        watch,
+    )?;
+    Ok(Played { seats, answers })
 }
 
-impl<'a, O: Opening, N: Network> Script<'a, O, N> {
-    /// Plays the script with new seats.
-    fn play_with_seats<P: Watch, R: Wait + SystemClock>(
-        &self,
-        rt: &R,
-        alloc: Global,
-        watch: &mut P,
-    ) -> Result<Played, NoMemory>
-        requires { length self.now.stations.now ≡ length (nodes_in self.now.scheme.now) }
-        ensures played { IfOk result
-            (λ p. IsPlayed self.now.scheme.now self.now.lines.now p.answers.items p.seats.items) }
-        ensures seats { IfOk result (λ p. vec_len p.seats ≡ length (nodes_in self.now.scheme.now)) }
-    {
-        let mut seats = new_seats(alloc, self.stations.len())?;
-        let answers = play_all(
-            rt,
-            alloc,
-            self.scheme,
-            self.stations,
-            seats.as_mut_slice(),
-            self.lines,
-            watch,
-        )?;
-        Ok(Played { seats, answers })
+/// Plays the script with new seats once these threads have begun, and then stops all nodes. Fails with `NoMemory` if
+/// one is missing: then no order was given and nothing asked.
+fn play_and_stop<D: SharedNode, P: Watch, R: Wait + SystemClock>(
+    rt: &R,
+    alloc: Global,
+    script: &Script<'_>,
+    desks: &[D],
+    starting: &Starting<'_>,
+    watch: &mut P,
+) -> Result<Played, NoMemory>
+    requires { length desks.now ≡ length (nodes_in script.now.scheme.now) }
+    ensures played { IfOk result
+        (λ p. IsPlayed script.now.scheme.now script.now.lines.now p.answers.items p.seats.items) }
+    ensures seats { IfOk result (λ p. vec_len p.seats ≡ length (nodes_in script.now.scheme.now)) }
+{
+    let played = match starting.wait(rt) {
+        Ok(()) => play_with_seats(rt, alloc, script, desks, watch),
+        Err(NoMemory) => Err(NoMemory),
+    };
+    for desk in desks {
+        desk.stop(rt);
     }
-
-    /// Plays the script with new seats once that many threads have reported at that muster. Fails with `NoMemory` if
-    /// one is missing: then no order was given and nothing asked.
-    fn play_mustered<P: Watch, R: Wait + SystemClock>(
-        &self,
-        rt: &R,
-        alloc: Global,
-        muster: &Muster,
-        threads: usize,
-        watch: &mut P,
-    ) -> Result<Played, NoMemory>
-        requires { length self.now.stations.now ≡ length (nodes_in self.now.scheme.now) }
-        ensures played { IfOk result
-            (λ p. IsPlayed self.now.scheme.now self.now.lines.now p.answers.items p.seats.items) }
-        ensures seats { IfOk result (λ p. vec_len p.seats ≡ length (nodes_in self.now.scheme.now)) }
-    {
-        let longest = Duration::from_secs(LONGEST_MUSTER);
-        match muster.wait_for(rt, threads, longest) {
-            Mustered::All => self.play_with_seats(rt, alloc, watch),
-            Mustered::Missing => Err(NoMemory),
-        }
-    }
-
-    /// Plays the script as `play_mustered` does, and then stops all nodes.
-    fn play_and_stop<P: Watch, R: Wait + SystemClock>(
-        &self,
-        rt: &R,
-        alloc: Global,
-        muster: &Muster,
-        threads: usize,
-        watch: &mut P,
-    ) -> Result<Played, NoMemory>
-        requires { length self.now.stations.now ≡ length (nodes_in self.now.scheme.now) }
-        ensures played { IfOk result
-            (λ p. IsPlayed self.now.scheme.now self.now.lines.now p.answers.items p.seats.items) }
-        ensures seats { IfOk result (λ p. vec_len p.seats ≡ length (nodes_in self.now.scheme.now)) }
-    {
-        let played = self.play_mustered(rt, alloc, muster, threads, watch);
-        for station in self.stations {
-            station.desk.stop(rt);
-        }
-        played
-    }
+    played
 }
 
 /// How many threads those nodes have.
-fn count_threads<O: Opening, N: Network>(nodes: &[NodeThreads<'_, O, Core, N>]) -> usize {
+fn count_threads<D: SharedNode, N: Network>(nodes: &[NodeThreads<'_, D, N>]) -> usize {
     let mut threads: usize = 0;
     for node in nodes {
         threads = threads.saturating_add(node.count());
@@ -135,40 +106,44 @@ fn count_threads<O: Opening, N: Network>(nodes: &[NodeThreads<'_, O, Core, N>]) 
     threads
 }
 
-/// Runs the nodes in threads of their own while the script is played, which begins once they have reported at that
-/// muster, and then stops all nodes. Fails with `NoMemory` if memory for the threads or for the answers ran out, or if
-/// a thread didn't report.
+/// Runs the nodes in threads of their own while the script is played at their desks, which begins once all threads have
+/// arrived at that barrier, and then stops all nodes. Fails with `NoMemory` if memory for the threads or for the answers
+/// ran out, or if a thread didn't arrive.
 ///
 /// If the system has no thread for the nodes, they begin when the script has ended: it was not played, since no thread
-/// reported, and all desks have stopped, so the nodes end at once.
-fn run_beside<O, N, P, R>(
+/// arrived, and all desks have stopped, so the nodes end at once.
+fn run_beside<D, N, P, R>(
     rt: &R,
     alloc: Global,
-    nodes: Vec<NodeThreads<'_, O, Core, N>>,
-    script: &Script<'_, O, N>,
-    muster: &Muster,
+    nodes: Vec<NodeThreads<'_, D, N>>,
+    script: &Script<'_>,
+    desks: &[D],
+    barrier: &StartBarrier,
     watch: &mut P,
 ) -> Result<Heard, NoMemory>
 where
-    O: Opening + Send,
+    D: SharedNode + Sync,
     N: Network,
     P: Watch,
     R: Threads + Wait + SystemClock + Sync,
-    requires { length script.now.stations.now ≡ length (nodes_in script.now.scheme.now) }
+    requires { length desks.now ≡ length (nodes_in script.now.scheme.now) }
     ensures len { IfOk result (λ heard. vec_len heard.threads ≡ vec_len nodes.entry) }
     ensures taken { IfOk result
         (λ heard. (k : ℕ) (node : _) (seats : _) → slice_get nodes.entry.items k ≡ Some node
         → slice_get heard.threads.items k ≡ Some (Ok seats)
-        → All (AreOfThread
-        (N.leads node.network.now) N.Reader.remaining N.Writer.contents
-        N.Store.NodeStore O.opened (N.Clock.tells node.network.now)) seats.items) }
+        → All (AreOfThread D.is_to_send
+        (IsReceivedBy (N.leads node.network.now) N.Reader.remaining N.Writer.contents)
+        (N.Clock.tells node.network.now)) seats.items) }
     ensures played { IfOk result
         (λ heard. IsPlayed script.now.scheme.now script.now.lines.now heard.script.answers.items
         heard.script.seats.items) }
     ensures seats { IfOk result (λ heard. vec_len heard.script.seats ≡ length (nodes_in script.now.scheme.now)) }
 {
-    let count = count_threads(nodes.as_slice());
-    let (threads, script) = thread::join(
+    let starting = Starting {
+        barrier,
+        threads: count_threads(nodes.as_slice()),
+    };
+    let (threads, played) = thread::join(
         rt,
         move || -> Result<Vec<ThreadSeats>, NoMemory>
             requires { IsSync R.row }
@@ -176,57 +151,52 @@ where
             ensures taken { IfOk result
                 (λ v. (k : ℕ) (node : _) (seats : _) → slice_get nodes.entry.items k ≡ Some node
                 → slice_get v.items k ≡ Some (Ok seats)
-                → All (AreOfThread
-                (N.leads node.network.now) N.Reader.remaining N.Writer.contents
-                N.Store.NodeStore O.opened (N.Clock.tells node.network.now)) seats.items) }
+                → All (AreOfThread D.is_to_send
+                (IsReceivedBy (N.leads node.network.now) N.Reader.remaining N.Writer.contents)
+                (N.Clock.tells node.network.now)) seats.items) }
         { run_all(rt, alloc, nodes) },
         move || -> Result<Played, NoMemory>
-            requires { length script.now.stations.now ≡ length (nodes_in script.now.scheme.now) }
+            requires { length desks.now ≡ length (nodes_in script.now.scheme.now) }
             ensures played { IfOk result
                 (λ p. IsPlayed script.entry.now.scheme.now script.entry.now.lines.now p.answers.items p.seats.items) }
             ensures seats { IfOk result (λ p. vec_len p.seats ≡ length (nodes_in script.entry.now.scheme.now)) }
-        { script.play_and_stop(rt, alloc, muster, count, watch) },
+        { play_and_stop(rt, alloc, script, desks, &starting, watch) },
     );
     Ok(Heard {
         threads: threads?,
-        script: script?,
+        script: played?,
     })
 }
 
-/// Runs the nodes at these stations over that network while the script is played, as `run_beside` does.
-fn run_stations<'a, O, N, P, R>(
+/// Runs the nodes at these desks over that network while the script is played, as `run_beside` does.
+fn run_desks<D, N, P, R>(
     rt: &R,
     alloc: Global,
-    scheme: &'a Scheme,
-    lines: &'a [ScriptLine],
-    names: &'a [Node],
-    stations: &'a [Station<O, Core, N>],
-    network: &'a N,
+    script: &Script<'_>,
+    names: &[Node],
+    desks: &[D],
+    network: &N,
     watch: &mut P,
 ) -> Result<Heard, NoMemory>
 where
-    O: Opening + Send,
+    D: SharedNode + Sync,
     N: Network,
     P: Watch,
     R: Threads + Wait + SystemClock + Sync,
-    requires names { names.now ≡ nodes_in scheme.now }
-    requires stations { length stations.now ≡ length names.now }
+    requires names { names.now ≡ nodes_in script.now.scheme.now }
+    requires desks { length desks.now ≡ length names.now }
     ensures taken { IfOk result
-        (λ heard. AreAll (AreOfThread
-        (N.leads network.now) N.Reader.remaining N.Writer.contents N.Store.NodeStore
-        O.opened (N.Clock.tells network.now)) heard.threads.items) }
+        (λ heard. AreAll (AreOfThread D.is_to_send
+        (IsReceivedBy (N.leads network.now) N.Reader.remaining N.Writer.contents)
+        (N.Clock.tells network.now)) heard.threads.items) }
     ensures played { IfOk result
-        (λ heard. IsPlayed scheme.now lines.now heard.script.answers.items heard.script.seats.items) }
-    ensures seats { IfOk result (λ heard. vec_len heard.script.seats ≡ length (nodes_in scheme.now)) }
+        (λ heard. IsPlayed script.now.scheme.now script.now.lines.now heard.script.answers.items
+        heard.script.seats.items) }
+    ensures seats { IfOk result (λ heard. vec_len heard.script.seats ≡ length (nodes_in script.now.scheme.now)) }
 {
-    let muster = Muster::new();
-    let nodes = nodes_to_run(alloc, names, stations, network, &muster)?;
-    let script = Script {
-        scheme,
-        lines,
-        stations,
-    };
-    run_beside(rt, alloc, nodes, &script, &muster, watch)
+    let barrier = StartBarrier::new();
+    let nodes = nodes_to_run(alloc, names, desks, network, &barrier)?;
+    run_beside(rt, alloc, nodes, script, desks, &barrier, watch)
 }
 
 /// Makes a desk of each node's state, and runs the nodes in threads of their own while the script's lines are ordered
@@ -237,13 +207,12 @@ where
 /// # Errors
 ///
 /// Fails with `NoMemory` if memory ran out before a thread was started, for the threads or for the answers. It also
-/// fails with `NoMemory` if the system had too few threads: some were missing, and for `LONGEST_MUSTER` seconds no
+/// fails with `NoMemory` if the system had too few threads: some were missing, and for `LONGEST_START` seconds no
 /// further one began. Then no line was ordered or asked. All nodes have stopped in any case.
 pub(crate) fn run_and_play<O, N, P, R>(
     rt: &R,
     alloc: Global,
-    scheme: &Scheme,
-    lines: &[ScriptLine],
+    script: &Script<'_>,
     loaded: Vec<Stored<Core, N::Store>>,
     network: &N,
     watch: &mut P,
@@ -253,29 +222,33 @@ where
     N: Network,
     P: Watch,
     R: Threads + Wait + SystemClock + Sync,
-    requires nodes { map (λ s. s.state.node) loaded.items ≡ nodes_in scheme.now }
+    requires nodes { map (λ s. s.state.node) loaded.items ≡ nodes_in script.now.scheme.now }
     requires may_open { All (MayOpen N.Store.NodeStore O.opened) loaded.items }
-    ensures stations { IfOk result (λ run. map (λ s. s.node) run.stations.items ≡ nodes_in scheme.now) }
+    ensures names { IfOk result (λ run. run.names.items ≡ nodes_in script.now.scheme.now) }
+    ensures desks { IfOk result (λ run. vec_len run.desks ≡ length run.names.items) }
     ensures taken { IfOk result
-        (λ run. AreAll (AreOfThread
-        (N.leads network.now) N.Reader.remaining N.Writer.contents N.Store.NodeStore
-        O.opened (N.Clock.tells network.now)) run.heard.threads.items) }
+        (λ run. AreAll (AreOfThread (IsToSend N.Store.NodeStore O.opened)
+        (IsReceivedBy (N.leads network.now) N.Reader.remaining N.Writer.contents)
+        (N.Clock.tells network.now)) run.heard.threads.items) }
     ensures played { IfOk result
-        (λ run. IsPlayed scheme.now lines.now run.heard.script.answers.items run.heard.script.seats.items) }
-    ensures seats { IfOk result (λ run. vec_len run.heard.script.seats ≡ length (nodes_in scheme.now)) }
+        (λ run. IsPlayed script.now.scheme.now script.now.lines.now run.heard.script.answers.items
+        run.heard.script.seats.items) }
+    ensures seats { IfOk result (λ run. vec_len run.heard.script.seats ≡ length (nodes_in script.now.scheme.now)) }
 {
-    let nodes = nodes_of(alloc, scheme)?;
-    let names = nodes.as_slice();
-    let stations = stations_of(alloc, names, loaded)?;
-    let heard = run_stations(
+    let names = nodes_of(alloc, script.scheme)?;
+    let desks = desks_of::<O, N::Store>(alloc, names.as_slice(), loaded)?;
+    let heard = run_desks(
         rt,
         alloc,
-        scheme,
-        lines,
-        names,
-        stations.as_slice(),
+        script,
+        names.as_slice(),
+        desks.as_slice(),
         network,
         watch,
     )?;
-    Ok(Run { stations, heard })
+    Ok(Run {
+        names,
+        desks,
+        heard,
+    })
 }

@@ -1,5 +1,5 @@
 -- The lines of a script, heard one after another.
-use Rattle.std.proofs.Common.{◌≡◌, ◌∙◌, ◌<◌, ◌+◌, ◌⊎◌, ℕ, zero, suc, List, [], ◌∷◌, ◌++◌, get_or, length, take, Some, inl, inr, refl, sym, ap, subst, arith, length-append}
+use Rattle.std.proofs.Common.{◌≡◌, ◌∙◌, ◌+◌, ◌⊎◌, ℕ, zero, suc, List, [], ◌∷◌, ◌++◌, length, take, Some, inl, inr, refl, sym, ap, subst, arith, length-append}
 use Rattle.std.specs.Prelude.{slice_get}
 use Rattle.std.proofs.Math.ListN.{set}
 use Rattle.std.proofs.lemmas.Option.{slice_get_within}
@@ -7,8 +7,8 @@ use Rattle.protocol.specs.Scheme.{Scheme}
 use Rattle.units.proofs.Lists.OneValue.{one_some}
 use Rattle.node_state.specs.Views.{SeatView}
 use Rattle.node_state.specs.declared.notes.Told.{Told}
+use Rattle.input_lines.specs.declared.instruction.Instruction.{Instruction}
 use Rattle.input_lines.specs.declared.script_line.ScriptLine.{ScriptLine}
-use Rattle.std.proofs.lemmas.Option.{slice_get-get_or}
 use Rattle.serving.specs.Answers.{asked_by}
 use Rattle.serving.specs.Heard.{AllGrow, AreHeard, Grows, HasHeard, IsHeard}
 use Rattle.serving.specs.declared.answer.ScriptAnswer.{ScriptAnswer}
@@ -33,8 +33,8 @@ grow_at (seat ∷ seats) (suc at) old new is g (suc k) x at_k = grow_at seats at
 
 -- ---- one line more
 
-pub heard_line : (l m : ScriptLine) (seat : SeatView) (told : Told) → l ≡ m → HasHeard seat (asked_by m) told → HasHeard seat (asked_by l) told
-heard_line l m seat told is h = subst (λ (x : ScriptLine). HasHeard seat (asked_by x) told) (sym is) h
+pub heard_line : (l m : Instruction) (seat : SeatView) (told : Told) → l ≡ m → HasHeard seat (asked_by m) told → HasHeard seat (asked_by l) told
+heard_line l m seat told is h = subst (λ (x : Instruction). HasHeard seat (asked_by x) told) (sym is) h
 
 pub last_or_before : {X : Type 0} (xs : List X) (x y : X) (k : ℕ) → slice_get (xs ++ x ∷ []) k ≡ Some y → (slice_get xs k ≡ Some y) ⊎ ((k ≡ length xs) × (y ≡ x))
 last_or_before [] x y zero e = inr (refl, sym (one_some x y e))
@@ -46,7 +46,7 @@ heard_grown : (scheme : Scheme) (olds news : List SeatView) → AllGrow olds new
 heard_grown scheme olds news g l NotPossible h = h
 heard_grown scheme olds news g l (Answered told) h =
     let new = g h.1.at h.1.seat h.1.is in
-    (h.0, record { at = h.1.at; seat = new.0; index = h.1.index; is = new.1; heard = heard_on h.1.seat new.0 (asked_by l) told new.2 h.1.heard })
+    (h.0, record { at = h.1.at; seat = new.0; index = h.1.index; is = new.1; heard = heard_on h.1.seat new.0 (asked_by l.instruction) told new.2 h.1.heard })
 
 pub heard_none : (scheme : Scheme) (seats : List SeatView) → AreHeard scheme seats [] []
 heard_none scheme seats = record { count = refl; each = λ k l answer at_l at_a. absurd (cc (at_l)) }

@@ -9,12 +9,13 @@ use Rattle.node_state.specs.Expected.{stopped}
 use Rattle.node_state.specs.Telling.{is_unjudged, kept, notes_after}
 use Rattle.node_state.specs.Views.{SeatView}
 use Rattle.node_state.specs.declared.notes.Asked.{Asked}
-use Rattle.node_state.specs.declared.notes.Asked.TheVariants.{Query}
+use Rattle.node_state.specs.declared.notes.Asked.TheVariants.{Take, Query}
 use Rattle.node_state.specs.declared.notes.Note.{Note}
 use Rattle.node_state.specs.declared.notes.Told.{Told}
 use Rattle.node_state.specs.declared.notes.Told.TheVariants.{Step, Status, Refused}
 use Rattle.replies.specs.Answers.{is_without_journal}
-use Rattle.input_lines.specs.declared.script_line.ScriptLine.{ScriptLine}
+use Rattle.input_lines.specs.declared.instruction.Instruction.{Instruction}
+use Rattle.input_lines.specs.declared.instruction.Instruction.TheVariants as instruction
 use Rattle.serving.specs.Heard.{HasHeard, IsConfirmed}
 use Rattle.serving.specs.Notes.{IsAwaited, IsNote, IsNoted, IsNotedOf}
 use Rattle.serving.specs.Orders.{Notes}
@@ -87,15 +88,32 @@ notes_asked old mid new asked taken told is_asked is c = record {
     noted (inr (inr none)) = subst (λ (t : Told). IsNoted asked t (added taken.told taken)) (sym none.0) (none_or_one asked taken is_asked (added taken.told taken) (some_added asked taken is_asked taken.told))
 
 -- nothing was asked: memory ran out for the order
-pub notes_nothing : (seat : SeatView) (asked : Asked) → Notes (IsNoted asked) seat seat (Refused (record { code = 50 }))
+notes_nothing : (seat : SeatView) (asked : Asked) → Notes (IsNoted asked) seat seat (Refused (record { code = 50 }))
 notes_nothing seat asked = record {
   notes = [];
   added = sym (append-nil seat.notes);
   is = ((λ judged. absurd (true≢false judged)), (λ unjudged. inl refl));
 }
 
-pub notes_line : (l m : ScriptLine) (old new : SeatView) (told : Told) → l ≡ m → Notes (IsNotedOf m) old new told → Notes (IsNotedOf l) old new told
-notes_line l m old new told is n = subst (λ (x : ScriptLine). Notes (IsNotedOf x) old new told) (sym is) n
+no_awaited : (seat : SeatView) (id : TransactionId) (status : AStatus) (turns : ℕ) → Notes (IsAwaited id status turns) seat seat (Refused (record { code = 50 }))
+no_awaited seat id status turns = record {
+  notes = [];
+  added = sym (append-nil seat.notes);
+  is = record {
+    earlier = [];
+    last = [];
+    notes_are = refl;
+    waited = All-nil (λ (note : Note). (note.asked ≡ Query id) × (note.told ≢ Status (Some status)));
+    noted = ((λ judged. absurd (true≢false judged)), (λ unjudged. inl refl));
+    most = omega arith;
+    over = inr (inl refl);
+  };
+}
+
+pub notes_unasked : (i : Instruction) (seat : SeatView) → Notes (IsNotedOf i) seat seat (Refused (record { code = 50 }))
+notes_unasked (instruction.Order input) seat = notes_nothing seat (Take input)
+notes_unasked (instruction.Status id) seat = notes_nothing seat (Query id)
+notes_unasked (instruction.Until id status turns) seat = no_awaited seat id status turns
 
 -- ---- again and again
 

@@ -1,6 +1,6 @@
 -- The records of a settled node that were ordered are those of the script's seat, in its order.
-use Rattle.std.proofs.Common.{◌≡◌, ◌≢◌, ◌⊎◌, ◌∙◌, ◌<◌, ◌≤◌, ◌+◌, ◌-◌, ℕ, zero, suc, Bool, true, false, cond, List, [], ◌∷◌, ◌++◌, length, take, drop, Some, inl, inr, refl, sym, ap, subst, arith, All, count_by}
-use Rattle.std.specs.Prelude.{◌==◌, filter, get_or, nat_lt, slice_get, sum_by}
+use Rattle.std.proofs.Common.{◌≡◌, ◌≢◌, ◌⊎◌, ◌∙◌, ◌<◌, ◌≤◌, ◌+◌, ◌-◌, ℕ, zero, suc, Bool, true, false, cond, List, [], ◌∷◌, ◌++◌, take, drop, Some, inl, inr, refl, sym, ap, subst, arith, All, count_by}
+use Rattle.std.specs.Prelude.{◌==◌, filter, get_or, nat_lt, slice_get}
 use Rattle.std.proofs.lemmas.Bool.{cases_eq, cases_lt, cases_order, eq-eqb, le-ltb, lt-ltb, ne_eqb, true≢false}
 use Rattle.std.proofs.lemmas.List.Elements.{All-cons, All-head, All-nil, All-tail, All-weaker, filter-append}
 use Rattle.std.proofs.lemmas.List.{drop-take}
@@ -20,7 +20,7 @@ use Rattle.node_state.specs.declared.notes.Told.{Told}
 use Rattle.node_state.specs.declared.notes.Told.TheVariants.{Step, Status, Refused}
 use Rattle.sessions.specs.Orders.{HasNoOrder, HasOnly, was_ordered}
 use Rattle.input_lines.specs.declared.script_line.ScriptLine.{ScriptLine}
-use Rattle.serving.specs.Answers.{asked_by, node_of}
+use Rattle.serving.specs.Answers.{asked_by}
 use Rattle.serving.specs.Notes.{IsOfLine}
 use Rattle.serving.specs.Orders.{AreOrders, Ascend, HasOrders, IsRecordOf}
 use Rattle.serving.specs.declared.answer.ScriptAnswer.{ScriptAnswer}
@@ -294,7 +294,7 @@ one_or_none count t = either (nat_lt t.place count)
 -- ---- the orders of the lines, as far as they are committed
 
 abbrev IsRecordOfLine : ScriptLine → Told → List Ticket → Type 0
-IsRecordOfLine l told = IsRecordOf (asked_by l) told
+IsRecordOfLine l told = IsRecordOf (asked_by l.instruction) told
 
 module _ (count : ℕ) where
   record_within : (asked : Asked) (told : Told) (ts : List Ticket) → ((input : Input) (place : ℕ) → asked ≡ Take input → told ≡ Step (Recorded place) → place < count) → IsRecordOf asked told ts → IsRecordOf asked told (within count ts)
@@ -311,15 +311,15 @@ module _ (count : ℕ) where
   record_within (Query id) told ts low is = ap (within count) is
 
   at_node_within : (n : Node) (l : ScriptLine) (answer : ScriptAnswer) (ts : List Ticket)
-      → ((input : Input) (place : ℕ) → node_of l ≡ n → asked_by l ≡ Take input → answer ≡ Answered (Step (Recorded place)) → place < count) → IsOfLine IsRecordOfLine n l answer ts → IsOfLine IsRecordOfLine n l answer (within count ts)
+      → ((input : Input) (place : ℕ) → l.node ≡ n → asked_by l.instruction ≡ Take input → answer ≡ Answered (Step (Recorded place)) → place < count) → IsOfLine IsRecordOfLine n l answer ts → IsOfLine IsRecordOfLine n l answer (within count ts)
   at_node_within n l NotPossible ts low is = ap (within count) is
   at_node_within n l (Answered told) ts low is = (
-    (λ here. record_within (asked_by l) told ts (λ input place asked same. low input place here asked (ap Answered same)) (is.0 here)),
+    (λ here. record_within (asked_by l.instruction) told ts (λ input place asked same. low input place here asked (ap Answered same)) (is.0 here)),
     (λ other. ap (within count) (is.1 other)),
   )
 
   pub orders_within : (n : Node) (ls : List ScriptLine) (answers : List ScriptAnswer) (ts : List Ticket)
-      → ((k : ℕ) (l : ScriptLine) (input : Input) (place : ℕ) → slice_get ls k ≡ Some l → slice_get answers k ≡ Some (Answered (Step (Recorded place))) → node_of l ≡ n → asked_by l ≡ Take input → place < count)
+      → ((k : ℕ) (l : ScriptLine) (input : Input) (place : ℕ) → slice_get ls k ≡ Some l → slice_get answers k ≡ Some (Answered (Step (Recorded place))) → l.node ≡ n → asked_by l.instruction ≡ Take input → place < count)
       → AreOrders n ls answers ts → AreOrders n ls answers (within count ts)
   orders_within n [] answers ts low is = ap (within count) is
   orders_within n (l ∷ ls) [] ts low is = ap (within count) is
@@ -334,7 +334,7 @@ module _ (count : ℕ) where
 -- the committed orders of a node whose threads made the notes that a single thread would have made
 pub committed_orders : (n : Node) (held : StateView) (heard threads : List SeatView) (seat : SeatView) (lines : List ScriptLine) (answers : List ScriptAnswer) → Covers held heard → seat.lengths ≡ Grew → heard ≡ threads ++ seat ∷ [] → All HasNoOrder threads
     → HasOrders n lines answers seat
-    → ((k : ℕ) (l : ScriptLine) (input : Input) (place : ℕ) → slice_get lines k ≡ Some l → slice_get answers k ≡ Some (Answered (Step (Recorded place))) → node_of l ≡ n → asked_by l ≡ Take input → place < held.committed)
+    → ((k : ℕ) (l : ScriptLine) (input : Input) (place : ℕ) → slice_get lines k ≡ Some l → slice_get answers k ≡ Some (Answered (Step (Recorded place))) → l.node ≡ n → asked_by l.instruction ≡ Take input → place < held.committed)
     → AreOrders n lines answers (orders_of held)
 committed_orders n held heard threads seat lines answers covers grew is none has low =
     let whole = orders_in_turn held heard threads seat covers is none has.ordered (has.turns grew).0 in

@@ -30,9 +30,10 @@ use Rattle.node_state.specs.declared.notes.Ticket.{Ticket}
 use Rattle.node_state.specs.declared.notes.Told.{Told}
 use Rattle.node_state.specs.declared.notes.Told.TheVariants.{Step, Status, Refused}
 use Rattle.sessions.specs.Orders.{was_ordered}
+use Rattle.input_lines.specs.declared.instruction.Instruction.{Instruction}
+use Rattle.input_lines.specs.declared.instruction.Instruction.TheVariants as instruction
 use Rattle.input_lines.specs.declared.script_line.ScriptLine.{ScriptLine}
-use Rattle.input_lines.specs.declared.script_line.ScriptLine.TheVariants as line
-use Rattle.serving.specs.Answers.{asked_by, is_possible, node_of}
+use Rattle.serving.specs.Answers.{asked_by, is_possible}
 use Rattle.serving.specs.Heard.{IsConfirmed}
 use Rattle.serving.specs.Notes.{AreNotes, AreOfLines, IsNotedOf, IsOfLine}
 use Rattle.serving.specs.Orders.{Adds, AreInTurn, AreOrders, Ascend, HasOrders, HaveOrders, IsPlayed, IsRecordOf, Notes}
@@ -132,14 +133,27 @@ adds_question old mid new id taken told asked is c =
     question_told old new told taken.length (same.seen ∙ ap (λ (s : SeatView). s.seen) is) (same.lengths ∙ ap (λ (s : SeatView). s.lengths) is) id taken.told
     (same.tickets ∙ (ap (λ (s : SeatView). s.tickets) is ∙ ap (tickets_after old.tickets taken.told) asked))
 
+no_question : (seat : SeatView) (id : TransactionId) → Adds (Query id) seat seat (Refused (record { code = 50 }))
+no_question seat id = record {
+  records = [];
+  tickets = sym (append-nil seat.tickets);
+  is = refl;
+  grew = λ e. (e, (omega arith), All-nil (λ (t : Ticket). (seat.seen ≤ t.place + 1) × (t.place < seat.seen)));
+}
+
 -- nothing was asked: memory ran out for the order
-pub adds_nothing : (seat : SeatView) (input : Input) (told : Told) → ((place : ℕ) → told ≡ Step (Recorded place) → ⊥) → Adds (Take input) seat seat told
+adds_nothing : (seat : SeatView) (input : Input) (told : Told) → ((place : ℕ) → told ≡ Step (Recorded place) → ⊥) → Adds (Take input) seat seat told
 adds_nothing seat input told none = record {
   records = [];
   tickets = sym (append-nil seat.tickets);
   is = none_told input told none;
   grew = λ e. (e, (omega arith), All-nil (λ (t : Ticket). (seat.seen ≤ t.place + 1) × (t.place < seat.seen)));
 }
+
+pub adds_unasked : (i : Instruction) (seat : SeatView) → Adds (asked_by i) seat seat (Refused (record { code = 50 }))
+adds_unasked (instruction.Order input) seat = adds_nothing seat input (Refused (record { code = 50 })) (λ place e. cc (e))
+adds_unasked (instruction.Status id) seat = no_question seat id
+adds_unasked (instruction.Until id status turns) seat = no_question seat id
 
 -- one question after another
 pub adds_on : (a b c : SeatView) (id : TransactionId) (first told : Told) → Adds (Query id) a b first → Adds (Query id) b c told → Adds (Query id) a c told
@@ -150,9 +164,6 @@ adds_on a b c id first told f g = record {
   is = refl;
   grew = λ e. let y = g.grew e in let x = f.grew y.0 in (x.0, omega (arith, x.1, y.1), All-nil (λ (t : Ticket). (a.seen ≤ t.place + 1) × (t.place < c.seen)));
 }
-
-pub adds_line : (l m : ScriptLine) (old new : SeatView) (told : Told) → l ≡ m → Adds (asked_by m) old new told → Adds (asked_by l) old new told
-adds_line l m old new told is a = subst (λ (x : ScriptLine). Adds (asked_by x) old new told) (sym is) a
 
 -- ---- one line more
 
@@ -182,19 +193,19 @@ order_possible scheme n (inputs.Received m moment) e = absurd (cc (e))
 asked_input : (i j : Input) → Take i ≡ Take j → i ≡ j
 asked_input i j e = cc (e)
 
-line_ordered : (scheme : Scheme) (l : ScriptLine) (input : Input) → asked_by l ≡ Take input → is_possible scheme l ≡ true → was_ordered input ≡ true
-line_ordered scheme (line.Order n given) input asked possible =
+line_ordered : (scheme : Scheme) (n : Node) (i : Instruction) (input : Input) → asked_by i ≡ Take input → is_possible scheme n i ≡ true → was_ordered input ≡ true
+line_ordered scheme n (instruction.Order given) input asked possible =
     subst (λ (i : Input). was_ordered i ≡ true) (asked_input given input asked) (order_possible scheme n given (and_parts (is_node scheme n) (is_order (opening scheme) n given) possible).1)
-line_ordered scheme (line.Status n id) input asked possible = absurd (cc (asked))
-line_ordered scheme (line.Until n id status turns) input asked possible = absurd (cc (asked))
+line_ordered scheme n (instruction.Status id) input asked possible = absurd (cc (asked))
+line_ordered scheme n (instruction.Until id status turns) input asked possible = absurd (cc (asked))
 
 abbrev IsOrdered : Ticket → Type 0
 IsOrdered t = was_ordered t.input ≡ true
 
-ordered_more : (scheme : Scheme) (l : ScriptLine) (tickets records : List Ticket) → All IsOrdered tickets → is_possible scheme l ≡ true → IsOneAtMost (asked_by l) records → All IsOrdered (tickets ++ records)
+ordered_more : (scheme : Scheme) (l : ScriptLine) (tickets records : List Ticket) → All IsOrdered tickets → is_possible scheme l.node l.instruction ≡ true → IsOneAtMost (asked_by l.instruction) records → All IsOrdered (tickets ++ records)
 ordered_more scheme l tickets records all possible (inl none) = subst (All IsOrdered) (sym (ap (λ (ts : List Ticket). tickets ++ ts) none ∙ append-nil tickets)) all
 ordered_more scheme l tickets records all possible (inr one) =
-    subst (λ (ts : List Ticket). All IsOrdered (tickets ++ ts)) (sym one.3) (All-push IsOrdered tickets (ticket one.0 one.1) all (line_ordered scheme l one.1 one.2 possible))
+    subst (λ (ts : List Ticket). All IsOrdered (tickets ++ ts)) (sym one.3) (All-push IsOrdered tickets (ticket one.0 one.1) all (line_ordered scheme l.node l.instruction one.1 one.2 possible))
 
 ascend_more : (tickets : List Ticket) (u : Ticket) (seen : ℕ) → Ascend tickets → All (λ (t : Ticket). t.place < seen) tickets → seen ≤ u.place + 1 → Ascend (tickets ++ u ∷ [])
 ascend_more tickets u seen ascend below last i j s t under at_i at_j =
@@ -240,7 +251,10 @@ no_more : {T : Type 0} (Of : ScriptLine → Told → List T → Type 0) (n : Nod
 no_more Of n ls answers left l answer len h is = subst (AreOfLines Of n (ls ++ l ∷ []) (answers ++ answer ∷ [])) (append-nil left) (lines_more Of n ls answers left l answer [] len h is)
 
 abbrev IsRecordOfLine : ScriptLine → Told → List Ticket → Type 0
-IsRecordOfLine l told = IsRecordOf (asked_by l) told
+IsRecordOfLine l told = IsRecordOf (asked_by l.instruction) told
+
+abbrev IsNotedOfLine : ScriptLine → Told → List Note → Type 0
+IsNotedOfLine l = IsNotedOf l.instruction
 
 -- ---- the seats of all nodes
 
@@ -272,16 +286,16 @@ module _ (scheme : Scheme) (ls : List ScriptLine) (answers : List ScriptAnswer) 
       let h = have n at seat place is in
       record {
         orders = no_more IsRecordOfLine n ls answers seat.tickets l NotPossible len h.orders refl;
-        notes = no_more IsNotedOf n ls answers seat.notes l NotPossible len h.notes refl;
+        notes = no_more IsNotedOfLine n ls answers seat.notes l NotPossible len h.notes refl;
         ordered = h.ordered;
         turns = h.turns;
       }
 
   -- a line that was asked at its node
-  module _ (told : Told) (at : ℕ) (old new : SeatView) (was : slice_get seats at ≡ Some old) (place : index_of scheme (node_of l) ≡ Some at) (possible : is_possible scheme l ≡ true) (a : Adds (asked_by l) old new told) (b : Notes (IsNotedOf l) old new told) where
+  module _ (told : Told) (at : ℕ) (old new : SeatView) (was : slice_get seats at ≡ Some old) (place : index_of scheme l.node ≡ Some at) (possible : is_possible scheme l.node l.instruction ≡ true) (a : Adds (asked_by l.instruction) old new told) (b : Notes (IsNotedOf l.instruction) old new told) where
     at_node : {T : Type 0} (Of : ScriptLine → Told → List T → Type 0) (n : Node) (left : List T) → index_of scheme n ≡ Some at → Of l told left → IsOfLine Of n l (Answered told) left
     at_node Of n left place_n is =
-        let same : node_of l ≡ n = one_some (node_of l) n (sym (node_of_index scheme (node_of l) at place) ∙ node_of_index scheme n at place_n) in
+        let same : l.node ≡ n = one_some l.node n (sym (node_of_index scheme l.node at place) ∙ node_of_index scheme n at place_n) in
         ((λ its. is), (λ others. absurd (others same)))
 
     here : (n : Node) (seat : SeatView) → index_of scheme n ≡ Some at → seat ≡ new → HasOrders n (ls ++ l ∷ []) (answers ++ Answered told ∷ []) seat
@@ -290,18 +304,18 @@ module _ (scheme : Scheme) (ls : List ScriptLine) (answers : List ScriptAnswer) 
         subst (HasOrders n (ls ++ l ∷ []) (answers ++ Answered told ∷ [])) (sym is)
         (record {
           orders = subst (AreOrders n (ls ++ l ∷ []) (answers ++ Answered told ∷ [])) (sym a.tickets) (lines_more IsRecordOfLine n ls answers old.tickets l (Answered told) a.records len h.orders (at_node IsRecordOfLine n a.records place_n a.is));
-          notes = subst (AreNotes n (ls ++ l ∷ []) (answers ++ Answered told ∷ [])) (sym b.added) (lines_more IsNotedOf n ls answers old.notes l (Answered told) b.notes len h.notes (at_node IsNotedOf n b.notes place_n b.is));
-          ordered = subst (All IsOrdered) (sym a.tickets) (ordered_more scheme l old.tickets a.records h.ordered possible (one_at_most (asked_by l) told a.records a.is));
-          turns = turns_more (asked_by l) old new told h.turns a;
+          notes = subst (AreNotes n (ls ++ l ∷ []) (answers ++ Answered told ∷ [])) (sym b.added) (lines_more IsNotedOfLine n ls answers old.notes l (Answered told) b.notes len h.notes (at_node IsNotedOfLine n b.notes place_n b.is));
+          ordered = subst (All IsOrdered) (sym a.tickets) (ordered_more scheme l old.tickets a.records h.ordered possible (one_at_most (asked_by l.instruction) told a.records a.is));
+          turns = turns_more (asked_by l.instruction) old new told h.turns a;
         })
 
     elsewhere : (n : Node) (k : ℕ) (seat : SeatView) → index_of scheme n ≡ Some k → slice_get seats k ≡ Some seat → k ≢ at → HasOrders n (ls ++ l ∷ []) (answers ++ Answered told ∷ []) seat
     elsewhere n k seat place_n is other =
         let h = have n k seat place_n is in
-        let differs : node_of l ≢ n = λ same. other (one_some k at (sym place_n ∙ (ap (index_of scheme) (sym same) ∙ place))) in
+        let differs : l.node ≢ n = λ same. other (one_some k at (sym place_n ∙ (ap (index_of scheme) (sym same) ∙ place))) in
         record {
           orders = no_more IsRecordOfLine n ls answers seat.tickets l (Answered told) len h.orders ((λ same. absurd (differs same)), (λ others. refl));
-          notes = no_more IsNotedOf n ls answers seat.notes l (Answered told) len h.notes ((λ same. absurd (differs same)), (λ others. refl));
+          notes = no_more IsNotedOfLine n ls answers seat.notes l (Answered told) len h.notes ((λ same. absurd (differs same)), (λ others. refl));
           ordered = h.ordered;
           turns = h.turns;
         }
@@ -336,17 +350,17 @@ module _ (scheme : Scheme) (n : Node) (ls : List ScriptLine) (answers : List Scr
   pub has_unasked : (seat : SeatView) → HasOrders n ls answers seat → HasOrders n (ls ++ l ∷ []) (answers ++ NotPossible ∷ []) seat
   has_unasked seat h = record {
     orders = no_more IsRecordOfLine n ls answers seat.tickets l NotPossible len h.orders refl;
-    notes = no_more IsNotedOf n ls answers seat.notes l NotPossible len h.notes refl;
+    notes = no_more IsNotedOfLine n ls answers seat.notes l NotPossible len h.notes refl;
     ordered = h.ordered;
     turns = h.turns;
   }
 
   -- a line of the node's that was asked
-  pub has_asked : (told : Told) (old new : SeatView) → node_of l ≡ n → is_possible scheme l ≡ true → Adds (asked_by l) old new told → Notes (IsNotedOf l) old new told → HasOrders n ls answers old
+  pub has_asked : (told : Told) (old new : SeatView) → l.node ≡ n → is_possible scheme l.node l.instruction ≡ true → Adds (asked_by l.instruction) old new told → Notes (IsNotedOf l.instruction) old new told → HasOrders n ls answers old
       → HasOrders n (ls ++ l ∷ []) (answers ++ Answered told ∷ []) new
   has_asked told old new its possible a b h = record {
     orders = subst (AreOrders n (ls ++ l ∷ []) (answers ++ Answered told ∷ [])) (sym a.tickets) (lines_more IsRecordOfLine n ls answers old.tickets l (Answered told) a.records len h.orders ((λ same. a.is), (λ others. absurd (others its))));
-    notes = subst (AreNotes n (ls ++ l ∷ []) (answers ++ Answered told ∷ [])) (sym b.added) (lines_more IsNotedOf n ls answers old.notes l (Answered told) b.notes len h.notes ((λ same. b.is), (λ others. absurd (others its))));
-    ordered = subst (All IsOrdered) (sym a.tickets) (ordered_more scheme l old.tickets a.records h.ordered possible (one_at_most (asked_by l) told a.records a.is));
-    turns = turns_more (asked_by l) old new told h.turns a;
+    notes = subst (AreNotes n (ls ++ l ∷ []) (answers ++ Answered told ∷ [])) (sym b.added) (lines_more IsNotedOfLine n ls answers old.notes l (Answered told) b.notes len h.notes ((λ same. b.is), (λ others. absurd (others its))));
+    ordered = subst (All IsOrdered) (sym a.tickets) (ordered_more scheme l old.tickets a.records h.ordered possible (one_at_most (asked_by l.instruction) told a.records a.is));
+    turns = turns_more (asked_by l.instruction) old new told h.turns a;
   }

@@ -1,15 +1,13 @@
 -- How often a script asked: lines and notes as values.
-use Rattle.std.proofs.Common.{◌≡◌, ◌≢◌, ◌∙◌, ◌+◌, ℕ, List, [], ◌∷◌, ◌++◌, false, true≢false, length, length-append, None, Some, inl, inr, refl, sym, ap, arith, max}
+use Rattle.std.proofs.Common.{◌≡◌, ◌≢◌, ◌∙◌, ◌+◌, ℕ, List, [], ◌∷◌, false, true≢false, length, length-append, None, Some, inl, inr, refl, sym, ap, arith}
 use Rattle.std.proofs.lemmas.List.Elements.{All-nil, All-push}
-use Rattle.status.specs.declared.status.Status.{Status as AStatus}
 use Rattle.status.specs.declared.status.Status.TheVariants.{Proposed, Completed}
-use Rattle.protocol.proofs.WorkedScheme.{nz_node, nz1}
-use Rattle.node_state.specs.declared.notes.Asked.{Asked}
+use Rattle.protocol.proofs.WorkedScheme.{nz1}
 use Rattle.node_state.specs.declared.notes.Asked.TheVariants.{Query}
 use Rattle.node_state.specs.declared.notes.Note.{Note}
 use Rattle.node_state.specs.declared.notes.Told.{Told}
 use Rattle.node_state.specs.declared.notes.Told.TheVariants.{Status, Refused}
-use Rattle.input_lines.specs.declared.script_line.ScriptLine.TheVariants.{Status as Ask, Until}
+use Rattle.input_lines.specs.declared.instruction.Instruction.TheVariants.{Status as Ask, Until}
 use Rattle.serving.specs.Notes.{IsAwaited, IsNotedOf}
 
 abbrev note : Told → Note
@@ -23,12 +21,12 @@ completed = Status (Some Completed)
 
 -- it was asked until the transaction is completed, at most that often
 abbrev awaited : ℕ → Told → List Note → Type 0
-awaited turns told notes = IsNotedOf (Until nz_node nz1 Completed turns) told notes
+awaited turns told notes = IsNotedOf (Until nz1 Completed turns) told notes
 
 differ : proposed ≢ completed
 differ e = cc (e)
 
-pub asked_once : IsNotedOf (Ask nz_node nz1) (Status None) (note (Status None) ∷ [])
+pub asked_once : IsNotedOf (Ask nz1) (Status None) (note (Status None) ∷ [])
 asked_once = (note (Status None), refl, refl, refl)
 
 -- the second time it has the status

@@ -5,21 +5,22 @@ use Rattle.protocol.specs.Input.TheVariants as input
 use Rattle.protocol.specs.declared.node_core.Stepped.TheVariants.{Recorded, Repeat, Late}
 use Rattle.protocol.proofs.WorkedScheme.{nz_node, nz1}
 use Rattle.node_state.specs.declared.notes.Told.TheVariants.{Step, Status, Refused}
+use Rattle.input_lines.specs.declared.instruction.Instruction.{Instruction}
+use Rattle.input_lines.specs.declared.instruction.Instruction.TheVariants.{Order, Status as Ask, Until}
 use Rattle.input_lines.specs.declared.script_line.ScriptLine.{ScriptLine}
-use Rattle.input_lines.specs.declared.script_line.ScriptLine.TheVariants.{Order, Status as Ask, Until}
 use Rattle.serving.specs.Answers.{first_undone, is_carried_out}
 use Rattle.serving.specs.declared.answer.ScriptAnswer.{ScriptAnswer}
 use Rattle.serving.specs.declared.answer.ScriptAnswer.TheVariants.{NotPossible, Told}
 
-abbrev order : ScriptLine
-order = Order nz_node (input.Request nz1)
+abbrev order : Instruction
+order = Order (input.Request nz1)
 
-abbrev question : ScriptLine
-question = Ask nz_node nz1
+abbrev question : Instruction
+question = Ask nz1
 
 -- it waits until the transaction is completed
-abbrev wait : ScriptLine
-wait = Until nz_node nz1 Completed 5
+abbrev wait : Instruction
+wait = Until nz1 Completed 5
 
 abbrev recorded : ScriptAnswer
 recorded = Told (Step (Recorded 4))
@@ -59,8 +60,11 @@ waited_in_vain = (refl, refl, refl, refl)
 
 -- ---- a script
 
+abbrev at_nz : Instruction → ScriptLine
+at_nz i = record { node = nz_node; instruction = i }
+
 abbrev lines : List ScriptLine
-lines = question ∷ order ∷ wait ∷ order ∷ []
+lines = at_nz question ∷ at_nz order ∷ at_nz wait ∷ at_nz order ∷ []
 
 pub all_carried_out : first_undone 1 lines (unknown ∷ recorded ∷ completed ∷ recorded ∷ []) ≡ None
 all_carried_out = refl
@@ -80,9 +84,9 @@ pub last_of_four : first_undone 1 lines (unknown ∷ recorded ∷ completed ∷ 
 last_of_four = refl
 
 -- the first of these lines has the given number
-pub numbered_from_seven : first_undone 7 (order ∷ wait ∷ []) (recorded ∷ unknown ∷ []) ≡ Some 8
+pub numbered_from_seven : first_undone 7 (at_nz order ∷ at_nz wait ∷ []) (recorded ∷ unknown ∷ []) ≡ Some 8
 numbered_from_seven = refl
 
 -- a line that has no answer counts as none
-pub without_answer : first_undone 1 (order ∷ question ∷ []) (recorded ∷ []) ≡ None
+pub without_answer : first_undone 1 (at_nz order ∷ at_nz question ∷ []) (recorded ∷ []) ≡ None
 without_answer = refl

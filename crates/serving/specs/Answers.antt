@@ -16,28 +16,28 @@ use Rattle.node_state.specs.declared.notes.Asked.TheVariants.{Take, Query}
 use Rattle.node_state.specs.declared.notes.Told.{Told}
 use Rattle.node_state.specs.declared.notes.Told.TheVariants.{Step, Status, Refused}
 use Rattle.report.specs.ReportLines.{outcome_text, status_or_none}
+use Rattle.input_lines.specs.declared.instruction.Instruction.{Instruction}
+use Rattle.input_lines.specs.declared.instruction.Instruction.TheVariants as instruction
 use Rattle.input_lines.specs.declared.script_line.ScriptLine.{ScriptLine}
-use Rattle.input_lines.specs.declared.script_line.ScriptLine.TheVariants as line
 use Rattle.serving.specs.declared.answer.ScriptAnswer.{ScriptAnswer}
 use Rattle.serving.specs.declared.answer.ScriptAnswer.TheVariants.{NotPossible, Told as Answered}
 
--- ---- the question of a line
+-- ---- the question of an order or a question
 
-abbrev pub node_of : ScriptLine → Node
-node_of (line.Order n input) = n
-node_of (line.Status n id) = n
-node_of (line.Until n id status turns) = n
+abbrev pub asked_by : Instruction → Asked
+asked_by (instruction.Order input) = Take input
+asked_by (instruction.Status id) = Query id
+asked_by (instruction.Until id status turns) = Query id
 
-abbrev pub asked_by : ScriptLine → Asked
-asked_by (line.Order n input) = Take input
-asked_by (line.Status n id) = Query id
-asked_by (line.Until n id status turns) = Query id
+-- a node of that kind takes such an order; and each answers questions
+abbrev pub takes : Scheme → Node → Instruction → Bool
+takes scheme n (instruction.Order input) = is_order (opening scheme) n input
+takes scheme n (instruction.Status id) = true
+takes scheme n (instruction.Until id status turns) = true
 
 -- the node is one of the scheme's, and takes such an order
-abbrev pub is_possible : Scheme → ScriptLine → Bool
-is_possible scheme (line.Order n input) = is_node scheme n && is_order (opening scheme) n input
-is_possible scheme (line.Status n id) = is_node scheme n
-is_possible scheme (line.Until n id status turns) = is_node scheme n
+abbrev pub is_possible : Scheme → Node → Instruction → Bool
+is_possible scheme n i = is_node scheme n && takes scheme n i
 
 -- ---- the texts of answers
 
@@ -63,15 +63,15 @@ answer_lines n (answer ∷ answers) = answer_line n answer ++ answer_lines (n + 
 
 -- the order was recorded, or it changed nothing, since it came again or too late; or the question got its answer, and a
 -- line that waits got the status that it waits for
-abbrev pub is_carried_out : ScriptLine → ScriptAnswer → Bool
-is_carried_out l NotPossible = false
-is_carried_out l (Answered (Refused refusal)) = false
-is_carried_out (line.Until n id status turns) (Answered (Status found)) = is_status found status
-is_carried_out l (Answered told) = true
+abbrev pub is_carried_out : Instruction → ScriptAnswer → Bool
+is_carried_out i NotPossible = false
+is_carried_out i (Answered (Refused refusal)) = false
+is_carried_out (instruction.Until id status turns) (Answered (Status found)) = is_status found status
+is_carried_out i (Answered told) = true
 
 -- the number of the first line that was not carried out, by its answer; the first of these lines has the given number
 abbrev pub first_undone : ℕ → List ScriptLine → List ScriptAnswer → Option ℕ
-first_undone n (l ∷ ls) (answer ∷ answers) = cond (is_carried_out l answer) (first_undone (n + 1) ls answers) (Some n)
+first_undone n (l ∷ ls) (answer ∷ answers) = cond (is_carried_out l.instruction answer) (first_undone (n + 1) ls answers) (Some n)
 first_undone n _ _ = None
 
 -- ---- the results that journals bear out
@@ -95,8 +95,8 @@ IsBorne scheme n journal asked (Refused refusal) = is_unjudged refusal.code ≡ 
 
 -- the line wasn't possible; or it was, and the journal of its node bears out the answer
 abbrev pub IsAnswer : Scheme → (Node → List Input) → ScriptLine → ScriptAnswer → Type 0
-IsAnswer scheme journals l NotPossible = is_possible scheme l ≡ false
-IsAnswer scheme journals l (Answered told) = (is_possible scheme l ≡ true) × IsBorne scheme (node_of l) (journals (node_of l)) (asked_by l) told
+IsAnswer scheme journals l NotPossible = is_possible scheme l.node l.instruction ≡ false
+IsAnswer scheme journals l (Answered told) = (is_possible scheme l.node l.instruction ≡ true) × IsBorne scheme l.node (journals l.node) (asked_by l.instruction) told
 
 -- each line has an answer with that property
 pub record AreAnswers (Answers : ScriptLine → ScriptAnswer → Type 0) (lines : List ScriptLine) (answers : List ScriptAnswer) : Type 0 where

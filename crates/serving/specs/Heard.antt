@@ -14,7 +14,7 @@ use Rattle.node_state.specs.declared.notes.Told.{Told}
 use Rattle.node_state.specs.declared.notes.Told.TheVariants.{Step, Status, Refused}
 use Rattle.replies.specs.Answers.{confirmed, is_without_journal}
 use Rattle.input_lines.specs.declared.script_line.ScriptLine.{ScriptLine}
-use Rattle.serving.specs.Answers.{AreAnswers, asked_by, is_possible, node_of}
+use Rattle.serving.specs.Answers.{AreAnswers, asked_by, is_possible}
 use Rattle.serving.specs.declared.answer.ScriptAnswer.{ScriptAnswer}
 use Rattle.serving.specs.declared.answer.ScriptAnswer.TheVariants.{NotPossible, Told as Answered}
 
@@ -38,13 +38,13 @@ HasHeard seat asked (Refused refusal) = is_unjudged refusal.code ≡ false → H
 pub record IsHeardAt (scheme : Scheme) (seats : List SeatView) (l : ScriptLine) (told : Told) : Type 0 where
   pub at : ℕ
   pub seat : SeatView
-  pub index : index_of scheme (node_of l) ≡ Some at
+  pub index : index_of scheme l.node ≡ Some at
   pub is : slice_get seats at ≡ Some seat
-  pub heard : HasHeard seat (asked_by l) told
+  pub heard : HasHeard seat (asked_by l.instruction) told
 
 abbrev pub IsHeard : Scheme → List SeatView → ScriptLine → ScriptAnswer → Type 0
-IsHeard scheme seats l NotPossible = is_possible scheme l ≡ false
-IsHeard scheme seats l (Answered told) = (is_possible scheme l ≡ true) × IsHeardAt scheme seats l told
+IsHeard scheme seats l NotPossible = is_possible scheme l.node l.instruction ≡ false
+IsHeard scheme seats l (Answered told) = (is_possible scheme l.node l.instruction ≡ true) × IsHeardAt scheme seats l told
 
 -- each line has its answer, with these seats
 abbrev pub AreHeard : Scheme → List SeatView → List ScriptLine → List ScriptAnswer → Type 0

@@ -12,9 +12,9 @@ use Rattle.node_state.specs.declared.notes.Note.{Note}
 use Rattle.node_state.specs.declared.notes.Told.{Told}
 use Rattle.node_state.specs.declared.notes.Told.TheVariants.{Step, Status, Refused}
 use Rattle.replies.specs.Answers.{is_without_journal}
+use Rattle.input_lines.specs.declared.instruction.Instruction.{Instruction}
+use Rattle.input_lines.specs.declared.instruction.Instruction.TheVariants as instruction
 use Rattle.input_lines.specs.declared.script_line.ScriptLine.{ScriptLine}
-use Rattle.input_lines.specs.declared.script_line.ScriptLine.TheVariants as line
-use Rattle.serving.specs.Answers.{node_of}
 use Rattle.serving.specs.declared.answer.ScriptAnswer.{ScriptAnswer}
 use Rattle.serving.specs.declared.answer.ScriptAnswer.TheVariants.{NotPossible, Told as Answered}
 
@@ -23,7 +23,7 @@ use Rattle.serving.specs.declared.answer.ScriptAnswer.TheVariants.{NotPossible, 
 -- a line leaves nothing where it is another node's or isn't possible
 abbrev pub IsOfLine : {T : Type 0} (Of : ScriptLine → Told → List T → Type 0) → Node → ScriptLine → ScriptAnswer → List T → Type 0
 IsOfLine Of n l NotPossible left = left ≡ []
-IsOfLine Of n l (Answered told) left = (node_of l ≡ n → Of l told left) × (node_of l ≢ n → left ≡ [])
+IsOfLine Of n l (Answered told) left = (l.node ≡ n → Of l told left) × (l.node ≢ n → left ≡ [])
 
 -- each line leaves its part, in the script's order
 abbrev pub AreOfLines : {T : Type 0} (Of : ScriptLine → Told → List T → Type 0) → Node → List ScriptLine → List ScriptAnswer → List T → Type 0
@@ -54,13 +54,13 @@ pub record IsAwaited (id : TransactionId) (status : AStatus) (turns : ℕ) (told
   pub most : length earlier < max 1 turns
   pub over : (told ≡ Status (Some status)) ⊎ ((is_without_journal told ≡ true) ⊎ (length earlier + 1 ≡ max 1 turns))
 
-abbrev pub IsNotedOf : ScriptLine → Told → List Note → Type 0
-IsNotedOf (line.Order n input) told notes = IsNoted (Take input) told notes
-IsNotedOf (line.Status n id) told notes = IsNoted (Query id) told notes
-IsNotedOf (line.Until n id status turns) told notes = IsAwaited id status turns told notes
+abbrev pub IsNotedOf : Instruction → Told → List Note → Type 0
+IsNotedOf (instruction.Order input) told notes = IsNoted (Take input) told notes
+IsNotedOf (instruction.Status id) told notes = IsNoted (Query id) told notes
+IsNotedOf (instruction.Until id status turns) told notes = IsAwaited id status turns told notes
 
 -- ---- what the code follows; no public contract cites what stands below
 
 -- the notes are of the script's lines to the node, in the script's order
 abbrev pub AreNotes : Node → List ScriptLine → List ScriptAnswer → List Note → Type 0
-AreNotes n lines answers notes = AreOfLines IsNotedOf n lines answers notes
+AreNotes n lines answers notes = AreOfLines (λ l. IsNotedOf l.instruction) n lines answers notes

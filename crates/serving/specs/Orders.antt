@@ -29,7 +29,7 @@ IsRecordOf asked told records = records ≡ []
 
 -- the records are the orders of the script to the node, in the script's order, each once
 abbrev pub AreOrders : Node → List ScriptLine → List ScriptAnswer → List Ticket → Type 0
-AreOrders n lines answers records = AreOfLines (λ l told. IsRecordOf (asked_by l) told) n lines answers records
+AreOrders n lines answers records = AreOfLines (λ l told. IsRecordOf (asked_by l.instruction) told) n lines answers records
 
 -- the tickets that one more question leaves in a seat
 pub record Adds (asked : Asked) (old new : SeatView) (told : Told) : Type 0 where

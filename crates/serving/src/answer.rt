@@ -5,7 +5,7 @@ ghost use Rattle.report.specs.ReportLines.{status_or_none};
 ghost use Rattle.serving.specs.Answers.{answer_line, answer_lines, first_undone, is_carried_out};
 
 use desk::Told;
-use input_lines::ScriptLine;
+use input_lines::{Instruction, ScriptLine};
 use protocol::Outcome;
 use report::push_outcome;
 use status::Status;
@@ -32,15 +32,16 @@ fn is_status(found: Option<Status>, status: Status) -> bool
 }
 
 impl ScriptAnswer {
-    /// Whether the line that has this answer was carried out: its order was recorded, or changed nothing since it came
-    /// again or too late; or its question got an answer, and a line that waits got the status that it waits for.
-    pub(crate) fn is_carried_out(self, line: &ScriptLine) -> bool
-        ensures { result ≡ is_carried_out line.now self }
+    /// Whether the order or question that has this answer was carried out: the order was recorded, or changed nothing
+    /// since it came again or too late; or the question got an answer, and one that waits got the status that it waits
+    /// for.
+    pub(crate) fn is_carried_out(self, instruction: &Instruction) -> bool
+        ensures { result ≡ is_carried_out instruction.now self }
     {
         match self {
             ScriptAnswer::NotPossible | ScriptAnswer::Told(Told::Refused(_)) => false,
-            ScriptAnswer::Told(Told::Status(found)) => match line {
-                ScriptLine::Until { status, .. } => is_status(found, *status),
+            ScriptAnswer::Told(Told::Status(found)) => match instruction {
+                Instruction::Until { status, .. } => is_status(found, *status),
                 _ => true,
             },
             ScriptAnswer::Told(Told::Step(_)) => true,
@@ -102,7 +103,7 @@ pub fn first_undone(lines: &[ScriptLine], answers: &[ScriptAnswer]) -> Option<u6
     let mut number = 0u64;
     for (line, answer) in lines.iter().zip(answers) {
         number += 1;
-        if !answer.is_carried_out(line) {
+        if !answer.is_carried_out(&line.instruction) {
             return Some(number);
         }
     }

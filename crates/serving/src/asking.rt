@@ -1,4 +1,4 @@
-//! One line of a script, at the desk of its node.
+//! An order or a question, at the desk of its node.
 ghost use Rattle.std.specs.Prelude.{◌≡◌, ◌≢◌, ◌⊎◌, ◌<◌, true, false, length, Some};
 ghost use Rattle.replies.specs.Answers.{is_without_journal};
 ghost use Rattle.serving.specs.Answers.{asked_by};
@@ -7,21 +7,17 @@ ghost use Rattle.serving.specs.Notes.{IsAwaited, IsNoted, IsNotedOf};
 ghost use Rattle.serving.specs.Orders.{Adds, Notes};
 
 use crate::watch::{Watch, tell_committed};
-use desk::stores::NodeStore;
-use desk::{Asked, Bell, Desk, Opening, Seat, Taken, Told, is_unjudged};
-use input_lines::ScriptLine;
-use protocol::NodeCore;
+use desk::{Asked, Seat, SharedNode, Taken, Told, is_unjudged};
+use input_lines::Instruction;
 use protocol::wire::Input;
-use sessions::{Network, Station};
 use status::{Status, TransactionId};
 use std::rt::Clock as SystemClock;
 use std::sync::Wait;
 use std::thread;
 use std::time::Duration;
 use units::Refusal;
-use world::Core;
 
-/// How long a script waits before it asks again, in milliseconds.
+/// How long a question that waits pauses before it asks again, in milliseconds.
 const TURN: u64 = 1;
 
 /// Whether the result isn't that of a journal.
@@ -36,9 +32,9 @@ fn is_without_journal(told: Told) -> bool
 
 /// The result of what was taken, once all records are committed that the journal had then; at once if no journal judged
 /// it. Refusal `NODE_STOPPED` if the node stopped before.
-fn confirmed<O: Opening, C: NodeCore, S: NodeStore, B: Bell, R: Wait + SystemClock>(
+fn confirmed<D: SharedNode, R: Wait + SystemClock>(
     rt: &R,
-    desk: &Desk<O, C, S, B>,
+    desk: &D,
     seat: &mut Seat,
     taken: Taken,
 ) -> Told
@@ -59,9 +55,9 @@ fn confirmed<O: Opening, C: NodeCore, S: NodeStore, B: Bell, R: Wait + SystemClo
 }
 
 /// The node's result for an order, once its record is committed.
-fn order<O: Opening, C: NodeCore, S: NodeStore, B: Bell, R: Wait + SystemClock>(
+fn order<D: SharedNode, R: Wait + SystemClock>(
     rt: &R,
-    desk: &Desk<O, C, S, B>,
+    desk: &D,
     seat: &mut Seat,
     input: Input,
 ) -> Told
@@ -74,28 +70,10 @@ fn order<O: Opening, C: NodeCore, S: NodeStore, B: Bell, R: Wait + SystemClock>(
     confirmed(rt, desk, seat, taken)
 }
 
-/// The same for a copy of the order; refusal `OUT_OF_MEMORY` if there is no memory for a copy.
-fn order_copy<O: Opening, C: NodeCore, S: NodeStore, B: Bell, R: Wait + SystemClock>(
-    rt: &R,
-    desk: &Desk<O, C, S, B>,
-    seat: &mut Seat,
-    input: &Input,
-) -> Told
-    ensures heard { HasHeard seat.new (Asked.Take input.now) result }
-    ensures grows { Grows seat.old seat.new }
-    ensures adds { Adds (Asked.Take input.now) seat.old seat.new result }
-    ensures notes { Notes (IsNoted (Asked.Take input.now)) seat.old seat.new result }
-{
-    match input.copy() {
-        Ok(input) => order(rt, desk, seat, input),
-        Err(_) => Told::Refused(Refusal::NO_MEMORY),
-    }
-}
-
 /// Where the transaction stands at the node, once the records are committed that the result rests on.
-fn question<O: Opening, C: NodeCore, S: NodeStore, B: Bell, R: Wait + SystemClock>(
+fn question<D: SharedNode, R: Wait + SystemClock>(
     rt: &R,
-    desk: &Desk<O, C, S, B>,
+    desk: &D,
     seat: &mut Seat,
     id: TransactionId,
 ) -> Told
@@ -119,7 +97,7 @@ fn is_over(told: Told, status: Status) -> bool
     }
 }
 
-/// The status that a line waits for, its transaction, and how often the line asks at most.
+/// The status that a question waits for, its transaction, and how often it is asked at most.
 #[derive(Clone, Copy)]
 struct Awaited {
     id: TransactionId,
@@ -129,64 +107,78 @@ struct Awaited {
 
 /// Asks where the transaction stands until it has that status, at most that many times, and returns the last result. If
 /// no journal judged it, since the node had stopped or memory ran out, it isn't asked again.
-fn question_until<O: Opening, N: Network, P: Watch, R: Wait + SystemClock>(
+fn question_until<D: SharedNode, P: Watch, R: Wait + SystemClock>(
     rt: &R,
-    stations: &[Station<O, Core, N>],
+    desks: &[D],
     at: usize,
     seat: &mut Seat,
     awaited: Awaited,
     watch: &mut P,
 ) -> Told
-    requires { at < length stations.now }
+    requires { at < length desks.now }
     ensures heard { HasHeard seat.new (Asked.Query awaited.id) result }
     ensures grows { Grows seat.old seat.new }
     ensures adds { Adds (Asked.Query awaited.id) seat.old seat.new result }
     ensures notes { Notes (IsAwaited awaited.id awaited.status awaited.turns) seat.old seat.new result }
 {
-    let mut told = question(rt, &stations[at].desk, seat, awaited.id);
+    let mut told = question(rt, &desks[at], seat, awaited.id);
     for asked in 1..awaited.turns {
         if is_over(told, awaited.status) {
             break;
         }
-        tell_committed(rt, stations, watch);
+        tell_committed(rt, desks, watch);
         thread::sleep(rt, Duration::from_millis(TURN));
-        told = question(rt, &stations[at].desk, seat, awaited.id);
+        told = question(rt, &desks[at], seat, awaited.id);
     }
     told
 }
 
-/// The result of a script's line at the node at the station with that index: for an order, once its record is
-/// committed, and for a question, once the records that the result rests on are. The seat has kept the result. Refusal
-/// `NODE_STOPPED` if the node stopped before, and refusal `OUT_OF_MEMORY` if memory ran out.
-pub fn ask<O: Opening, N: Network, P: Watch, R: Wait + SystemClock>(
+/// The result of an order or a question at the desk with that index: for an order, once its record is committed, and
+/// for a question, once the records that the result rests on are. The seat has kept the result. Refusal `NODE_STOPPED`
+/// if the node stopped before, and refusal `OUT_OF_MEMORY` if memory ran out. The watch is told how many records these
+/// desks have committed while a question waits.
+pub fn ask<D: SharedNode, P: Watch, R: Wait + SystemClock>(
     rt: &R,
-    stations: &[Station<O, Core, N>],
+    desks: &[D],
     at: usize,
     seat: &mut Seat,
-    line: &ScriptLine,
+    instruction: Instruction,
     watch: &mut P,
 ) -> Told
-    requires { at < length stations.now }
-    ensures heard { HasHeard seat.new (asked_by line.now) result }
+    requires { at < length desks.now }
+    ensures heard { HasHeard seat.new (asked_by instruction) result }
     ensures grows { Grows seat.old seat.new }
-    ensures adds { Adds (asked_by line.now) seat.old seat.new result }
-    ensures notes { Notes (IsNotedOf line.now) seat.old seat.new result }
+    ensures adds { Adds (asked_by instruction) seat.old seat.new result }
+    ensures notes { Notes (IsNotedOf instruction) seat.old seat.new result }
 {
-    match line {
-        ScriptLine::Order { input, .. } => order_copy(rt, &stations[at].desk, seat, input),
-        ScriptLine::Status { id, .. } => question(rt, &stations[at].desk, seat, *id),
-        ScriptLine::Until {
-            id,
-            status,
-            turns,
-            ..
-        } => {
-            let awaited = Awaited {
-                id: *id,
-                status: *status,
-                turns: *turns,
-            };
-            question_until(rt, stations, at, seat, awaited, watch)
+    match instruction {
+        Instruction::Order(input) => order(rt, &desks[at], seat, input),
+        Instruction::Status(id) => question(rt, &desks[at], seat, id),
+        Instruction::Until { id, status, turns } => {
+            let awaited = Awaited { id, status, turns };
+            question_until(rt, desks, at, seat, awaited, watch)
         }
+    }
+}
+
+/// The result of a copy of the order or the question, as that of `ask`. Refusal `OUT_OF_MEMORY` also if there is no
+/// memory for a copy: then nothing was asked.
+pub fn ask_copy<D: SharedNode, P: Watch, R: Wait + SystemClock>(
+    rt: &R,
+    desks: &[D],
+    at: usize,
+    seat: &mut Seat,
+    instruction: &Instruction,
+    watch: &mut P,
+) -> Told
+    requires { at < length desks.now }
+    ensures heard { HasHeard seat.new (asked_by instruction.now) result }
+    ensures grows { Grows seat.old seat.new }
+    ensures adds { Adds (asked_by instruction.now) seat.old seat.new result }
+    ensures notes { Notes (IsNotedOf instruction.now) seat.old seat.new result }
+{
+    match instruction.copy() {
+        Ok(instruction) => ask(rt, desks, at, seat, instruction, watch),
+        Err(_) => Told::Refused(Refusal::NO_MEMORY),
     }
 }

@@ -1,9 +1,7 @@
 //! Watching the progress of a script.
 
-use desk::Opening;
-use sessions::{Network, Station};
+use desk::SharedNode;
 use std::sync::Wait;
-use world::Core;
 
 /// Is called while a script is played. It changes no result of the script.
 pub trait Watch {
@@ -18,18 +16,14 @@ pub trait Watch {
     fn committed(&mut self, records: usize);
 }
 
-/// Passes on how many records the nodes have committed, if the watch wants to know.
-pub fn tell_committed<O: Opening, N: Network, P: Watch, R: Wait>(
-    rt: &R,
-    stations: &[Station<O, Core, N>],
-    watch: &mut P,
-) {
+/// Passes on how many records the nodes at these desks have committed, if the watch wants to know.
+pub fn tell_committed<D: SharedNode, P: Watch, R: Wait>(rt: &R, desks: &[D], watch: &mut P) {
     if !watch.wants_count() {
         return;
     }
     let mut records: usize = 0;
-    for station in stations {
-        records = records.saturating_add(station.desk.committed_count(rt));
+    for desk in desks {
+        records = records.saturating_add(desk.committed_count(rt));
     }
     watch.committed(records);
 }

@@ -3,10 +3,6 @@ use Rattle.std.proofs.Common.{◌≡◌, ℕ, List, [], ◌∷◌, ◌++◌, Opt
 use Rattle.units.specs.declared.code.Node.{Node}
 use Rattle.wire.specs.Messages.{message_text}
 use Rattle.wire.specs.declared.message.Message.{Message}
-use Rattle.protocol.specs.Scheme.{Scheme}
-use Rattle.wire.specs.declared.input.Input.{Input}
-use Rattle.desk.specs.NodeStore.{Ghosts}
-use Rattle.desk.specs.Keeping.{IsToSend}
 use Rattle.node_state.specs.Views.{SeatView}
 use Rattle.exchanges.specs.Exchanges.{Exchanges}
 use Rattle.exchanges.specs.CountedView.{CountedView}
@@ -31,13 +27,11 @@ module _ {R W : Type 0} (leads : Node → R → W → Type 0) (remaining : R →
         );
   }
 
-  module _ {S : Type 0} (g : Ghosts S) (opened : Scheme → Node → List Input → ℕ → Type 0) where
-    pub tries_send :
-        (peer : Node) (from : ℕ) (old new : SeatView) (key : ℕ) (m : Message) (sent : Sent) → IsToSend g opened peer from (Some (key, m)) → Tries leads remaining contents peer m old new key sent
-        → Sends leads remaining contents g opened peer from old new sent
-    tries_send peer from old new key m Nothing to_send t = absurd t
-    tries_send peer from old new key m (Received k) to_send t =
-        ((m, subst (λ (n : ℕ). IsToSend g opened peer from (Some (n, m))) (sym t.0) to_send, t.1), subst (λ (n : ℕ). Acknowledges old new n) (sym t.0) t.2)
-    tries_send peer from old new key m (NotReceived k) to_send t = ((m, subst (λ (n : ℕ). IsToSend g opened peer from (Some (n, m))) (sym t.0) to_send), t.1)
-    tries_send peer from old new key m (Unreachable k) to_send t = ((m, subst (λ (n : ℕ). IsToSend g opened peer from (Some (n, m))) (sym t.0) to_send), t.1)
-    tries_send peer from old new key m NoMemory to_send t = t
+module _ (to_send : Node → ℕ → Option (ℕ × Message) → Type 0) (got : Node → Message → Type 0) where
+  pub tries_send : (peer : Node) (from : ℕ) (old new : SeatView) (key : ℕ) (m : Message) (sent : Sent) → to_send peer from (Some (key, m)) → Tries got peer m old new key sent → Sends to_send got peer from old new sent
+  tries_send peer from old new key m Nothing had t = absurd t
+  tries_send peer from old new key m (Received k) had t =
+      ((m, subst (λ (n : ℕ). to_send peer from (Some (n, m))) (sym t.0) had, t.1), subst (λ (n : ℕ). Acknowledges old new n) (sym t.0) t.2)
+  tries_send peer from old new key m (NotReceived k) had t = ((m, subst (λ (n : ℕ). to_send peer from (Some (n, m))) (sym t.0) had), t.1)
+  tries_send peer from old new key m (Unreachable k) had t = ((m, subst (λ (n : ℕ). to_send peer from (Some (n, m))) (sym t.0) had), t.1)
+  tries_send peer from old new key m NoMemory had t = t

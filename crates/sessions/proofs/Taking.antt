@@ -1,5 +1,5 @@
 -- The records of a seat once it took a message or an acknowledgement.
-use Rattle.std.proofs.Common.{◌≡◌, ℕ, Bool, true, false, All, List, [], Option, Vec, Global, Result, inl, inr, sym, subst, refl}
+use Rattle.std.proofs.Common.{◌≡◌, ℕ, false, All, List, [], Option, Vec, Global, Result, sym, subst, refl}
 use Rattle.std.proofs.lemmas.List.Elements.{All-nil, All-push, All-weaker}
 use Rattle.units.specs.declared.code.Node.{Node}
 use Rattle.units.specs.declared.memory.NoMemory.{NoMemory}
@@ -7,9 +7,7 @@ use Rattle.protocol.specs.Moment.{Moment}
 use Rattle.wire.specs.declared.input.Input.{Input}
 use Rattle.wire.specs.declared.input.Input.TheVariants.{Propose, Request, OpenAccount, CloseAccount, Ack, CleanUp, Eligible, Received}
 use Rattle.wire.specs.declared.message.Message.{Message}
-use Rattle.protocol.specs.Scheme.{Scheme}
 use Rattle.protocol.specs.declared.node_core.Stepped.TheVariants.{Recorded, Repeat, Late}
-use Rattle.desk.specs.NodeStore.{Ghosts}
 use Rattle.node_state.specs.Telling.{kept, tickets_after}
 use Rattle.node_state.specs.Views.{SeatView}
 use Rattle.node_state.specs.declared.notes.Asked.{Asked}
@@ -42,12 +40,12 @@ module _ (P : Input → Type 0) where
   such_kept seat note input asked is all =
       subst (λ (a : Asked). AreSuch (tickets_after seat.tickets note.told a)) (sym asked) (such_after seat.tickets note.told input is all)
 
-module _ {R W S : Type 0} (leads : Node → R → W → Type 0) (remaining : R → Option (List ℕ)) (contents : W → Option (List ℕ)) (g : Ghosts S) (opened : Scheme → Node → List Input → ℕ → Type 0) (tells : Moment → Type 0) where
+module _ (to_send : Node → ℕ → Option (ℕ × Message) → Type 0) (got : Node → Message → Type 0) (tells : Moment → Type 0) where
   abbrev Is : Input → Type 0
-  Is = IsOfThread leads remaining contents g opened tells
+  Is = IsOfThread to_send got tells
 
   abbrev Are : SeatView → Type 0
-  Are = AreOfThread leads remaining contents g opened tells
+  Are = AreOfThread to_send got tells
 
   -- the outcome for a message
   pub after_begun : (old new : SeatView) (m : Message) (begun : Begun) → Begins tells old new m begun → Are old → Are new
@@ -57,15 +55,15 @@ module _ {R W S : Type 0} (leads : Node → R → W → Type 0) (remaining : R �
   pub same_records : (old new : SeatView) → new.tickets ≡ old.tickets → Are old → Are new
   same_records old new same all = subst (λ (ts : List Ticket). All (λ (t : Ticket). Is t.input) ts) (sym same) all
 
-  acknowledged : (old new : SeatView) (key : ℕ) → IsDelivered leads remaining contents g opened key → Acknowledges old new key → Are old → Are new
+  acknowledged : (old new : SeatView) (key : ℕ) → IsDelivered to_send got key → Acknowledges old new key → Are old → Are new
   acknowledged old new key is a all =
-      subst Are (sym a.seat) (such_kept Is old a.note (Ack a.number) a.asked (subst (IsDelivered leads remaining contents g opened) (sym a.value) is) all)
+      subst Are (sym a.seat) (such_kept Is old a.note (Ack a.number) a.asked (subst (IsDelivered to_send got) (sym a.value) is) all)
 
   -- the outcome for a message to send
-  pub after_sending : (peer : Node) (from : ℕ) (old new : SeatView) (became : Sent) → Sends leads remaining contents g opened peer from old new became → Are old → Are new
+  pub after_sending : (peer : Node) (from : ℕ) (old new : SeatView) (became : Sent) → Sends to_send got peer from old new became → Are old → Are new
   after_sending peer from old new sent.Nothing s all = subst Are (sym s.1) all
   after_sending peer from old new (sent.Received key) s all =
-      acknowledged old new key (record { peer = peer; from = from; message = s.0.0; sent = s.0.1; received = s.0.2 }) s.1 all
+      acknowledged old new key (record { peer = peer; from = from; message = s.0.0; sent = s.0.1; replied = s.0.2 }) s.1 all
   after_sending peer from old new (sent.NotReceived key) s all = subst Are (sym s.1) all
   after_sending peer from old new (sent.Unreachable key) s all = subst Are (sym s.1) all
   after_sending peer from old new sent.NoMemory s all = subst Are (sym s) all

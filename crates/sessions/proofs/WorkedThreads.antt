@@ -1,14 +1,13 @@
 -- Which inputs a thread may have recorded: moments, clocks and connections as values.
-use Rattle.std.proofs.Common.{◌≡◌, ◌≢◌, ℕ, List, [], ◌∷◌, Option, true, refl, ap, arith, lit<}
+use Rattle.std.proofs.Common.{◌≡◌, ◌≢◌, ℕ, [], ◌∷◌, Option, true, refl, ap, arith, lit<}
 use Rattle.units.specs.declared.code.Node.{Node}
 use Rattle.units.specs.declared.code.Node.TheVariants.{Itl}
 use Rattle.protocol.specs.Moment.{Moment}
 use Rattle.wire.specs.declared.input.Input.{Input}
 use Rattle.wire.specs.declared.input.Input.TheVariants as input
+use Rattle.wire.specs.declared.message.Message.{Message}
 use Rattle.wire.specs.declared.notified.NotifiedStatus.TheVariants as notified
-use Rattle.protocol.specs.Scheme.{Scheme}
 use Rattle.protocol.proofs.WorkedScheme.{nz, jp, nz_node, block, nz1, first_of_may, number, notification}
-use Rattle.desk.specs.NodeStore.{Ghosts}
 use Rattle.sessions.specs.Threads.{IsOfThread}
 
 abbrev second : Moment
@@ -24,10 +23,10 @@ told moment = moment ≡ first_of_may
 later : second ≢ first_of_may
 later e = let same : ◌≡◌ {A = ℕ} 1335830401 1335830400 = ap (λ (m : Moment). m.seconds) e in omega arith
 
-module _ {R W S : Type 0} (remaining : R → Option (List ℕ)) (contents : W → Option (List ℕ)) (g : Ghosts S) (opened : Scheme → Node → List Input → ℕ → Type 0) where
-  -- no connection leads anywhere
+module _ (to_send : Node → ℕ → Option (ℕ × Message) → Type 0) where
+  -- no peer received anything
   abbrev alone : Input → Type 0
-  alone = IsOfThread (λ (n : Node) (r : R) (w : W). ⊥) remaining contents g opened told
+  alone = IsOfThread to_send (λ (n : Node) (m : Message). ⊥) told
 
   pub at_a_moment_that_was_told : alone (message first_of_may)
   at_a_moment_that_was_told = refl
@@ -37,7 +36,7 @@ module _ {R W S : Type 0} (remaining : R → Option (List ℕ)) (contents : W �
 
   -- a message that reached no peer is not acknowledged
   pub not_unless_received : alone (input.Ack (number 0 (lit< tt))) → ⊥
-  not_unless_received is = is.received.led
+  not_unless_received is = is.replied
 
   pub no_transfer : alone (input.Propose (record { account = 1; acquirer = jp; to_account = 7; units = block 1 1 ∷ [] })) → ⊥
   no_transfer is = is
@@ -57,10 +56,10 @@ module _ {R W S : Type 0} (remaining : R → Option (List ℕ)) (contents : W �
   pub no_eligibility : alone (input.Eligible nz true) → ⊥
   no_eligibility is = is
 
--- nothing is known of any node, so no message is one that a store of the run has
-module _ {R W S : Type 0} (leads : Node → R → W → Type 0) (remaining : R → Option (List ℕ)) (contents : W → Option (List ℕ)) (g : Ghosts S) where
+-- the node had nothing to send
+module _ (got : Node → Message → Type 0) where
   abbrev unknown : Input → Type 0
-  unknown = IsOfThread leads remaining contents g (λ (s : Scheme) (n : Node) (journal : List Input) (faults : ℕ). ⊥) told
+  unknown = IsOfThread (λ (n : Node) (from : ℕ) (found : Option (ℕ × Message)). ⊥) got told
 
   pub not_unless_stored : unknown (input.Ack (number 0 (lit< tt))) → ⊥
-  not_unless_stored is = is.sent.1.at.began
+  not_unless_stored is = is.sent

@@ -2,14 +2,10 @@
 use Rattle.std.specs.Prelude.{◌≡◌, ℕ, List, [], ◌∷◌, ◌++◌, Option, None, Some}
 use Rattle.units.specs.declared.code.Node.{Node}
 use Rattle.wire.specs.Messages.{message_text}
-use Rattle.wire.specs.declared.input.Input.{Input}
 use Rattle.wire.specs.declared.input.Input.TheVariants.{Ack}
 use Rattle.wire.specs.declared.input.Number.{Number}
 use Rattle.wire.specs.declared.message.Message.{Message}
-use Rattle.protocol.specs.Scheme.{Scheme}
-use Rattle.desk.specs.NodeStore.{Ghosts}
 use Rattle.desk.specs.Desks.{IsTakeOf}
-use Rattle.desk.specs.Keeping.{IsToSend}
 use Rattle.node_state.specs.Telling.{kept}
 use Rattle.node_state.specs.Views.{SeatView}
 use Rattle.node_state.specs.declared.notes.Asked.TheVariants.{Take}
@@ -17,7 +13,7 @@ use Rattle.node_state.specs.declared.notes.Note.{Note}
 use Rattle.exchanges.specs.Exchanges.{Exchanges}
 use Rattle.exchanges.specs.CountedView.{CountedView}
 use Rattle.exchanges.specs.Calls.{no_calls}
-use Rattle.sessions.specs.Delivering.{received}
+use Rattle.sessions.specs.Delivering.{received as was_received}
 use Rattle.sessions.specs.declared.sending.Sent.{Sent}
 use Rattle.sessions.specs.declared.sending.Sent.TheVariants.{Nothing, Received, NotReceived, Unreachable, NoMemory}
 
@@ -44,19 +40,19 @@ module _ {R W : Type 0} (leads : Node → R → W → Type 0) (remaining : R →
     pub read : CountedView R
     pub written : CountedView W
     pub led : leads peer reader writer
-    pub ended : Exchanges remaining contents (unused reader) read (unused writer) written (message_text message ++ 10 ∷ []) received
-
--- the same; and a store's calls, and what is known of the nodes of the run when their desks open
-module _ {R W S : Type 0} (leads : Node → R → W → Type 0) (remaining : R → Option (List ℕ)) (contents : W → Option (List ℕ)) (g : Ghosts S) (opened : Scheme → Node → List Input → ℕ → Type 0) where
-  -- the outcome of a call that looks for a message from that key on; no public contract cites it
-  abbrev pub Sends : Node → ℕ → SeatView → SeatView → Sent → Type 0
-  Sends peer from old new Nothing = IsToSend g opened peer from None × (new ≡ old)
-  Sends peer from old new (Received key) = ((m : Message) × IsToSend g opened peer from (Some (key, m)) × IsReceivedBy leads remaining contents peer m) × Acknowledges old new key
-  Sends peer from old new (NotReceived key) = ((m : Message) × IsToSend g opened peer from (Some (key, m))) × (new ≡ old)
-  Sends peer from old new (Unreachable key) = ((m : Message) × IsToSend g opened peer from (Some (key, m))) × (new ≡ old)
-  Sends peer from old new NoMemory = new ≡ old
+    pub ended : Exchanges remaining contents (unused reader) read (unused writer) written (message_text message ++ 10 ∷ []) was_received
 
 -- ---- what the code follows; no public contract cites what stands below
+
+-- what a node had to send to a peer from a key on, and which messages a peer received
+module _ (to_send : Node → ℕ → Option (ℕ × Message) → Type 0) (received : Node → Message → Type 0) where
+  -- the outcome of a call that looks for a message from that key on
+  abbrev pub Sends : Node → ℕ → SeatView → SeatView → Sent → Type 0
+  Sends peer from old new Nothing = to_send peer from None × (new ≡ old)
+  Sends peer from old new (Received key) = ((m : Message) × to_send peer from (Some (key, m)) × received peer m) × Acknowledges old new key
+  Sends peer from old new (NotReceived key) = ((m : Message) × to_send peer from (Some (key, m))) × (new ≡ old)
+  Sends peer from old new (Unreachable key) = ((m : Message) × to_send peer from (Some (key, m))) × (new ≡ old)
+  Sends peer from old new NoMemory = new ≡ old
 
 -- a message with its key, and the node that it went to, over a connection that was asked for with that node
 pub record DeliveredView (N : Type 0) : Type 0 where
@@ -65,11 +61,12 @@ pub record DeliveredView (N : Type 0) : Type 0 where
   pub key : ℕ
   pub message : Message
 
-module _ {R W : Type 0} (leads : Node → R → W → Type 0) (remaining : R → Option (List ℕ)) (contents : W → Option (List ℕ)) where
+-- which messages a peer received
+module _ (received : Node → Message → Type 0) where
   -- the outcome for a message that is sent over a connection of its own, if one can be made
   abbrev pub Tries : Node → Message → SeatView → SeatView → ℕ → Sent → Type 0
   Tries peer message old new key Nothing = ⊥
-  Tries peer message old new key (Received k) = (k ≡ key) × IsReceivedBy leads remaining contents peer message × Acknowledges old new key
+  Tries peer message old new key (Received k) = (k ≡ key) × received peer message × Acknowledges old new key
   Tries peer message old new key (NotReceived k) = (k ≡ key) × (new ≡ old)
   Tries peer message old new key (Unreachable k) = (k ≡ key) × (new ≡ old)
   Tries peer message old new key NoMemory = new ≡ old

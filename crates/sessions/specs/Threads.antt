@@ -1,17 +1,13 @@
 -- How many threads a node has, and the inputs that they give its desk: messages that come, and acknowledgements of
 -- those that were delivered.
-use Rattle.std.specs.Prelude.{◌+◌, ℕ, List, Option, Some}
+use Rattle.std.specs.Prelude.{◌+◌, ℕ, Option, Some}
 use Rattle.units.specs.declared.code.Node.{Node}
 use Rattle.protocol.specs.Moment.{Moment}
 use Rattle.wire.specs.declared.input.Input.{Input}
 use Rattle.wire.specs.declared.input.Input.TheVariants.{Propose, Request, OpenAccount, CloseAccount, Ack, CleanUp, Eligible, Received}
 use Rattle.wire.specs.declared.message.Message.{Message}
-use Rattle.protocol.specs.Scheme.{Scheme}
-use Rattle.desk.specs.NodeStore.{Ghosts}
-use Rattle.desk.specs.Keeping.{IsToSend}
 use Rattle.node_state.specs.Views.{SeatView}
 use Rattle.sessions.specs.Orders.{HasOnly}
-use Rattle.sessions.specs.Sending.{IsReceivedBy}
 use Rattle.sessions.specs.declared.node_threads.TheConstants.{WORKERS}
 use Rattle.sessions.specs.declared.session_threads.TheConstants.{SESSION_THREADS}
 
@@ -19,16 +15,15 @@ use Rattle.sessions.specs.declared.session_threads.TheConstants.{SESSION_THREADS
 abbrev pub thread_count : ℕ → ℕ
 thread_count peers = 1 + SESSION_THREADS + WORKERS + peers
 
--- which connections lead to a node, the bytes that a reader has left, and those that a writer holds; a store's calls,
--- and what is known of the nodes of the run when their desks open
-module _ {R W S : Type 0} (leads : Node → R → W → Type 0) (remaining : R → Option (List ℕ)) (contents : W → Option (List ℕ)) (g : Ghosts S) (opened : Scheme → Node → List Input → ℕ → Type 0) where
+-- what a node had to send to a peer from a key on, and which messages a peer received
+module _ (to_send : Node → ℕ → Option (ℕ × Message) → Type 0) (received : Node → Message → Type 0) where
   -- the committed message with that key was delivered: its peer replied that it was received
   pub record IsDelivered (key : ℕ) : Type 0 where
     pub peer : Node
     pub from : ℕ
     pub message : Message
-    pub sent : IsToSend g opened peer from (Some (key, message))
-    pub received : IsReceivedBy leads remaining contents peer message
+    pub sent : to_send peer from (Some (key, message))
+    pub replied : received peer message
 
   -- the same; and which moments a clock gave
   module _ (tells : Moment → Type 0) where

@@ -13,8 +13,17 @@ use std::marker::Model;
 use units::Node;
 use wire::{Message, Reply};
 
+/// A message with its key, and the node that it is sent to over that network.
+#[derive(Drop)]
+pub(crate) struct Outgoing<'a, N: Network> {
+    pub(crate) network: &'a N,
+    pub(crate) peer: Node,
+    pub(crate) key: usize,
+    pub(crate) message: &'a Message,
+}
+
 /// A message with its key, and the node that it was sent to: it replied, over a connection that was made with it, that
-/// the message was received. Only `deliver` makes one.
+/// the message was received. Only `Outgoing::deliver` makes one.
 #[derive(Drop)]
 pub(crate) struct Delivered<'a, N: Network> {
     network: &'a N,
@@ -71,32 +80,34 @@ fn deliver_over<R: Read, W: Write>(
     }
 }
 
-/// One exchange of the message with that key over a connection of its own. Fails if no connection could be made, or if
-/// the peer didn't reply that the message was received.
-pub(crate) fn deliver<'a, N: Network>(
-    alloc: Global,
-    network: &'a N,
-    peer: Node,
-    key: usize,
-    message: &'a Message,
-) -> Result<Delivered<'a, N>, Undelivered>
-    ensures value { IfOk result
-        (λ delivered. delivered ≡ record { network = network.now; peer = peer; key = key; message = message.now }) }
-    ensures received { IfOk result
-        (λ _. IsReceivedBy (N.leads network.now) N.Reader.remaining N.Writer.contents peer message.now) }
-{
-    let Some((reader, writer)) = network.connect(peer) else {
-        return Err(Undelivered::NoConnection);
-    };
-    let mut reader = Counted::new(reader);
-    let mut writer = Counted::new(writer);
-    match deliver_over(alloc, &mut reader, &mut writer, message) {
-        Ok(()) => Ok(Delivered {
-            network,
-            peer,
-            key,
-            message,
-        }),
-        Err(end) => Err(Undelivered::Ended(end)),
+impl<'a, N: Network> Outgoing<'a, N> {
+    /// One exchange of the message over a connection of its own. Fails if no connection could be made, or if the peer
+    /// didn't reply that the message was received.
+    pub(crate) fn deliver(&self, alloc: Global) -> Result<Delivered<'a, N>, Undelivered>
+        ensures value { IfOk result
+            (λ delivered. delivered ≡ record {
+              network = self.now.network.now;
+              peer = self.now.peer;
+              key = self.now.key;
+              message = self.now.message.now;
+            }) }
+        ensures received { IfOk result
+            (λ _. IsReceivedBy (N.leads self.now.network.now) N.Reader.remaining N.Writer.contents self.now.peer
+            self.now.message.now) }
+    {
+        let Some((reader, writer)) = self.network.connect(self.peer) else {
+            return Err(Undelivered::NoConnection);
+        };
+        let mut reader = Counted::new(reader);
+        let mut writer = Counted::new(writer);
+        match deliver_over(alloc, &mut reader, &mut writer, self.message) {
+            Ok(()) => Ok(Delivered {
+                network: self.network,
+                peer: self.peer,
+                key: self.key,
+                message: self.message,
+            }),
+            Err(end) => Err(Undelivered::Ended(end)),
+        }
     }
 }

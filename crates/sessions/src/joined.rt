@@ -1,5 +1,5 @@
 //! A network of listeners and a dialer.
-ghost use Rattle.std.specs.Prelude.{IfSome};
+ghost use Rattle.std.specs.Prelude.{◌≡◌, IfSome};
 
 use crate::connections::{Accepted, Dial, Listen};
 use crate::direction::Direction;
@@ -39,7 +39,11 @@ impl<S, L: Drop, D: Drop, K: Drop> Drop for JoinedNetwork<S, L, D, K> {
 
 impl<S, L, D, K> JoinedNetwork<S, L, D, K> {
     /// The network of nodes that accept connections by these listeners. If a node has two, the first one is used.
-    pub fn new(listeners: Vec<(Node, L)>, dialer: D, clock: K) -> JoinedNetwork<S, L, D, K> {
+    pub fn new(listeners: Vec<(Node, L)>, dialer: D, clock: K) -> JoinedNetwork<S, L, D, K>
+        ensures listeners { result.listeners.items ≡ listeners.items }
+        ensures dialer { result.dialer ≡ dialer }
+        ensures clock { result.clock ≡ clock }
+    {
         JoinedNetwork {
             listeners,
             dialer,

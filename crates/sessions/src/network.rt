@@ -10,7 +10,8 @@ use units::Node;
 
 /// The parts of a node that its threads share beside its desk: the connections that it accepts and makes, its clock,
 /// and the gate that its workers pass. Several nodes may share one network. It has few types, since a proof about a
-/// function takes longer with each type that the function reaches.
+/// function takes longer with each type that the function reaches; and it names the type of the nodes' stores, so that
+/// functions that make the desks of its nodes have no further parameter for it.
 pub trait Network: Clock + Gate + Send + Sync + Drop {
     /// The store of a node's records.
     type Store: NodeStore + Send + Drop;

@@ -1,18 +1,16 @@
 //! The threads of a node.
 ghost use Rattle.std.specs.Prelude.{◌≡◌, length, IfOk};
 ghost use Rattle.sessions.specs.Orders.{HasNoOrder};
+ghost use Rattle.sessions.specs.Sending.{IsReceivedBy};
 ghost use Rattle.sessions.specs.Threads.{AreOfThread, thread_count};
 
-use crate::mustering::Muster;
 use crate::network::Network;
 use crate::senders::send_all;
-use crate::session_threads::{SESSION_THREADS, serve_all};
-use crate::station::Station;
-use crate::workers::{Errand, work};
+use crate::session_threads::SESSION_THREADS;
+use crate::start_barrier::StartBarrier;
+use crate::workers::JobRequest;
 use crossbeam_channel::{Receiver, Sender};
-use desk::stores::NodeStore;
-use desk::{Bell, Desk, Opening, Seat};
-use protocol::NodeCore;
+use desk::{Bell, Seat, SharedNode};
 use std::alloc::Global;
 use std::rt::Clock as SystemClock;
 use std::sync::{Mutex, Wait};
@@ -29,7 +27,7 @@ const _: () = prove!(SESSION_THREADS <= MOST_JOBS);
 
 /// The work of a thread of a node.
 #[derive(Clone, Copy, Debug, PartialEq, Eq)]
-enum Post {
+enum ThreadRole {
     /// It commits the desk's records to its store.
     Commit,
     /// It serves sessions, as the session thread of that number.
@@ -42,21 +40,18 @@ enum Post {
 
 /// The work of the thread with that index: the first commits, then `SESSION_THREADS` serve sessions, then come
 /// `WORKERS` workers, and then a sender for each peer.
-fn post_at(index: usize) -> Post {
+fn role_of(index: usize) -> ThreadRole {
     match index {
-        0 => Post::Commit,
-        _ if index <= SESSION_THREADS => Post::Serve(index - 1),
-        _ if index <= SESSION_THREADS + WORKERS => Post::Work,
-        _ => Post::Send(index - (1 + SESSION_THREADS + WORKERS)),
+        0 => ThreadRole::Commit,
+        _ if index <= SESSION_THREADS => ThreadRole::Serve(index - 1),
+        _ if index <= SESSION_THREADS + WORKERS => ThreadRole::Work,
+        _ => ThreadRole::Send(index - (1 + SESSION_THREADS + WORKERS)),
     }
 }
 
 /// Commits the desk's records to its store until the desk stops, also if the store has a fault: when a thread waits for
 /// a commit, and every `LONGEST_QUIET` seconds, since no thread waits for the commit of an acknowledgement.
-fn commit_all<O: Opening, C: NodeCore, S: NodeStore, B: Bell, R: Wait + SystemClock>(
-    rt: &R,
-    desk: &Desk<O, C, S, B>,
-) {
+fn commit_all<D: SharedNode, R: Wait + SystemClock>(rt: &R, desk: &D) {
     for _ in rt.forever() {
         // Read before the desk is looked at, so that no ring between the two is missed.
         let rings = desk.bells().work().rings(rt);
@@ -74,20 +69,20 @@ fn commit_all<O: Opening, C: NodeCore, S: NodeStore, B: Bell, R: Wait + SystemCl
 }
 
 /// The place where a session thread finds its end of the channel by which it hands jobs to workers.
-type Handing = Mutex<Option<Sender<Errand>>>;
+type SenderSlot = Mutex<Option<Sender<JobRequest>>>;
 
 /// An end of the channel for each session thread. Fails with `NoMemory` if memory ran out.
-fn handings_of(alloc: Global, sender: &Sender<Errand>) -> Result<Vec<Handing>, NoMemory> {
-    let mut handings = Vec::new(alloc);
+fn sender_slots(alloc: Global, sender: &Sender<JobRequest>) -> Result<Vec<SenderSlot>, NoMemory> {
+    let mut slots = Vec::new(alloc);
     for _ in 0..SESSION_THREADS {
-        handings.push(Mutex::new(Some(sender.clone()?)))?;
+        slots.push(Mutex::new(Some(sender.clone()?)))?;
     }
-    Ok(handings)
+    Ok(slots)
 }
 
 /// The end of the channel for the session thread of that number, once. When the last one is dropped, no more jobs come.
-fn take_handing<R: Wait>(rt: &R, handings: &[Handing], number: usize) -> Option<Sender<Errand>> {
-    let taken = handings.get(number)?.lock(rt).take();
+fn take_sender<R: Wait>(rt: &R, slots: &[SenderSlot], number: usize) -> Option<Sender<JobRequest>> {
+    let taken = slots.get(number)?.lock(rt).take();
     taken
 }
 
@@ -105,44 +100,48 @@ fn take_handing<R: Wait>(rt: &R, handings: &[Handing], number: usize) -> Option<
 /// time, a session ends at its next read, and the workers end once all session threads have ended, or once no job has
 /// come for a while.
 #[derive(Drop)]
-pub struct NodeThreads<'a, O: Opening, C: NodeCore, N: Network> {
-    pub station: &'a Station<O, C, N>,
+pub struct NodeThreads<'a, D: SharedNode, N: Network> {
+    pub node: Node,
+    pub desk: &'a D,
     pub network: &'a N,
     /// The nodes that it sends to.
     pub peers: &'a [Node],
-    /// The muster at which each thread reports once when it begins.
-    muster: &'a Muster,
-    alloc: Global,
-    handings: Vec<Handing>,
-    errands: Receiver<Errand>,
+    /// The barrier at which each thread arrives once when it begins.
+    barrier: &'a StartBarrier,
+    pub(crate) alloc: Global,
+    slots: Vec<SenderSlot>,
+    pub(crate) requests: Receiver<JobRequest>,
     /// How many accepts in a row have failed, at all session threads together.
-    failures: Mutex<u32>,
+    pub(crate) failures: Mutex<u32>,
 }
 
-impl<'a, O: Opening, C: NodeCore, N: Network> NodeThreads<'a, O, C, N> {
-    /// The threads of the node at that station, which sends to these peers over that network. None has begun, and each
-    /// reports at the muster when it does. Fails with `NoMemory` if memory ran out.
+impl<'a, D: SharedNode, N: Network> NodeThreads<'a, D, N> {
+    /// The threads of that node at its desk, which sends to these peers over that network. None has begun, and each
+    /// arrives at the barrier when it does. Fails with `NoMemory` if memory ran out.
     pub fn new(
         alloc: Global,
-        station: &'a Station<O, C, N>,
+        node: Node,
+        desk: &'a D,
         network: &'a N,
         peers: &'a [Node],
-        muster: &'a Muster,
-    ) -> Result<NodeThreads<'a, O, C, N>, NoMemory>
-        ensures station { IfOk result (λ node. node.station ≡ station.entry) }
-        ensures network { IfOk result (λ node. node.network ≡ network.entry) }
-        ensures peers { IfOk result (λ node. node.peers ≡ peers.entry) }
+        barrier: &'a StartBarrier,
+    ) -> Result<NodeThreads<'a, D, N>, NoMemory>
+        ensures node { IfOk result (λ threads. threads.node ≡ node) }
+        ensures desk { IfOk result (λ threads. threads.desk ≡ desk.entry) }
+        ensures network { IfOk result (λ threads. threads.network ≡ network.entry) }
+        ensures peers { IfOk result (λ threads. threads.peers ≡ peers.entry) }
     {
-        let (sender, errands) = crossbeam_channel::bounded(alloc, MOST_JOBS)?;
-        let handings = handings_of(alloc, &sender)?;
+        let (sender, requests) = crossbeam_channel::bounded(alloc, MOST_JOBS)?;
+        let slots = sender_slots(alloc, &sender)?;
         Ok(NodeThreads {
-            station,
+            node,
+            desk,
             network,
             peers,
-            muster,
+            barrier,
             alloc,
-            handings,
-            errands,
+            slots,
+            requests,
             failures: Mutex::new(0),
         })
     }
@@ -154,37 +153,29 @@ impl<'a, O: Opening, C: NodeCore, N: Network> NodeThreads<'a, O, C, N> {
         1 + SESSION_THREADS + WORKERS + self.peers.len()
     }
 
-    /// Runs the thread with that index to its end, with a seat of its own at the node's desk. It reports at the muster
+    /// Runs the thread with that index to its end, with a seat of its own at the node's desk. It arrives at the barrier
     /// first, and ends soon after the desk stops, even if other threads of the node haven't begun.
     pub(crate) fn run_thread<R: Wait + SystemClock>(&self, rt: &R, index: usize, seat: &mut Seat)
-        requires { AreOfThread
-            (N.leads self.now.network.now) N.Reader.remaining N.Writer.contents
-            N.Store.NodeStore O.opened (N.Clock.tells self.now.network.now) seat.old }
-        ensures taken { AreOfThread
-            (N.leads self.now.network.now) N.Reader.remaining N.Writer.contents
-            N.Store.NodeStore O.opened (N.Clock.tells self.now.network.now) seat.new }
+        requires { AreOfThread D.is_to_send
+            (IsReceivedBy (N.leads self.now.network.now) N.Reader.remaining N.Writer.contents)
+            (N.Clock.tells self.now.network.now) seat.old }
+        ensures taken { AreOfThread D.is_to_send
+            (IsReceivedBy (N.leads self.now.network.now) N.Reader.remaining N.Writer.contents)
+            (N.Clock.tells self.now.network.now) seat.new }
         ensures none { HasNoOrder seat.new }
     {
-        self.muster.report(rt);
-        match post_at(index) {
-            Post::Commit => commit_all(rt, &self.station.desk),
-            Post::Serve(number) => {
-                if let Some(errands) = take_handing(rt, self.handings.as_slice(), number) {
-                    serve_all(
-                        rt,
-                        self.alloc,
-                        self.station,
-                        self.network,
-                        &self.failures,
-                        &errands,
-                        seat,
-                    );
+        self.barrier.arrive(rt);
+        match role_of(index) {
+            ThreadRole::Commit => commit_all(rt, self.desk),
+            ThreadRole::Serve(number) => {
+                if let Some(jobs) = take_sender(rt, self.slots.as_slice(), number) {
+                    self.serve_all(rt, &jobs, seat);
                 }
             }
-            Post::Work => work(rt, self.station, self.network, &self.errands, seat),
-            Post::Send(at) => {
+            ThreadRole::Work => self.work(rt, seat),
+            ThreadRole::Send(at) => {
                 if let Some(peer) = self.peers.get(at) {
-                    send_all(rt, self.alloc, self.station, self.network, *peer, seat);
+                    send_all(rt, self.alloc, self.desk, self.network, *peer, seat);
                 }
             }
         }
@@ -192,6 +183,6 @@ impl<'a, O: Opening, C: NodeCore, N: Network> NodeThreads<'a, O, C, N> {
 
     /// Stops the node, none of whose threads was started, so that no thread waits for a commit.
     pub(crate) fn give_up<R: Wait>(&self, rt: &R) {
-        self.station.desk.stop(rt);
+        self.desk.stop(rt);
     }
 }

@@ -2,12 +2,12 @@
 ghost use Rattle.std.specs.Prelude.{◌≡◌, [], ℕ, All, length, vec_len, slice_get, IfOk, Ok, Some};
 ghost use Rattle.std.specs.Thread.{IsSync};
 ghost use Rattle.sessions.specs.Orders.{HasNoOrder, HaveNoOrders};
+ghost use Rattle.sessions.specs.Sending.{IsReceivedBy};
 ghost use Rattle.sessions.specs.Threads.{AreOfThread, thread_count};
 
 use crate::network::Network;
 use crate::node_threads::NodeThreads;
-use desk::{Opening, Seat};
-use protocol::NodeCore;
+use desk::{Seat, SharedNode};
 use std::alloc::Global;
 use std::rt::Clock as SystemClock;
 use std::sync::Wait;
@@ -33,20 +33,19 @@ pub fn new_seats(alloc: Global, count: usize) -> Result<Vec<Seat>, NoMemory>
 /// If the system has no thread for one of them, another runs it once it has ended its own, and until then it hasn't
 /// begun. A caller that gives orders at the node's desk should wait until all have begun, and stop the desk if one is
 /// missing.
-pub fn run_node<O, C, N, R>(
+pub fn run_node<D, N, R>(
     rt: &R,
     alloc: Global,
-    node: &NodeThreads<'_, O, C, N>,
+    node: &NodeThreads<'_, D, N>,
 ) -> Result<Vec<Seat>, NoMemory>
 where
-    O: Opening + Send,
-    C: NodeCore + Send,
+    D: SharedNode + Sync,
     N: Network,
     R: Threads + Wait + SystemClock + Sync,
     ensures len { IfOk result (λ seats. vec_len seats ≡ thread_count (length node.now.peers.now)) }
-    ensures taken { IfOk result (λ seats. All (AreOfThread
-        (N.leads node.now.network.now) N.Reader.remaining N.Writer.contents
-        N.Store.NodeStore O.opened (N.Clock.tells node.now.network.now)) seats.items) }
+    ensures taken { IfOk result (λ seats. All (AreOfThread D.is_to_send
+        (IsReceivedBy (N.leads node.now.network.now) N.Reader.remaining N.Writer.contents)
+        (N.Clock.tells node.now.network.now)) seats.items) }
     ensures none { IfOk result (λ seats. All HasNoOrder seats.items) }
 {
     let mut seats = new_seats(alloc, node.count())?;
@@ -58,12 +57,12 @@ where
         // It isn't inferred here that `rt` may be shared.
         &|index: usize, seat: &mut Seat|
             requires sync { IsSync R.row }
-            requires taken { AreOfThread
-                (N.leads node.now.network.now) N.Reader.remaining N.Writer.contents
-                N.Store.NodeStore O.opened (N.Clock.tells node.now.network.now) seat.old }
-            ensures taken { AreOfThread
-                (N.leads node.entry.now.network.now) N.Reader.remaining N.Writer.contents
-                N.Store.NodeStore O.opened (N.Clock.tells node.entry.now.network.now) seat.new }
+            requires taken { AreOfThread D.is_to_send
+                (IsReceivedBy (N.leads node.now.network.now) N.Reader.remaining N.Writer.contents)
+                (N.Clock.tells node.now.network.now) seat.old }
+            ensures taken { AreOfThread D.is_to_send
+                (IsReceivedBy (N.leads node.entry.now.network.now) N.Reader.remaining N.Writer.contents)
+                (N.Clock.tells node.entry.now.network.now) seat.new }
             ensures none { HasNoOrder seat.new }
         { node.run_thread(rt, index, seat) },
     );
@@ -71,20 +70,19 @@ where
 }
 
 /// As `run_node`. If memory ran out, the node has stopped.
-fn run_one<O, C, N, R>(
+fn run_one<D, N, R>(
     rt: &R,
     alloc: Global,
-    node: &NodeThreads<'_, O, C, N>,
+    node: &NodeThreads<'_, D, N>,
 ) -> Result<Vec<Seat>, NoMemory>
 where
-    O: Opening + Send,
-    C: NodeCore + Send,
+    D: SharedNode + Sync,
     N: Network,
     R: Threads + Wait + SystemClock + Sync,
     ensures len { IfOk result (λ seats. vec_len seats ≡ thread_count (length node.now.peers.now)) }
-    ensures taken { IfOk result (λ seats. All (AreOfThread
-        (N.leads node.now.network.now) N.Reader.remaining N.Writer.contents
-        N.Store.NodeStore O.opened (N.Clock.tells node.now.network.now)) seats.items) }
+    ensures taken { IfOk result (λ seats. All (AreOfThread D.is_to_send
+        (IsReceivedBy (N.leads node.now.network.now) N.Reader.remaining N.Writer.contents)
+        (N.Clock.tells node.now.network.now)) seats.items) }
     ensures none { IfOk result (λ seats. All HasNoOrder seats.items) }
 {
     let seats = run_node(rt, alloc, node);
@@ -98,14 +96,13 @@ where
 /// the order of the nodes. Nothing that happens at one node stops another one; if memory ran out for a node's threads,
 /// it has `NoMemory` in place of seats, and has stopped. Fails with `NoMemory` if memory ran out: then nothing is
 /// reported of the work of the threads.
-pub fn run_all<O, C, N, R>(
+pub fn run_all<D, N, R>(
     rt: &R,
     alloc: Global,
-    nodes: Vec<NodeThreads<'_, O, C, N>>,
+    nodes: Vec<NodeThreads<'_, D, N>>,
 ) -> Result<Vec<Result<Vec<Seat>, NoMemory>>, NoMemory>
 where
-    O: Opening + Send,
-    C: NodeCore + Send,
+    D: SharedNode + Sync,
     N: Network,
     R: Threads + Wait + SystemClock + Sync,
     ensures count { IfOk result (λ ends. vec_len ends ≡ vec_len nodes.entry) }
@@ -116,20 +113,20 @@ where
     ensures taken { IfOk result
         (λ ends. (k : ℕ) (node : _) (seats : _) → slice_get nodes.entry.items k ≡ Some node
         → slice_get ends.items k ≡ Some (Ok seats)
-        → All (AreOfThread
-        (N.leads node.network.now) N.Reader.remaining N.Writer.contents
-        N.Store.NodeStore O.opened (N.Clock.tells node.network.now)) seats.items) }
+        → All (AreOfThread D.is_to_send
+        (IsReceivedBy (N.leads node.network.now) N.Reader.remaining N.Writer.contents)
+        (N.Clock.tells node.network.now)) seats.items) }
     ensures none { IfOk result (λ ends. HaveNoOrders ends.items) }
 {
     let ends = thread::map_vec(
         rt,
         nodes,
-        &|node: NodeThreads<'_, O, C, N>| -> Result<Vec<Seat>, NoMemory>
+        &|node: NodeThreads<'_, D, N>| -> Result<Vec<Seat>, NoMemory>
             requires { IsSync R.row }
             ensures len { IfOk result (λ seats. vec_len seats ≡ thread_count (length node.entry.peers.now)) }
-            ensures taken { IfOk result (λ seats. All (AreOfThread
-                (N.leads node.entry.network.now) N.Reader.remaining N.Writer.contents
-                N.Store.NodeStore O.opened (N.Clock.tells node.entry.network.now)) seats.items) }
+            ensures taken { IfOk result (λ seats. All (AreOfThread D.is_to_send
+                (IsReceivedBy (N.leads node.entry.network.now) N.Reader.remaining N.Writer.contents)
+                (N.Clock.tells node.entry.network.now)) seats.items) }
             ensures none { IfOk result (λ seats. All HasNoOrder seats.items) }
         { run_one(rt, alloc, &node) },
     )?;

@@ -1,15 +1,13 @@
 //! A thread that sends a node's messages to one peer.
 ghost use Rattle.sessions.specs.Pauses.{RowAfter};
+ghost use Rattle.sessions.specs.Sending.{IsReceivedBy};
 ghost use Rattle.sessions.specs.Threads.{AreOfThread};
 
+use crate::back_off::BackOff;
 use crate::elapsed::have_passed;
 use crate::network::Network;
-use crate::patience::Patience;
 use crate::sending::{Sent, send_next};
-use crate::station::Station;
-use desk::stores::NodeStore;
-use desk::{Bell, Desk, Opening, Seat};
-use protocol::NodeCore;
+use desk::{Bell, RoomBell, Seat, SharedNode};
 use std::alloc::Global;
 use std::rt::Clock as SystemClock;
 use std::sync::Wait;
@@ -26,36 +24,37 @@ pub(crate) enum RoundEnd {
 }
 
 /// Sends the unacknowledged messages to a peer: the one with the least key, and then those with higher keys, each once.
-/// Ends if no connection could be made, so that a peer that is down costs one connect a round. `patience` counts that
+/// Ends if no connection could be made, so that a peer that is down costs one connect a round. `back_off` counts that
 /// failure, and each connection that was made ends the row before.
-fn send_round<O: Opening, C: NodeCore, N: Network, R: Wait>(
+fn send_round<D: SharedNode, N: Network, R: Wait>(
     rt: &R,
     alloc: Global,
-    station: &Station<O, C, N>,
+    desk: &D,
     network: &N,
     peer: Node,
     seat: &mut Seat,
-    patience: &mut Patience,
+    back_off: &mut BackOff,
 ) -> RoundEnd
-    requires { AreOfThread (N.leads network.now) N.Reader.remaining N.Writer.contents
-        N.Store.NodeStore O.opened (N.Clock.tells network.now) seat.old }
-    ensures taken { AreOfThread
-        (N.leads network.now) N.Reader.remaining N.Writer.contents
-        N.Store.NodeStore O.opened (N.Clock.tells network.now) seat.new }
-    ensures row { RowAfter patience.old.failures patience.new.failures result }
+    requires { AreOfThread D.is_to_send
+        (IsReceivedBy (N.leads network.now) N.Reader.remaining N.Writer.contents) (N.Clock.tells network.now)
+        seat.old }
+    ensures taken { AreOfThread D.is_to_send
+        (IsReceivedBy (N.leads network.now) N.Reader.remaining N.Writer.contents) (N.Clock.tells network.now)
+        seat.new }
+    ensures row { RowAfter back_off.old.failures back_off.new.failures result }
 {
     let mut from: usize = 0;
     for _ in rt.forever() {
-        match send_next(rt, alloc, &station.desk, seat, network, peer, from) {
+        match send_next(rt, alloc, desk, seat, network, peer, from) {
             Sent::Received(key) | Sent::NotReceived(key) => {
-                patience.end_row();
+                back_off.reset();
                 match key.checked_add(1) {
                     Some(next) => from = next,
                     None => return RoundEnd::Done,
                 }
             }
             Sent::Unreachable(_) => {
-                patience.count_failure();
+                back_off.count_failure();
                 return RoundEnd::Unreachable;
             }
             Sent::Nothing | Sent::NoMemory => return RoundEnd::Done,
@@ -67,12 +66,7 @@ fn send_round<O: Opening, C: NodeCore, N: Network, R: Wait>(
 /// Waits until that many seconds have passed, or the desk has stopped. Looks at the desk whenever that bell of it
 /// rings, as it does when the desk stops, and every `LONGEST_QUIET` seconds, and so may wait up to that much longer. If
 /// the time can't be read, it waits once.
-fn pause<O: Opening, C: NodeCore, S: NodeStore, B: Bell, R: Wait + SystemClock>(
-    rt: &R,
-    desk: &Desk<O, C, S, B>,
-    bell: &B,
-    seconds: u64,
-) {
+fn pause<D: SharedNode, R: Wait + SystemClock>(rt: &R, desk: &D, bell: &RoomBell, seconds: u64) {
     let begun = Instant::now(rt).ok();
     for _ in rt.forever() {
         // Read before the desk is looked at, so that no ring between the two is missed.
@@ -92,30 +86,32 @@ fn pause<O: Opening, C: NodeCore, S: NodeStore, B: Bell, R: Wait + SystemClock>(
 /// node. If a round ends because no connection could be made, the next one begins after a pause: of one second after
 /// the first such round, and of twice as long after each further one in a row, up to 60 seconds. A connection that was
 /// made ends the row.
-pub(crate) fn send_all<O: Opening, C: NodeCore, N: Network, R: Wait + SystemClock>(
+pub(crate) fn send_all<D: SharedNode, N: Network, R: Wait + SystemClock>(
     rt: &R,
     alloc: Global,
-    station: &Station<O, C, N>,
+    desk: &D,
     network: &N,
     peer: Node,
     seat: &mut Seat,
 )
-    requires { AreOfThread (N.leads network.now) N.Reader.remaining N.Writer.contents
-        N.Store.NodeStore O.opened (N.Clock.tells network.now) seat.old }
-    ensures { AreOfThread (N.leads network.now) N.Reader.remaining N.Writer.contents
-        N.Store.NodeStore O.opened (N.Clock.tells network.now) seat.new }
+    requires { AreOfThread D.is_to_send
+        (IsReceivedBy (N.leads network.now) N.Reader.remaining N.Writer.contents) (N.Clock.tells network.now)
+        seat.old }
+    ensures { AreOfThread D.is_to_send
+        (IsReceivedBy (N.leads network.now) N.Reader.remaining N.Writer.contents) (N.Clock.tells network.now)
+        seat.new }
 {
-    let mut patience = Patience::new();
+    let mut back_off = BackOff::new();
     for _ in rt.forever() {
-        let bell = station.desk.bells().of_peer(peer);
+        let bell = desk.bells().of_peer(peer);
         // Read before the desk is looked at, so that no ring between the two is missed.
         let rings = bell.rings(rt);
-        if !station.desk.is_running(rt) {
+        if !desk.is_running(rt) {
             break;
         }
-        match send_round(rt, alloc, station, network, peer, seat, &mut patience) {
+        match send_round(rt, alloc, desk, network, peer, seat, &mut back_off) {
             RoundEnd::Done => bell.wait(rt, rings),
-            RoundEnd::Unreachable => pause(rt, &station.desk, bell, patience.pause()),
+            RoundEnd::Unreachable => pause(rt, desk, bell, back_off.pause()),
         }
     }
 }

@@ -1,16 +1,14 @@
 //! Messages on their way to other nodes.
-ghost use Rattle.sessions.specs.Sending.{Acknowledges, Sends, Tries};
+ghost use Rattle.sessions.specs.Sending.{Acknowledges, IsReceivedBy, Sends, Tries};
 
-use crate::delivery::{Delivered, Undelivered, deliver};
+use crate::delivery::{Delivered, Outgoing, Undelivered};
 use crate::network::Network;
-use desk::stores::NodeStore;
-use desk::{Bell, Desk, Opening, Seat};
+use desk::{Seat, SharedNode};
 use exchanges::Exchange;
-use protocol::NodeCore;
 use std::alloc::Global;
 use std::sync::Wait;
 use units::Node;
-use wire::{Input, Message, Number};
+use wire::{Input, Number};
 
 /// The outcome for the next message to a peer.
 #[derive(Clone, Copy, Debug, PartialEq, Eq)]
@@ -30,25 +28,21 @@ pub(crate) enum Sent {
 }
 
 /// Has the desk take the acknowledgement of the message with that key.
-fn take_acknowledgement<O: Opening, C: NodeCore, S: NodeStore, B: Bell, R: Wait>(
-    rt: &R,
-    desk: &Desk<O, C, S, B>,
-    seat: &mut Seat,
-    key: Number,
-)
+fn take_acknowledgement<D: SharedNode, R: Wait>(rt: &R, desk: &D, seat: &mut Seat, key: Number)
     ensures { Acknowledges seat.old seat.new key.value }
 {
     let _taken = desk.take(rt, seat, Input::Ack(key));
 }
 
 /// Has the desk take the acknowledgement of a message that was delivered, if its key has few enough digits.
-fn acknowledge<O: Opening, C: NodeCore, S: NodeStore, B: Bell, N: Network, R: Wait>(
+fn acknowledge<D: SharedNode, N: Network, R: Wait>(
     rt: &R,
-    desk: &Desk<O, C, S, B>,
+    desk: &D,
     seat: &mut Seat,
     delivered: &Delivered<'_, N>,
 ) -> Sent
-    ensures { Tries (N.leads delivered.now.network) N.Reader.remaining N.Writer.contents
+    ensures { Tries
+        (IsReceivedBy (N.leads delivered.now.network) N.Reader.remaining N.Writer.contents)
         delivered.now.peer delivered.now.message seat.old seat.new delivered.now.key result }
 {
     let key = delivered.key();
@@ -59,48 +53,55 @@ fn acknowledge<O: Opening, C: NodeCore, S: NodeStore, B: Bell, N: Network, R: Wa
     Sent::Received(key)
 }
 
-/// Sends the message with that key over a connection of its own, and acknowledges it if it was delivered.
-fn send<O: Opening, C: NodeCore, S: NodeStore, B: Bell, N: Network, R: Wait>(
+/// Sends the message over a connection of its own, and acknowledges it if it was delivered.
+fn send<D: SharedNode, N: Network, R: Wait>(
     rt: &R,
     alloc: Global,
-    desk: &Desk<O, C, S, B>,
+    desk: &D,
     seat: &mut Seat,
-    network: &N,
-    peer: Node,
-    key: usize,
-    message: &Message,
+    outgoing: &Outgoing<'_, N>,
 ) -> Sent
-    ensures { Tries (N.leads network.now) N.Reader.remaining N.Writer.contents
-        peer message.now seat.old seat.new key result }
+    ensures { Tries
+        (IsReceivedBy (N.leads outgoing.now.network.now) N.Reader.remaining N.Writer.contents)
+        outgoing.now.peer outgoing.now.message.now seat.old seat.new outgoing.now.key result }
 {
-    match deliver(alloc, network, peer, key, message) {
+    match outgoing.deliver(alloc) {
         Ok(delivered) => acknowledge(rt, desk, seat, &delivered),
-        Err(Undelivered::NoConnection) => Sent::Unreachable(key),
+        Err(Undelivered::NoConnection) => Sent::Unreachable(outgoing.key),
         Err(Undelivered::Ended(Exchange::NoMemory)) => Sent::NoMemory,
-        Err(Undelivered::Ended(_)) => Sent::NotReceived(key),
+        Err(Undelivered::Ended(_)) => Sent::NotReceived(outgoing.key),
     }
 }
 
 /// Sends the next message to a peer: the one with the least key, from `from` on, that the committed records send and no
 /// record acknowledges. Makes one exchange over a connection of its own; if the peer replies that the message was
 /// received, the desk is given its acknowledgement with the sender's seat, and otherwise the seat notes nothing.
-pub(crate) fn send_next<O: Opening, C: NodeCore, S: NodeStore, B: Bell, N: Network, R: Wait>(
+pub(crate) fn send_next<D: SharedNode, N: Network, R: Wait>(
     rt: &R,
     alloc: Global,
-    desk: &Desk<O, C, S, B>,
+    desk: &D,
     seat: &mut Seat,
     network: &N,
     peer: Node,
     from: usize,
 ) -> Sent
-    ensures { Sends (N.leads network.now) N.Reader.remaining N.Writer.contents S.NodeStore O.opened
+    ensures { Sends D.is_to_send
+        (IsReceivedBy (N.leads network.now) N.Reader.remaining N.Writer.contents)
         peer from seat.old seat.new result }
 {
     let Ok(found) = desk.next_send(rt, peer, from) else {
         return Sent::NoMemory;
     };
     match found {
-        Some((key, message)) => send(rt, alloc, desk, seat, network, peer, key, &message),
+        Some((key, message)) => {
+            let outgoing = Outgoing {
+                network,
+                peer,
+                key,
+                message: &message,
+            };
+            send(rt, alloc, desk, seat, &outgoing)
+        }
         None => Sent::Nothing,
     }
 }

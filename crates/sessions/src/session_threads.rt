@@ -4,14 +4,12 @@ ghost use Rattle.sessions.specs.Serving.{IsRepliedTo};
 
 use crate::connections::Accepted;
 use crate::network::Network;
-use crate::station::Station;
+use crate::node_threads::NodeThreads;
 use crate::watched_reader::WatchedReader;
-use crate::workers::{Errand, WorkersAnswerer};
+use crate::workers::{JobRequest, WorkersAnswerer};
 use crossbeam_channel::Sender;
-use desk::stores::NodeStore;
-use desk::{Bell, Desk, Opening, Seat};
+use desk::{Seat, SharedNode};
 use exchanges::{Counted, SessionEnd, serve_session};
-use protocol::NodeCore;
 use std::alloc::Global;
 use std::io::{Read, Write};
 use std::rt::Clock as SystemClock;
@@ -46,11 +44,7 @@ fn pause_after(failures: u32) -> Duration {
 
 /// Counts one more failed accept. The desk stops if that makes `MOST_FAILED_ACCEPTS` in a row, and otherwise this
 /// thread pauses.
-fn stop_or_pause<O: Opening, C: NodeCore, S: NodeStore, B: Bell, R: Wait + SystemClock>(
-    rt: &R,
-    desk: &Desk<O, C, S, B>,
-    failures: &Mutex<u32>,
-) {
+fn stop_or_pause<D: SharedNode, R: Wait + SystemClock>(rt: &R, desk: &D, failures: &Mutex<u32>) {
     let count = count_failure(rt, failures);
     if count >= MOST_FAILED_ACCEPTS {
         desk.stop(rt);
@@ -65,21 +59,13 @@ fn stop_or_pause<O: Opening, C: NodeCore, S: NodeStore, B: Bell, R: Wait + Syste
 ///
 /// Returns the connection if its stream ended after a line or was empty, and each line got a reply. Any other
 /// connection is dropped.
-fn serve_one<
-    O: Opening,
-    C: NodeCore,
-    S: NodeStore,
-    B: Bell,
-    Rd: Read + Drop,
-    Wr: Write + Drop,
-    R: Wait + SystemClock,
->(
+fn serve_one<D: SharedNode, Rd: Read + Drop, Wr: Write + Drop, R: Wait + SystemClock>(
     rt: &R,
     alloc: Global,
-    desk: &Desk<O, C, S, B>,
+    desk: &D,
     reader: Rd,
     writer: Wr,
-    errands: &Sender<Errand>,
+    jobs: &Sender<JobRequest>,
     seat: &mut Seat,
 ) -> Option<(Rd, Wr)>
     ensures kept { seat.new.tickets ≡ seat.old.tickets }
@@ -88,7 +74,7 @@ fn serve_one<
 {
     let mut reader = Counted::new(WatchedReader::new(rt, desk, reader));
     let mut writer = Counted::new(writer);
-    let mut answerer = WorkersAnswerer::new(rt, alloc, desk, errands);
+    let mut answerer = WorkersAnswerer::new(rt, alloc, desk, jobs);
     let end = serve_session(alloc, &mut reader, &mut writer, &mut answerer);
     answerer.confirm_all(seat);
     drop(answerer);
@@ -98,37 +84,36 @@ fn serve_one<
     }
 }
 
-/// Accepts connections and serves each to its end, until the desk stops. A connection whose stream ended after a line
-/// is given back to the network. It stops the desk if `MOST_FAILED_ACCEPTS` accepts in a row failed, at all session
-/// threads together. An accept to which nobody came isn't a failed one, and doesn't end the row.
-///
-/// A node has `SESSION_THREADS` such threads. If the system has no thread for some of them, fewer sessions are served
-/// at a time, or none. The seat makes no record: it keeps the receipts of the thread's answers.
-pub(crate) fn serve_all<O: Opening, C: NodeCore, N: Network, R: Wait + SystemClock>(
-    rt: &R,
-    alloc: Global,
-    station: &Station<O, C, N>,
-    network: &N,
-    failures: &Mutex<u32>,
-    errands: &Sender<Errand>,
-    seat: &mut Seat,
-)
-    ensures { seat.new.tickets ≡ seat.old.tickets }
-{
-    for _ in rt.forever() {
-        if !station.desk.is_running(rt) {
-            break;
-        }
-        match network.accept(station.node) {
-            Accepted::Connection(reader, writer) => {
-                *failures.lock(rt) = 0;
-                let served = serve_one(rt, alloc, &station.desk, reader, writer, errands, seat);
-                if let Some((reader, writer)) = served {
-                    network.give_back(station.node, reader, writer);
-                }
+impl<D: SharedNode, N: Network> NodeThreads<'_, D, N> {
+    /// Accepts connections and serves each to its end, until the desk stops. A connection whose stream ended after a
+    /// line is given back to the network. It stops the desk if `MOST_FAILED_ACCEPTS` accepts in a row failed, at all
+    /// session threads together. An accept to which nobody came isn't a failed one, and doesn't end the row.
+    ///
+    /// A node has `SESSION_THREADS` such threads. If the system has no thread for some of them, fewer sessions are
+    /// served at a time, or none. The seat makes no record: it keeps the receipts of the thread's answers.
+    pub(crate) fn serve_all<R: Wait + SystemClock>(
+        &self,
+        rt: &R,
+        jobs: &Sender<JobRequest>,
+        seat: &mut Seat,
+    )
+        ensures { seat.new.tickets ≡ seat.old.tickets }
+    {
+        for _ in rt.forever() {
+            if !self.desk.is_running(rt) {
+                break;
             }
-            Accepted::Nobody => {}
-            Accepted::Failed => stop_or_pause(rt, &station.desk, failures),
+            match self.network.accept(self.node) {
+                Accepted::Connection(reader, writer) => {
+                    *self.failures.lock(rt) = 0;
+                    let served = serve_one(rt, self.alloc, self.desk, reader, writer, jobs, seat);
+                    if let Some((reader, writer)) = served {
+                        self.network.give_back(self.node, reader, writer);
+                    }
+                }
+                Accepted::Nobody => {}
+                Accepted::Failed => stop_or_pause(rt, self.desk, &self.failures),
+            }
         }
     }
 }

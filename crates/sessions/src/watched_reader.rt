@@ -5,9 +5,7 @@ ghost use Rattle.std.specs.Io.KnownBytes.{ReadConsumes};
 ghost use Rattle.sessions.specs.Serving.{newlines};
 
 use crate::elapsed::have_passed;
-use desk::stores::NodeStore;
-use desk::{Bell, Desk, Opening};
-use protocol::NodeCore;
+use desk::SharedNode;
 use std::io::{self, ErrorKind, Read};
 use std::rt::Clock as SystemClock;
 use std::sync::Wait;
@@ -33,10 +31,10 @@ fn newlines_in(bytes: &[u8]) -> usize
 /// A reader that reads on only while a desk runs, the current line was begun less than ten seconds ago, the session
 /// less than 60 seconds ago, and fewer than `MOST_SESSION_LINES` newlines were read.
 #[derive(Drop)]
-pub struct WatchedReader<'a, Rd, O: Opening, C: NodeCore, S: NodeStore, B: Bell, R> {
+pub struct WatchedReader<'a, Rd, D: SharedNode, R> {
     inner: Rd,
     rt: &'a R,
-    desk: &'a Desk<O, C, S, B>,
+    desk: &'a D,
     /// When the session began, if known.
     opened: Option<Instant>,
     /// When the line that is being read was begun, if there is one.
@@ -45,22 +43,10 @@ pub struct WatchedReader<'a, Rd, O: Opening, C: NodeCore, S: NodeStore, B: Bell,
     lines: usize,
 }
 
-impl<'a, Rd, O: Opening, C: NodeCore, S: NodeStore, B: Bell, R: Wait + SystemClock> WatchedReader<
-    'a,
-    Rd,
-    O,
-    C,
-    S,
-    B,
-    R,
-> {
+impl<'a, Rd, D: SharedNode, R: Wait + SystemClock> WatchedReader<'a, Rd, D, R> {
     /// A reader for a session that begins now. No line is begun, and none was read. If the time can't be read, the
     /// session ends at its first read.
-    pub fn new(
-        rt: &'a R,
-        desk: &'a Desk<O, C, S, B>,
-        inner: Rd,
-    ) -> WatchedReader<'a, Rd, O, C, S, B, R>
+    pub fn new(rt: &'a R, desk: &'a D, inner: Rd) -> WatchedReader<'a, Rd, D, R>
         ensures inner { result.inner ≡ inner }
         ensures lines { result.lines ≡ 0 }
     {
@@ -122,8 +108,7 @@ impl<'a, Rd, O: Opening, C: NodeCore, S: NodeStore, B: Bell, R: Wait + SystemClo
     }
 }
 
-impl<'a, Rd: Read, O: Opening, C: NodeCore, S: NodeStore, B: Bell, R: Wait + SystemClock> Read
-    for WatchedReader<'a, Rd, O, C, S, B, R> {
+impl<'a, Rd: Read, D: SharedNode, R: Wait + SystemClock> Read for WatchedReader<'a, Rd, D, R> {
     ghost remaining = { λ w. Rd.remaining w.inner };
 
     /// Fails with `TimedOut` if the desk doesn't run, if the line or the session takes too long, and if

@@ -3,15 +3,14 @@ ghost use Rattle.std.specs.Prelude.{◌≡◌, ◌⊎◌, [], IfOk};
 ghost use Rattle.units.specs.RefusalCodes.{not_a_message, out_of_memory};
 ghost use Rattle.replies.specs.Answers.{IsRefusedBy};
 ghost use Rattle.replies.specs.Lines.{IsNoLine};
+ghost use Rattle.sessions.specs.Sending.{IsReceivedBy};
 ghost use Rattle.sessions.specs.Threads.{AreOfThread};
 
 use crate::network::Network;
-use crate::station::Station;
+use crate::node_threads::NodeThreads;
 use crossbeam_channel::{Receiver, RecvTimeoutError, Sender};
-use desk::stores::NodeStore;
-use desk::{Bell, Desk, LONGEST_QUIET, Opening, Seat};
+use desk::{LONGEST_QUIET, Seat, SharedNode};
 use exchanges::Answerer;
-use protocol::NodeCore;
 use replies::{Answer, Begun, Job, begin_job};
 use std::alloc::Global;
 use std::rt::Clock as SystemClock;
@@ -20,9 +19,9 @@ use std::time::Duration;
 use units::NoMemory;
 use wire::Reply;
 
-/// A job for a worker, and the channel by which the worker returns its result.
+/// A job that a worker is asked to do, and the channel by which the worker returns its result.
 #[derive(Drop)]
-pub(crate) struct Errand {
+pub(crate) struct JobRequest {
     job: Job,
     back: Sender<Begun>,
 }
@@ -31,36 +30,29 @@ pub(crate) struct Errand {
 /// receipt until the session ends. The limits of the session, which `WatchedReader` keeps, bound their number: it reads
 /// no more once it has read 1,024 newlines or has lasted 60 seconds.
 #[derive(Drop)]
-pub(crate) struct WorkersAnswerer<'a, O: Opening, C: NodeCore, S: NodeStore, B: Bell, R: Wait> {
+pub(crate) struct WorkersAnswerer<'a, D: SharedNode, R: Wait> {
     rt: &'a R,
     alloc: Global,
-    desk: &'a Desk<O, C, S, B>,
-    errands: &'a Sender<Errand>,
+    desk: &'a D,
+    jobs: &'a Sender<JobRequest>,
     answers: Vec<Answer>,
 }
 
-impl<'a, O: Opening, C: NodeCore, S: NodeStore, B: Bell, R: Wait> WorkersAnswerer<
-    'a,
-    O,
-    C,
-    S,
-    B,
-    R,
-> {
-    /// Replies by the workers of that desk, which take these errands. There are no answers yet.
+impl<'a, D: SharedNode, R: Wait> WorkersAnswerer<'a, D, R> {
+    /// Replies by the workers of that desk, which take the jobs of this channel. There are no answers yet.
     pub(crate) fn new(
         rt: &'a R,
         alloc: Global,
-        desk: &'a Desk<O, C, S, B>,
-        errands: &'a Sender<Errand>,
-    ) -> WorkersAnswerer<'a, O, C, S, B, R>
+        desk: &'a D,
+        jobs: &'a Sender<JobRequest>,
+    ) -> WorkersAnswerer<'a, D, R>
         ensures { result.answers.items ≡ [] }
     {
         WorkersAnswerer {
             rt,
             alloc,
             desk,
-            errands,
+            jobs,
             answers: Vec::new(alloc),
         }
     }
@@ -79,9 +71,9 @@ impl<'a, O: Opening, C: NodeCore, S: NodeStore, B: Bell, R: Wait> WorkersAnswere
 
 /// Waits for the next value that comes by the channel. `None` if no sender is left, or if the desk has stopped and no
 /// value has come for `LONGEST_QUIET` seconds.
-fn receive<T: Drop, O: Opening, C: NodeCore, S: NodeStore, B: Bell, R: Wait + SystemClock>(
+fn receive<T: Drop, D: SharedNode, R: Wait + SystemClock>(
     rt: &R,
-    desk: &Desk<O, C, S, B>,
+    desk: &D,
     channel: &Receiver<T>,
 ) -> Option<T> {
     for _ in rt.forever() {
@@ -101,19 +93,19 @@ fn receive<T: Drop, O: Opening, C: NodeCore, S: NodeStore, B: Bell, R: Wait + Sy
 /// Hands a job to a worker, and waits for its result. `None` if the desk has stopped before a worker took it, or if the
 /// channel has had no room for `LONGEST_QUIET` seconds, since no worker takes jobs any more then. Fails with `NoMemory`
 /// if memory ran out, and the job was handed to none.
-fn ask<O: Opening, C: NodeCore, S: NodeStore, B: Bell, R: Wait + SystemClock>(
+fn hand_over<D: SharedNode, R: Wait + SystemClock>(
     rt: &R,
     alloc: Global,
-    desk: &Desk<O, C, S, B>,
-    errands: &Sender<Errand>,
+    desk: &D,
+    jobs: &Sender<JobRequest>,
     job: Job,
 ) -> Result<Option<Begun>, NoMemory> {
     let Ok((back, begun)) = crossbeam_channel::bounded(alloc, 1) else {
         drop(job);
         return Err(NoMemory);
     };
-    let errand = Errand { job, back };
-    let handed = errands.send_timeout(rt, errand, Duration::from_secs(LONGEST_QUIET));
+    let request = JobRequest { job, back };
+    let handed = jobs.send_timeout(rt, request, Duration::from_secs(LONGEST_QUIET));
     let is_handed = handed.is_ok();
     drop(handed);
     let taken = if is_handed {
@@ -126,11 +118,7 @@ fn ask<O: Opening, C: NodeCore, S: NodeStore, B: Bell, R: Wait + SystemClock>(
 }
 
 /// The answer to a job with that result, after the commit if it waits for one.
-fn answer_begun<O: Opening, C: NodeCore, S: NodeStore, B: Bell, R: Wait + SystemClock>(
-    rt: &R,
-    desk: &Desk<O, C, S, B>,
-    begun: Begun,
-) -> Answer {
+fn answer_begun<D: SharedNode, R: Wait + SystemClock>(rt: &R, desk: &D, begun: Begun) -> Answer {
     match begun {
         Begun::Answered(answer) => answer,
         Begun::Pending(pending) => pending.wait(rt, desk),
@@ -140,11 +128,11 @@ fn answer_begun<O: Opening, C: NodeCore, S: NodeStore, B: Bell, R: Wait + System
 /// The answer to a line. If the line writes a message, a worker has the desk take the message, and this thread waits
 /// for the commit. If no worker takes it, the node has stopped. Fails with `NoMemory` if memory ran out, and the line
 /// was handed to no worker.
-fn answer_line<O: Opening, C: NodeCore, S: NodeStore, B: Bell, R: Wait + SystemClock>(
+fn answer_line<D: SharedNode, R: Wait + SystemClock>(
     rt: &R,
     alloc: Global,
-    desk: &Desk<O, C, S, B>,
-    errands: &Sender<Errand>,
+    desk: &D,
+    jobs: &Sender<JobRequest>,
     line: &[u8],
 ) -> Result<Answer, NoMemory>
     ensures line { IfOk result (λ answer. answer.line ≡ line.now) }
@@ -160,7 +148,7 @@ fn answer_line<O: Opening, C: NodeCore, S: NodeStore, B: Bell, R: Wait + SystemC
         drop(job);
         return Err(NoMemory);
     };
-    if let Some(begun) = ask(rt, alloc, desk, errands, job)? {
+    if let Some(begun) = hand_over(rt, alloc, desk, jobs, job)? {
         let answer = answer_begun(rt, desk, begun);
         // A worker's answer is to the job that it was handed.
         if answer.line() == line {
@@ -171,43 +159,40 @@ fn answer_line<O: Opening, C: NodeCore, S: NodeStore, B: Bell, R: Wait + SystemC
     Ok(Answer::stopped(copy))
 }
 
-impl<'a, O: Opening, C: NodeCore, S: NodeStore, B: Bell, R: Wait + SystemClock> Answerer
-    for WorkersAnswerer<'a, O, C, S, B, R> {
+impl<'a, D: SharedNode, R: Wait + SystemClock> Answerer for WorkersAnswerer<'a, D, R> {
     ghost use Rattle.replies.specs.Answers.{given_of};
 
     ghost given = { λ s. given_of s.answers.items };
 
     fn answer(&mut self, line: &[u8]) -> Result<Reply, NoMemory> {
         self.answers.reserve(1)?;
-        let answer = answer_line(self.rt, self.alloc, self.desk, self.errands, line)?;
+        let answer = answer_line(self.rt, self.alloc, self.desk, self.jobs, line)?;
         let reply = answer.reply();
         self.answers.push_reserved(answer);
         Ok(reply)
     }
 }
 
-/// Has the desk take the jobs of errands with this seat, and hands back the result of each without waiting for a
-/// commit, until no session thread is left. It also ends if the desk has stopped and no job comes, since a session
-/// thread may not have begun yet.
-pub(crate) fn work<O: Opening, C: NodeCore, N: Network, R: Wait + SystemClock>(
-    rt: &R,
-    station: &Station<O, C, N>,
-    network: &N,
-    errands: &Receiver<Errand>,
-    seat: &mut Seat,
-)
-    requires { AreOfThread (N.leads network.now) N.Reader.remaining N.Writer.contents
-        N.Store.NodeStore O.opened (N.Clock.tells network.now) seat.old }
-    ensures { AreOfThread (N.leads network.now) N.Reader.remaining N.Writer.contents
-        N.Store.NodeStore O.opened (N.Clock.tells network.now) seat.new }
-{
-    for _ in rt.forever() {
-        let Some(errand) = receive(rt, &station.desk, errands) else {
-            break;
-        };
-        let Errand { job, back } = errand;
-        let begun = begin_job(rt, &station.desk, seat, network, network, job);
-        drop(back.send(rt, begun));
-        drop(back);
+impl<D: SharedNode, N: Network> NodeThreads<'_, D, N> {
+    /// Has the desk take the jobs of the channel with this seat, and hands back the result of each without waiting for
+    /// a commit, until no session thread is left. It also ends if the desk has stopped and no job comes, since a
+    /// session thread may not have begun yet.
+    pub(crate) fn work<R: Wait + SystemClock>(&self, rt: &R, seat: &mut Seat)
+        requires { AreOfThread D.is_to_send
+            (IsReceivedBy (N.leads self.now.network.now) N.Reader.remaining N.Writer.contents)
+            (N.Clock.tells self.now.network.now) seat.old }
+        ensures { AreOfThread D.is_to_send
+            (IsReceivedBy (N.leads self.now.network.now) N.Reader.remaining N.Writer.contents)
+            (N.Clock.tells self.now.network.now) seat.new }
+    {
+        for _ in rt.forever() {
+            let Some(request) = receive(rt, self.desk, &self.requests) else {
+                break;
+            };
+            let JobRequest { job, back } = request;
+            let begun = begin_job(rt, self.desk, seat, self.network, self.network, job);
+            drop(back.send(rt, begun));
+            drop(back);
+        }
     }
 }

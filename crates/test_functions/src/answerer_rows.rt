@@ -3,7 +3,7 @@ use crate::same::assert_same;
 use crate::standing::standing_at;
 use crate::stations::{COMPLETED, NodeDesk, StillClock, UNKNOWN, desk_of, refused};
 use crate::worked_nodes::registry;
-use desk::Seat;
+use desk::{Seat, SharedNode};
 use exchanges::{Counted, SessionEnd, serve_session};
 use protocol::units::NoMemory;
 use protocol::units::refusal_code::{NODE_STOPPED, NOT_A_MESSAGE, OUT_OF_MEMORY};

@@ -6,7 +6,7 @@ use crate::nz_desk::{
 };
 use crate::same::{assert_same, assert_same_in};
 use crate::standing::{commit, commit_stored, next_for_log, next_key, query, take, take_stored};
-use desk::{Life, Seat, Taken, Told, Unsettled, settle};
+use desk::{Life, Seat, SharedNode, Taken, Told, Unsettled, settle};
 use protocol::status::{Status, TransactionId};
 use protocol::units::refusal_code::NODE_STOPPED;
 use protocol::units::{NoMemory, Refusal};

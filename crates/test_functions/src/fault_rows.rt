@@ -7,7 +7,7 @@ use crate::nz_desk::{
 use crate::same::assert_same;
 use crate::standing::{next_key, take};
 use desk::stores::{Kept, MemoryStore, NodeStore, StoreFault};
-use desk::{Ended, Life, Seat, State, Told};
+use desk::{Ended, Life, Seat, SharedNode, State, Told};
 use protocol::units::refusal_code::NODE_STOPPED;
 use protocol::units::{NoMemory, Refusal};
 use std::alloc::Global;

@@ -47,8 +47,6 @@ mod memory_store_rows;
 #[cfg(test)]
 mod message_rows;
 #[cfg(test)]
-mod muster_rows;
-#[cfg(test)]
 mod named;
 #[cfg(test)]
 mod nz_desk;
@@ -84,6 +82,8 @@ mod settle_rows;
 mod show_rows;
 #[cfg(test)]
 mod standing;
+#[cfg(test)]
+mod start_rows;
 #[cfg(test)]
 mod stations;
 #[cfg(test)]

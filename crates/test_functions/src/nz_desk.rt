@@ -8,7 +8,8 @@ use crate::same::{assert_same, assert_same_in};
 use crate::standing::{take, take_at};
 use desk::stores::{Kept, MemoryStore, NodeStore};
 use desk::{
-    Bells, Desk, Ended, Life, RoomBell, Seat, State, Stored, Taken, Told, Unsettled, settle,
+    Bells, Desk, Ended, Life, RoomBell, Seat, SharedNode, State, Stored, Taken, Told, Unsettled,
+    settle,
 };
 use protocol::scheme::Scheme;
 use protocol::units::{Code, NoMemory, Node};

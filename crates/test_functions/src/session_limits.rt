@@ -1,6 +1,7 @@
 use crate::failing_streams::long_line;
 use crate::nz_desk::{NzDesk, nz_desk};
 use crate::same::assert_same;
+use desk::SharedNode;
 use sessions::{MOST_SESSION_LINES, WatchedReader};
 use std::alloc::Global;
 use std::io::{ErrorKind, Read};

@@ -5,7 +5,7 @@ use crate::nz_desk::{
 };
 use crate::same::assert_same;
 use crate::standing::{commit, query, take};
-use desk::{Lengths, Life, Seat, Told, Unsettled, settle_with};
+use desk::{Lengths, Life, Seat, SharedNode, Told, Unsettled, settle_with};
 use protocol::Stepped;
 use protocol::units::NoMemory;
 use std::alloc::Global;

@@ -6,7 +6,7 @@ use crate::given::{Given, input_of};
 use crate::same::assert_same;
 use crate::worked_nodes::first_transfer;
 use desk::stores::{NodeStore, StoreFault};
-use desk::{Bell, Desk, Lengths, Opening, Seat, State, Stored, Taken, Told};
+use desk::{Lengths, Seat, SharedNode, State, Stored, Taken, Told};
 use protocol::NodeCore;
 use protocol::status::TransactionId;
 use protocol::units::{NoMemory, Node, Refusal};
@@ -53,11 +53,7 @@ pub fn of_state<C: NodeCore>(rt: &impl Abort, state: &State<C>) -> StateStanding
 }
 
 /// How many records the desk has. The result has the length even if memory runs out for a question.
-fn records_at<O: Opening, C: NodeCore, S: NodeStore, B: Bell, R: Wait + Abort>(
-    rt: &R,
-    alloc: Global,
-    desk: &Desk<O, C, S, B>,
-) -> usize {
+fn records_at<D: SharedNode, R: Wait + Abort>(rt: &R, alloc: Global, desk: &D) -> usize {
     let mut seat = Seat::new(alloc);
     let asked = desk.query(rt, &mut seat, first_transfer(rt));
     let records = asked.length();
@@ -67,9 +63,9 @@ fn records_at<O: Opening, C: NodeCore, S: NodeStore, B: Bell, R: Wait + Abort>(
 }
 
 /// The key and the transaction of the message that is next for the log, from that key on.
-pub fn next_for_log<O: Opening, C: NodeCore, S: NodeStore, B: Bell, R: Wait + Abort>(
+pub fn next_for_log<D: SharedNode, R: Wait + Abort>(
     rt: &R,
-    desk: &Desk<O, C, S, B>,
+    desk: &D,
     from: usize,
 ) -> Option<(usize, TransactionId)> {
     let found = again!(desk.next_send(rt, Node::Itl, from), Err(NoMemory) => ());
@@ -84,20 +80,16 @@ pub fn next_for_log<O: Opening, C: NodeCore, S: NodeStore, B: Bell, R: Wait + Ab
 }
 
 /// The key of that message.
-pub fn next_key<O: Opening, C: NodeCore, S: NodeStore, B: Bell, R: Wait + Abort>(
-    rt: &R,
-    desk: &Desk<O, C, S, B>,
-    from: usize,
-) -> Option<usize> {
+pub fn next_key<D: SharedNode, R: Wait + Abort>(rt: &R, desk: &D, from: usize) -> Option<usize> {
     let (key, _) = next_for_log(rt, desk, from)?;
     Some(key)
 }
 
 /// The contents of the desk, and the notes of the seat.
-pub fn standing_at<O: Opening, C: NodeCore, S: NodeStore, B: Bell, R: Wait + Abort>(
+pub fn standing_at<D: SharedNode, R: Wait + Abort>(
     rt: &R,
     alloc: Global,
-    desk: &Desk<O, C, S, B>,
+    desk: &D,
     seat: &Seat,
 ) -> Standing {
     Standing {
@@ -161,10 +153,10 @@ pub fn take_stored<C: NodeCore, S: NodeStore>(
 }
 
 /// Has the desk take an input.
-pub fn take<O: Opening, C: NodeCore, S: NodeStore, B: Bell, R: Wait + Abort>(
+pub fn take<D: SharedNode, R: Wait + Abort>(
     rt: &R,
     alloc: Global,
-    desk: &Desk<O, C, S, B>,
+    desk: &D,
     seat: &mut Seat,
     given: Given,
 ) -> Taken {
@@ -181,10 +173,10 @@ pub fn take<O: Opening, C: NodeCore, S: NodeStore, B: Bell, R: Wait + Abort>(
 }
 
 /// Asks the desk where NZ1 stands.
-pub fn query<O: Opening, C: NodeCore, S: NodeStore, B: Bell, R: Wait + Abort>(
+pub fn query<D: SharedNode, R: Wait + Abort>(
     rt: &R,
     alloc: Global,
-    desk: &Desk<O, C, S, B>,
+    desk: &D,
     seat: &mut Seat,
 ) -> Taken {
     let before = standing_at(rt, alloc, desk, seat);
@@ -201,10 +193,7 @@ pub fn query<O: Opening, C: NodeCore, S: NodeStore, B: Bell, R: Wait + Abort>(
 
 /// Has the desk commit. `NoMemory` if its store ran out of memory: then the desk has stopped with the records that were
 /// committed before, so the caller begins with another desk.
-pub fn commit<O: Opening, C: NodeCore, S: NodeStore, B: Bell, R: Wait + Abort>(
-    rt: &R,
-    desk: &Desk<O, C, S, B>,
-) -> Result<usize, NoMemory> {
+pub fn commit<D: SharedNode, R: Wait + Abort>(rt: &R, desk: &D) -> Result<usize, NoMemory> {
     let before = desk.committed_count(rt);
     match desk.commit_next(rt) {
         Ok(records) => Ok(records),

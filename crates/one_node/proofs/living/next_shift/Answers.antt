@@ -1,5 +1,6 @@
 use Rattle.std.proofs.Common.{refl, subst}
 use Rattle.node_state.specs.Views.{committed_records}
+use Rattle.sessions.specs.Sending.{IsReceivedBy}
 use Rattle.one_node.specs.Lives.{begins_with, held_nowhere, opens_with}
 use Rattle.one_node.specs.Shifts.{IsNext}
 use Rattle.one_node.specs.declared.operator.Next.{Next}
@@ -11,7 +12,7 @@ work_shift-requires-clause-may_open g c = λ lifetimes live. opens g.N.Store.Nod
 
 pub work_shift-requires-clause-takes : goal.work_shift-requires-clause-takes
 work_shift-requires-clause-takes g c = λ lifetimes live. λ input is. c.requires.takes input
-    (of_thread (g.N.Network.leads c.args.setting.now.network.now) g.N.Reader.Read.remaining g.N.Writer.Write.contents g.N.Store.NodeStore (g.N.Clock.tells c.args.setting.now.network.now)
+    (of_thread g.N.Store.NodeStore (IsReceivedBy (g.N.Network.leads c.args.setting.now.network.now) g.N.Reader.Read.remaining g.N.Writer.Write.contents) (g.N.Clock.tells c.args.setting.now.network.now)
     (opens_with c.args.setting.now.scheme.now c.args.loaded.state.node c.args.loaded.state.journal) (begins_with c.args.setting.now.scheme.now c.args.loaded.state.node g.L.Life.first)
     (begins_anew c.args.setting.now.scheme.now c.args.loaded.state.node g.L.Life.first c.args.loaded.state.journal c.requires.first) input is)
 

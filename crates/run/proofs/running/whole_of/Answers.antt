@@ -12,25 +12,20 @@ use Rattle.ended_nodes.specs.declared.ended.EndedNode.{EndedNode}
 use Rattle.run.proofs.Written.{late_fault}
 use Rattle.run.proofs.running.whole_of.Goals as goal
 
-pub end_all-requires-clause-script : goal.end_all-requires-clause-script
-end_all-requires-clause-script g c = λ lifetimes live.
-    let stations = c.args.stations in
-    c.requires.seats ∙ sym (stations.ok.0 ∙ sym (length-map stations.items (λ s. s.node)) ∙ ap (λ (l : List Node). length l) c.requires.stations)
-
 pub with_table-text-requires-clause-ended : goal.with_table-text-requires-clause-ended
 with_table-text-requires-clause-ended g c =
     let ended = c.in_ok-ended.ended.items in
-    let value : c.as_slice.result.now ≡ ended = c.as_slice.ensures.value in
-    ap (λ (l : List (EndedNode g.row.N-Store.Denot)). length l) value ∙ (sym (length-map (stored_in ended) (λ e. e.state.node) ∙ length-map ended (λ e. e.stored)) ∙ ap (λ (l : List Node). length l) (c.in_ok-ended.ensures.ended c.args.scheme.now c.requires.stations).nodes_are)
+    let value : c.as_slice-2.result.now ≡ ended = c.as_slice-2.ensures.value in
+    ap (λ (l : List (EndedNode g.row.S.Denot)). length l) value ∙ (sym (length-map (stored_in ended) (λ e. e.state.node) ∙ length-map ended (λ e. e.stored)) ∙ ap (λ (l : List Node). length l) (c.in_ok-ended.ensures.ended c.args.scheme.now (c.as_slice.ensures.value ∙ c.requires.names)).nodes_are)
 
 pub returns-in-Ok-clause-ok : goal.returns-in-Ok-clause-ok
 returns-in-Ok-clause-ok g c =
     let scheme = c.args.scheme.now in
-    let value : c.as_slice.result.now ≡ c.in_ok-ended.ended.items = c.as_slice.ensures.value in
-    let gathered : AreGathered g.T.Taking.takes c.args.seats.items (seats_in c.as_slice.result.now) = rw value c.in_ok-ended.ensures.seats in
-    let each : length c.args.seats.items ≡ length (nodes scheme) = sym c.args.seats.ok.0 ∙ c.requires.seats in
-    λ lines told played answers. subst (λ (ns : List (EndedNode g.row.N-Store.Denot)). IsRunReport scheme lines (states_in ns) (first_undone 1 lines told) (string_bytes c.in-Ok.text) × HaveOthers g.T.Taking.takes scheme (states_in ns)) value
-    (c.in-Ok.ensures.ok c.args.seats.items each gathered lines told played answers)
+    let value : c.as_slice-2.result.now ≡ c.in_ok-ended.ended.items = c.as_slice-2.ensures.value in
+    let gathered : AreGathered g.K.Taking.takes c.args.nodes.script.items (seats_in c.as_slice-2.result.now) = rw value c.in_ok-ended.ensures.seats in
+    let each : length c.args.nodes.script.items ≡ length (nodes scheme) = sym c.args.nodes.script.ok.0 ∙ c.requires.seats in
+    λ lines told played answers. subst (λ (ns : List (EndedNode g.row.S.Denot)). IsRunReport scheme lines (states_in ns) (first_undone 1 lines told) (string_bytes c.in-Ok.text) × HaveOthers g.K.Taking.takes scheme (states_in ns)) value
+    (c.in-Ok.ensures.ok c.args.nodes.script.items each gathered lines told played answers)
 
 pub returns-in_err-ended-clause-err : goal.returns-in_err-ended-clause-err
 returns-in_err-ended-clause-err g c =
@@ -38,11 +33,11 @@ returns-in_err-ended-clause-err g c =
     rw (p.1, p.2) (c.in_err-ended.ensures.err c.args.scheme.now)
 
 pub returns-in-Ok-clause-ended : goal.returns-in-Ok-clause-ended
-returns-in-Ok-clause-ended g c = c.in_ok-ended.ensures.ended c.args.scheme.now c.requires.stations
+returns-in-Ok-clause-ended g c = c.in_ok-ended.ensures.ended c.args.scheme.now (c.as_slice.ensures.value ∙ c.requires.names)
 
-pub returns-in-Err-clause-err : goal.returns-in-Err-clause-err
-returns-in-Err-clause-err g c =
+pub returns-clause-err : goal.returns-clause-err
+returns-clause-err g c =
     let scheme = c.args.scheme.now in
-    let value : c.as_slice.result.now ≡ c.in_ok-ended.ended.items = c.as_slice.ensures.value in
-    late_fault g.N.Store.NodeStore g.O.Opening.opened scheme c.in-Err.fault (stored_in c.as_slice.result.now) (seats_in c.as_slice.result.now)
-    (subst (λ (ns : List (EndedNode g.row.N-Store.Denot)). HaveEnded g.N.Store.NodeStore g.O.Opening.opened scheme (stored_in ns)) (sym value) (c.in_ok-ended.ensures.ended scheme c.requires.stations)) c.in-Err.ensures.err
+    let value : c.as_slice-2.result.now ≡ c.in_ok-ended.ended.items = c.as_slice-2.ensures.value in
+    late_fault g.S.NodeStore g.K.Opening.opened scheme c.in-Err.fault (stored_in c.as_slice-2.result.now) (seats_in c.as_slice-2.result.now)
+    (subst (λ (ns : List (EndedNode g.row.S.Denot)). HaveEnded g.S.NodeStore g.K.Opening.opened scheme (stored_in ns)) (sym value) (c.in_ok-ended.ensures.ended scheme (c.as_slice.ensures.value ∙ c.requires.names))) c.in-Err.ensures.err

@@ -16,7 +16,8 @@ loop-at-preserved g c =
     let is = c.in_ok-new.ensures in
     record {
       count = pushed_count c.loop-at.nodes.items _ c.push.new.self.items at pushed kept.count;
-      stations = part_more _ c.loop-at.nodes.items _ c.push.new.self.items c.args.stations.now at pushed (omega (arith, low, c.requires)) kept.stations (part_is c.args.stations.now at _ _ (ap (λ q. q.now) is.station) c.index-stations-at.is);
+      names = part_more _ c.loop-at.nodes.items _ c.push.new.self.items c.args.names.now at pushed low kept.names (part_is c.args.names.now at _ _ is.node c.index-names-at.is);
+      desks = part_more _ c.loop-at.nodes.items _ c.push.new.self.items c.args.desks.now at pushed (omega (arith, low, c.requires)) kept.desks (part_is c.args.desks.now at _ _ (ap (λ q. q.now) is.desk) c.index-desks-at.is);
       peers = part_more _ c.loop-at.nodes.items _ c.push.new.self.items (peers_of c.args.names.now) at pushed within kept.peers (part_is (peers_of c.args.names.now) at _ _ (ap (λ q. q.now) is.peers) (sym peers));
       network = all_pushed c.loop-at.nodes.items _ c.push.new.self.items (λ n. n.network.now ≡ c.args.network.now) pushed kept.network (ap (λ q. q.now) is.network);
     }
@@ -27,7 +28,8 @@ returns g c =
     let all : c.loop-at.at ≡ length c.args.names.now = omega (arith, c.loop-at-test.false, c.loop-at.auto.at-end) in
     record {
       count = c.loop-at.nodes.ok.0 ∙ kept.count ∙ all;
-      stations = part_whole _ c.loop-at.nodes.items c.args.stations.now c.loop-at.at kept.stations (c.requires ∙ sym all);
+      names = part_whole _ c.loop-at.nodes.items c.args.names.now c.loop-at.at kept.names (sym all);
+      desks = part_whole _ c.loop-at.nodes.items c.args.desks.now c.loop-at.at kept.desks (c.requires ∙ sym all);
       peers = part_whole _ c.loop-at.nodes.items (peers_of c.args.names.now) c.loop-at.at kept.peers (peers_count c.args.names.now ∙ sym all);
       network = kept.network;
     }

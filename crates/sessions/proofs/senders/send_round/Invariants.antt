@@ -1,9 +1,10 @@
 use Rattle.sessions.specs.Pauses.{GoesOnOrEnds}
+use Rattle.sessions.specs.Sending.{IsReceivedBy}
 use Rattle.sessions.specs.Threads.{AreOfThread}
 use Rattle.sessions.proofs.senders.send_round.Given as goal
 
 abbrev pub invariant-loop : goal.invariant-loop
 invariant-loop g l = record {
-  taken : AreOfThread (g.N.Network.leads l.fn.network) g.N.Reader.Read.remaining g.N.Writer.Write.contents g.N.Store.NodeStore g.O.Opening.opened (g.N.Clock.tells l.fn.network) l.seat;
-  row : GoesOnOrEnds l.fn.patience.failures l.patience.failures;
+  taken : AreOfThread g.D.SharedNode.is_to_send (IsReceivedBy (g.N.Network.leads l.fn.network) g.N.Reader.Read.remaining g.N.Writer.Write.contents) (g.N.Clock.tells l.fn.network) l.seat;
+  row : GoesOnOrEnds l.fn.back_off.failures l.back_off.failures;
 }

@@ -1,8 +1,0 @@
-use Rattle.std.proofs.Common.{subst, All, IfOk}
-use Rattle.sessions.specs.Threads.{AreOfThread}
-use Rattle.one_node.proofs.living.run_station.Goals as goal
-
-pub returns-clause-taken : goal.returns-clause-taken
-returns-clause-taken g c =
-    subst (λ q. IfOk c.run_shift.result (λ s. All (AreOfThread (g.N.Network.leads q.now) g.N.Reader.Read.remaining g.N.Writer.Write.contents g.N.Store.NodeStore g.O.Opening.opened (g.N.Clock.tells q.now)) s.threads.items))
-    c.in_ok-threads.ensures.network c.run_shift.ensures.taken

@@ -1,0 +1,7 @@
+use Rattle.sessions.specs.Sending.{IsReceivedBy}
+use Rattle.sessions.specs.Threads.{AreOfThread}
+use Rattle.sessions.proofs.node_threads.NodeThreads.work.Given as goal
+
+abbrev pub invariant-loop : goal.invariant-loop
+invariant-loop g l =
+    AreOfThread g.D.SharedNode.is_to_send (IsReceivedBy (g.N.Network.leads l.self.network.now) g.N.Reader.Read.remaining g.N.Writer.Write.contents) (g.N.Clock.tells l.self.network.now) l.seat

@@ -1,5 +1,0 @@
-use Rattle.sessions.specs.Threads.{AreOfThread}
-use Rattle.sessions.proofs.workers.work.Given as goal
-
-abbrev pub invariant-loop : goal.invariant-loop
-invariant-loop g l = AreOfThread (g.N.Network.leads l.fn.network) g.N.Reader.Read.remaining g.N.Writer.Write.contents g.N.Store.NodeStore g.O.Opening.opened (g.N.Clock.tells l.fn.network) l.seat

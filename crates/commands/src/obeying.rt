@@ -59,7 +59,7 @@ fn write_help<W: Write>(alloc: Global, writer: &mut W, error: &Error) -> Result<
 }
 
 /// Does what the words ask for, the first word being the program's own name: performs the action that they name, or
-/// writes help or the version.
+/// writes help or the version. It has five type parameters: the archive, the two streams, the progress and the system.
 pub fn obey<A, I, W, P, R>(
     rt: &R,
     alloc: Global,

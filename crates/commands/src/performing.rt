@@ -116,7 +116,8 @@ fn cut_folder<A: Archive, W: Write, P: Progress>(
     done
 }
 
-/// Writes the table of a run that leads to as many of the records of the stores in the folder as the extent says.
+/// Writes the table of a run that leads to as many of the records of the stores in the folder as the extent says. It has
+/// eight arguments: four are words of the command.
 fn audit_to<A: Archive, W: Write, P: Progress>(
     alloc: Global,
     archive: &A,
@@ -188,7 +189,7 @@ fn transaction_of(word: &str) -> Result<TransactionId, OpFault>
 }
 
 /// Writes the records of the transaction that the word names, in the order of a run that leads to the records of the
-/// stores in the folder.
+/// stores in the folder. It has eight arguments: four are words of the command.
 fn trace_folder<A: Archive, W: Write, P: Progress>(
     alloc: Global,
     archive: &A,
@@ -231,6 +232,8 @@ fn trace_folder<A: Archive, W: Write, P: Progress>(
 /// Fails with the first fault, in the order in which the command looks at the files and nodes that its words name.
 /// Nothing is written then, unless the output failed; but a run or a node that stands alone may have written lines
 /// before it failed, and a strict run that fails with `Undone` has written everything.
+///
+/// It has five type parameters: the archive, the two streams, the progress and the system.
 pub(crate) fn perform<A, I, W, P, R>(
     rt: &R,
     alloc: Global,

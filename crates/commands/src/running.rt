@@ -179,7 +179,7 @@ fn judged(strictness: Strictness, undone: Option<u64>) -> Result<(), OpFault>
 }
 
 /// Runs the nodes in threads, over connections of the loopback interface, while the script is played; reports, and
-/// closes the stores.
+/// closes the stores. It has eight arguments: those of `run_connected`, and the archive and the strictness.
 fn run_loaded<A, W, P, R>(
     rt: &R,
     alloc: Global,
@@ -220,6 +220,8 @@ where
 ///
 /// Fails with the first fault of these, and as `run_script` does. If everything was written, fails with the first fault
 /// of a store that is closed, and, if the run is strict, with `Undone` of the first line that was not carried out.
+///
+/// It has nine arguments: four are the words of the command.
 pub(crate) fn run_folder<A, W, P, R>(
     rt: &R,
     alloc: Global,

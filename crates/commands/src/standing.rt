@@ -49,9 +49,10 @@ type KeyedNetwork<'k, S, R> = JoinedNetwork<
 >;
 
 /// The setup of a node's run: the scheme, all nodes of the scheme, its own name, where it listens, and how many seconds
-/// lie between two clean-ups.
+/// lie between two clean-ups; and the source of its memory.
 #[derive(Clone, Copy)]
 struct Standing<'a> {
+    alloc: Global,
     scheme: &'a Scheme,
     names: &'a [Node],
     node: Node,
@@ -196,37 +197,49 @@ fn only<L: Drop>(alloc: Global, node: Node, listener: L) -> Result<Vec<(Node, L)
     Ok(listeners)
 }
 
-/// The network of the node, which listens at that port and connects to these peers. Fails with `NoMemory` if memory ran
-/// out.
-fn open_network<S, R: SystemClock + Drop>(
+/// The network of the node, which listens at a port at its address and connects to these peers.
+///
+/// # Errors
+///
+/// Fails as `open_port` does.
+fn open_network<S, R>(
     system: R,
-    alloc: Global,
-    node: Node,
-    port: LinePort<R>,
+    standing: &Standing<'_>,
     peers: Ports<R>,
-) -> Result<OpenNetwork<S, R>, NoMemory> {
-    let listeners = only(alloc, node, port)?;
+) -> Result<OpenNetwork<S, R>, OpFault>
+where
+    R: Net<Listener = TcpListener, Stream = TcpStream> + SystemClock + Copy + Drop,
+{
+    let alloc = standing.alloc;
+    let port = open_port(system, alloc, standing.listen, LONGEST_LINE)?;
+    let listeners = only(alloc, standing.node, port)?;
     Ok(JoinedNetwork::new(listeners, peers, WallClock::new(system)))
 }
 
 /// The same, with these keys for its links.
-fn keyed_network<'k, S, R: SystemClock + Drop>(
+///
+/// # Errors
+///
+/// Fails as `open_port` does.
+fn keyed_network<'k, S, R>(
     system: R,
-    alloc: Global,
-    node: Node,
+    standing: &Standing<'_>,
     keys: &'k Keys,
-    port: LinePort<R>,
     peers: Ports<R>,
-) -> Result<KeyedNetwork<'k, S, R>, NoMemory> {
+) -> Result<KeyedNetwork<'k, S, R>, OpFault>
+where
+    R: Net<Listener = TcpListener, Stream = TcpStream> + SystemClock + Copy + Drop,
+{
+    let (alloc, node) = (standing.alloc, standing.node);
+    let port = open_port(system, alloc, standing.listen, LONGEST_TAGGED)?;
     let listeners = only(alloc, node, Tagged::new(port, keys, node, alloc))?;
     let dialer = Tagged::new(peers, keys, node, alloc);
     Ok(JoinedNetwork::new(listeners, dialer, WallClock::new(system)))
 }
 
-/// Runs the loaded node over that network until its operator ends it.
+/// Runs the loaded node over that network until its operator ends it. It has the type parameters of `run_alone`.
 fn run_over<N, E, I, W, R>(
     rt: &R,
-    alloc: Global,
     standing: Standing<'_>,
     network: &N,
     loaded: Stored<Core, N::Store>,
@@ -258,16 +271,31 @@ where
         network,
         clean_up,
     };
-    run_alone(rt, alloc, &setting, loaded, exporter, reader, writer)
+    run_alone(
+        rt,
+        standing.alloc,
+        &setting,
+        loaded,
+        exporter,
+        reader,
+        writer,
+    )
 }
 
-/// Runs the node, whose links have no keys, at a port of that system at its address.
-fn run_open<S, E, I, W, T, R>(
-    rt: &R,
-    alloc: Global,
+/// The links of a node to its peers: their addresses, the keys, if they have any, and the system that connects them.
+#[derive(Drop)]
+struct Links<'k, T: Drop> {
     system: T,
-    standing: Standing<'_>,
+    keys: Option<&'k Keys>,
     peers: Ports<T>,
+}
+
+/// Runs the node at a port at its address, over these links. It has six type parameters: those of `run_alone`, with that
+/// of the store in place of the network, and the system of the links.
+fn run_linked<S, E, I, W, T, R>(
+    rt: &R,
+    standing: Standing<'_>,
+    links: Links<'_, T>,
     stored: Stored<Core, S>,
     exporter: &E,
     reader: &mut I,
@@ -293,85 +321,24 @@ where
         (I.remaining reader.old) (I.remaining reader.new) (W.contents writer.old) (W.contents writer.new)) }
     ensures keeps { IfOk result (IsKept S.NodeStore) }
 {
-    let port = open_port(system, alloc, standing.listen, LONGEST_LINE)?;
-    let network = open_network(system, alloc, stored.state().node(), port, peers)?;
-    run_over::<OpenNetwork<S, T>, E, I, W, R>(
-        rt, alloc, standing, &network, stored, exporter, reader, writer,
-    )
-}
-
-/// Runs the node, whose links have these keys, at a port of that system at its address.
-fn run_keyed<S, E, I, W, T, R>(
-    rt: &R,
-    alloc: Global,
-    system: T,
-    standing: Standing<'_>,
-    keys: &Keys,
-    peers: Ports<T>,
-    stored: Stored<Core, S>,
-    exporter: &E,
-    reader: &mut I,
-    writer: &mut W,
-) -> Result<Stored<Core, S>, OpFault>
-where
-    S: NodeStore + Send + Drop,
-    E: Exporter,
-    I: Read,
-    W: Write,
-    T: Net<Listener = TcpListener, Stream = TcpStream>
-        + Wait
-        + SystemClock
-        + Copy
-        + Send
-        + Sync
-        + Drop,
-    R: Threads + Wait + SystemClock + Sync,
-    requires member { is_node standing.scheme.now stored.state.node ≡ true }
-    requires opened { stored.state ≡ opened_with standing.scheme.now stored.state.node stored.state.journal }
-    ensures life { IfOk result (λ s. Lives (λ path inputs. E.holds exporter.now path stored.state.node inputs)
-        standing.entry.scheme.now stored.state.node stored.state.journal s.state
-        (I.remaining reader.old) (I.remaining reader.new) (W.contents writer.old) (W.contents writer.new)) }
-    ensures keeps { IfOk result (IsKept S.NodeStore) }
-{
-    let port = open_port(system, alloc, standing.listen, LONGEST_TAGGED)?;
-    let network = keyed_network(system, alloc, stored.state().node(), keys, port, peers)?;
-    run_over::<KeyedNetwork<'_, S, T>, E, I, W, R>(
-        rt, alloc, standing, &network, stored, exporter, reader, writer,
-    )
-}
-
-/// Runs the node at a port at its address, with these keys or with none.
-fn run_linked<S, E, I, W, R>(
-    rt: &R,
-    alloc: Global,
-    standing: Standing<'_>,
-    keys: &Option<Keys>,
-    peers: Ports<&R>,
-    stored: Stored<Core, S>,
-    exporter: &E,
-    reader: &mut I,
-    writer: &mut W,
-) -> Result<Stored<Core, S>, OpFault>
-where
-    S: NodeStore + Send + Drop,
-    E: Exporter,
-    I: Read,
-    W: Write,
-    R: Threads + Wait + SystemClock + Net<Listener = TcpListener, Stream = TcpStream> + Sync,
-    requires member { is_node standing.scheme.now stored.state.node ≡ true }
-    requires opened { stored.state ≡ opened_with standing.scheme.now stored.state.node stored.state.journal }
-    ensures life { IfOk result (λ s. Lives (λ path inputs. E.holds exporter.now path stored.state.node inputs)
-        standing.entry.scheme.now stored.state.node stored.state.journal s.state
-        (I.remaining reader.old) (I.remaining reader.new) (W.contents writer.old) (W.contents writer.new)) }
-    ensures keeps { IfOk result (IsKept S.NodeStore) }
-{
+    let Links {
+        system,
+        keys,
+        peers,
+    } = links;
     match keys {
-        Some(keys) => run_keyed(
-            rt, alloc, rt, standing, keys, peers, stored, exporter, reader, writer,
-        ),
-        None => run_open(
-            rt, alloc, rt, standing, peers, stored, exporter, reader, writer,
-        ),
+        Some(keys) => {
+            let network = keyed_network::<S, T>(system, &standing, keys, peers)?;
+            run_over::<KeyedNetwork<'_, S, T>, E, I, W, R>(
+                rt, standing, &network, stored, exporter, reader, writer,
+            )
+        }
+        None => {
+            let network = open_network::<S, T>(system, &standing, peers)?;
+            run_over::<OpenNetwork<S, T>, E, I, W, R>(
+                rt, standing, &network, stored, exporter, reader, writer,
+            )
+        }
     }
 }
 
@@ -403,7 +370,8 @@ fn close_store<A: Archive>(archive: &A, stored: Stored<Core, A::Store>) -> Resul
 }
 
 /// Runs a node as it was set up: looks at the keys, the folder and the store, writes the scheme's sum, and opens the
-/// port last. Closes the store in the end.
+/// port last. Closes the store in the end. It has eight arguments: those of `stand_alone`, and the scheme and the setup
+/// that the words name.
 fn stand<A, I, W, R>(
     rt: &R,
     alloc: Global,
@@ -431,6 +399,7 @@ where
     } = setup;
     let names = nodes_of(alloc, scheme)?;
     let standing = Standing {
+        alloc,
         scheme,
         names: names.as_slice(),
         node,
@@ -444,9 +413,12 @@ where
     let stored = load_node(alloc, archive, scheme, folder, node, sum.as_str())?;
     write_sum(alloc, writer, sum.as_str())?;
     let exporter = Exports::new(archive);
-    let ended = run_linked(
-        rt, alloc, standing, &keys, peers, stored, &exporter, reader, writer,
-    )?;
+    let links = Links {
+        system: rt,
+        keys: keys.as_ref(),
+        peers,
+    };
+    let ended = run_linked(rt, standing, links, stored, &exporter, reader, writer)?;
     close_store(archive, ended)
 }
 

@@ -36,3 +36,4 @@ pub mod JournalsAndBags
 pub mod TextsOfFaults
 pub mod AskedTopics
 pub mod SentMessages
+pub mod WordsOfLines

@@ -16,7 +16,8 @@ usage: ./do COMMAND
   bench NAME ..   runs bench/NAME.py with these words; without words it lists the benches
   trial NAME ..   runs trials/NAME.py with these words; without words it lists the trials
   docs            looks for stale names, wrong comments of definitions, other texts of `explain`, lemmas that are
-                  proved again, must-fail edits without a place, the version; counts functions with many parameters
+                  proved again, must-fail edits without a place, the version; counts functions with many parameters,
+                  names of several types, and searches for the ends of lines
   pages           runs the commands of README and OPERATING as written, and compares their outputs
   lists           writes lists of all contracts, lemmas, definitions and edits into out/lists
   times           runs the gate, and writes the processor seconds of each crate into docs/log/times.md
@@ -62,11 +63,11 @@ bench) run_script bench "$@" ;;
 trial) run_script trials "$@" ;;
 docs)
     status=0
-    for script in stale_names count_definitions explained same_lemmas edits_refused wide_functions; do
+    for script in stale_names count_definitions explained same_lemmas edits_refused wide_functions same_names; do
         python3 "tools/$script.py" || status=1
     done
     # The version stands in the code; the documents and the release have it too.
-    version=$(sed -n 's/^const VERSION: &str = "\(.*\)";$/\1/p' crates/operator/src/command_line.rt)
+    version=$(sed -n 's/^const VERSION: &str = "\(.*\)";$/\1/p' crates/command_line/src/parsing.rt)
     for file in CHANGELOG.md release/MANIFEST examples/command_line/version/output; do
         if ! grep -qF " $version" "$file"; then
             printf '%s has no version %s\n' "$file" "$version"

@@ -5,15 +5,16 @@
 
 Prints the number of functions with more than four type parameters or more than seven arguments, without those of
 crates of tests, and a line for each of them whose comment doesn't say why: the comment of such a function has the words
-`type parameters` or `arguments`. Then it prints how often a command of the program uses the crate of another command.
-Lifetimes and the parameters of an `impl` aren't counted.
+`type parameters` or `arguments`. Lifetimes and the parameters of an `impl` aren't counted. Fails, after a line for each,
+if a command of the program uses the crate of another command.
 """
 import pathlib
 import re
+import sys
 
 TOP = pathlib.Path(__file__).resolve().parent.parent
 MOST_TYPES, MOST_ARGUMENTS = 4, 7
-COMMANDS = {"audit", "chart", "events", "explain", "node_setup", "one_node", "operator", "rehearse", "run", "trace"}
+COMMANDS = {"audit", "chart", "events", "explain", "one_node", "rehearse", "run", "show", "trace"}
 FUNCTION = re.compile(r"^ *(?:pub(?:\(crate\))? )?(?:const )?fn (\w+)", re.M)
 CLOSING = {"(": ")", "<": ">", "[": "]"}
 
@@ -75,8 +76,10 @@ def main():
           f" of which {len(silent)} have no reason beside them")
     for line in silent:
         print(f"  {line}")
-    print(f"commands that use the crate of another command: {len(uses)} ({', '.join(uses)})")
+    for line in uses:
+        print(line)
+    return 1 if uses else 0
 
 
 if __name__ == "__main__":
-    main()
+    sys.exit(main())

@@ -1,6 +1,2 @@
-pub mod Loaded
-pub mod Tables
-pub mod WovenCores
-pub mod Pairs
 pub mod CutTexts
 mod Objects

@@ -1,43 +1,15 @@
 -- The results of an audit.
 use Rattle.std.specs.Prelude.{◌<◌, ℕ, List, Option, length, take}
 use Rattle.std.specs.Io.KnownBytes.{Appends, Keeps}
-use Rattle.units.specs.declared.code.Node.{Node}
 use Rattle.protocol.specs.Input.{Input}
 use Rattle.protocol.specs.Scheme.{Scheme}
 use Rattle.protocol.specs.Registries.{nodes}
-use Rattle.protocol.specs.Weave.{Projects}
-use Rattle.protocol.specs.declared.event.WorldEvent.{WorldEvent}
 use Rattle.stores.specs.declared.node_store.NodeStore.{Ghosts}
-use Rattle.weave.specs.Following.{IsWeaveFault, journal_of}
-use Rattle.weave.specs.declared.fault.WeaveFault.{WeaveFault}
-use Rattle.weave.specs.declared.fault.WeaveFault.TheVariants as weaving
-use Rattle.report.specs.Table.{IsSafeTable}
 use Rattle.report.specs.declared.form.Form.{Form}
 use Rattle.command_faults.specs.declared.fault.OpFault.{OpFault}
 use Rattle.command_faults.specs.declared.fault.OpFault.TheVariants.{Write, Store, Stuck, NoMemory}
-use Rattle.audit.specs.Stores.{AreLoaded, FailsToLoad}
-
--- the text is the table, in that form, of a world that some events lead to and whose committed journals are these
-pub record IsAuditTable (form : Form) (scheme : Scheme) (journals : List (List Input)) (text : List ℕ) : Type 0 where
-  pub events : List WorldEvent
-  pub projects : Projects scheme events (journal_of scheme journals)
-  pub is_table : IsSafeTable form scheme events text
-
--- some events lead to the world whose committed journals are these
-pub record HasRun (scheme : Scheme) (journals : List (List Input)) : Type 0 where
-  pub events : List WorldEvent
-  pub projects : Projects scheme events (journal_of scheme journals)
-
--- the command's fault for a fault of weaving
-abbrev pub of_weaving : WeaveFault → OpFault
-of_weaving (weaving.Stuck n place) = Stuck n place
-of_weaving weaving.NoMemory = NoMemory
-
--- why no table was made of the journals
-abbrev pub FailsToWeave : Scheme → List (List Input) → OpFault → Type 0
-FailsToWeave scheme journals (Stuck n place) = IsWeaveFault scheme (journal_of scheme journals) (weaving.Stuck n place)
-FailsToWeave scheme journals NoMemory = Unit {0}
-FailsToWeave scheme journals _ = ⊥
+use Rattle.loading.specs.Runs.{FindsNoRun, IsAuditTable}
+use Rattle.loading.specs.Stores.{AreLoaded, FailsToLoad}
 
 module _ {S : Type 0} (g : Ghosts S) where
   -- the stores were read, and the table is that of a run that leads to their records
@@ -46,22 +18,9 @@ module _ {S : Type 0} (g : Ghosts S) where
     pub loaded : AreLoaded g scheme (nodes scheme) olds news journals
     pub is_table : IsAuditTable form scheme journals table
 
-  -- the stores were read, and no run leads to their records
-  pub record FindsNoRun (scheme : Scheme) (olds news : List S) (n : Node) (place : ℕ) : Type 0 where
-    pub journals : List (List Input)
-    pub loaded : AreLoaded g scheme (nodes scheme) olds news journals
-    pub fault : IsWeaveFault scheme (journal_of scheme journals) (weaving.Stuck n place)
-
-  -- the stores were not read, or no run leads to their records
-  abbrev pub FailsToFindRun : OpFault → Scheme → List S → List S → Type 0
-  FailsToFindRun (Stuck n place) scheme olds news = FindsNoRun scheme olds news n place
-  FailsToFindRun (Store told fault) scheme olds news = FailsToLoad g scheme (nodes scheme) olds news (Store told fault)
-  FailsToFindRun NoMemory scheme olds news = Unit {0}
-  FailsToFindRun _ scheme olds news = ⊥
-
   -- nothing was written, or some first bytes of the table, but not all of it
   abbrev pub FailsToAudit : Form → OpFault → Scheme → List S → List S → (before after : Option (List ℕ)) → Type 0
-  FailsToAudit form (Stuck n place) scheme olds news v w = FindsNoRun scheme olds news n place × Keeps v w
+  FailsToAudit form (Stuck n place) scheme olds news v w = FindsNoRun g scheme olds news n place × Keeps v w
   FailsToAudit form (Store told fault) scheme olds news v w = FailsToLoad g scheme (nodes scheme) olds news (Store told fault) × Keeps v w
   FailsToAudit form (Write count) scheme olds news v w = (table : List ℕ) × Audits form scheme olds news table × (count < length table) × Appends v w (take count table)
   FailsToAudit form NoMemory scheme olds news v w = Keeps v w

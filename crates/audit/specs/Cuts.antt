@@ -22,7 +22,7 @@ use Rattle.report.specs.declared.form.Form.{Form}
 use Rattle.report.specs.declared.form.Form.TheVariants.{Lines, Json}
 use Rattle.command_faults.specs.declared.fault.OpFault.{OpFault}
 use Rattle.command_faults.specs.declared.fault.OpFault.TheVariants.{Write, Store, Stuck, NoMemory}
-use Rattle.audit.specs.Stores.{AreLoaded, FailsToLoad}
+use Rattle.loading.specs.Stores.{AreLoaded, FailsToLoad}
 
 -- ---- the lines about records beyond the cut
 

@@ -1,4 +1,2 @@
-pub mod Stores
 pub mod Audits
 pub mod Cuts
-pub mod Opened

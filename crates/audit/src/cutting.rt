@@ -2,7 +2,7 @@
 ghost use Rattle.std.specs.Prelude.{◌≡◌, ◌++◌, ℕ, [], List, IfErr, IfOk, OnOk, flat_map, length, string_bytes};
 ghost use Rattle.std.specs.Io.KnownBytes.{Appends};
 ghost use Rattle.audit.specs.Cuts.{CutsOff, FailsToCutOff, IsCutText, left_line, message_line, rest_lines, waits_line};
-ghost use Rattle.audit.specs.Stores.{AreUnwritten};
+ghost use Rattle.loading.specs.Stores.{AreUnwritten};
 ghost use Rattle.protocol.specs.Input.{Input as Record};
 ghost use Rattle.protocol.specs.Registries.{nodes};
 ghost use Rattle.protocol.specs.Scheme.{Scheme as Registries};
@@ -10,8 +10,8 @@ ghost use Rattle.report.specs.declared.form.Form.TheVariants.{Json, Lines};
 ghost use Rattle.weave.specs.Cuts.{IsCut};
 ghost use Rattle.weave.specs.Following.{journal_of};
 
-use crate::loading::load_cores;
 use command_faults::{OpFault, write_out};
+use loading::load_cores;
 use protocol::scheme::Scheme;
 use protocol::wire::{Input, Message};
 use report::{Form, message_word, push_message, push_table};

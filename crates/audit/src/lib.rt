@@ -4,9 +4,7 @@
 
 mod auditing;
 mod cutting;
-mod loading;
 
-pub use auditing::{audit, audit_watched, fault_of, load_run, read_first, table_of_cores};
+pub use auditing::{audit, audit_watched};
 pub use cutting::audit_cut;
-pub use loading::load_cores;
 pub use report::Form;

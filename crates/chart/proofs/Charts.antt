@@ -21,7 +21,7 @@ use Rattle.chart.specs.ChartLines.{lost_line, participant_line, wide_note_line}
 use Rattle.chart.specs.Chart.{Happening, HasDrawn, IsChart, IsDrawn, chart_text, delivers, first_ones, happening, happening_line, happening_nodes, happenings, is_delivered, lost, message_of, participants, parties}
 use Rattle.report.specs.Table.{IsSafeTable}
 use Rattle.report.specs.declared.form.Form.TheVariants.{Lines}
-use Rattle.rehearse.proofs.Runs.{run-snoc}
+use Rattle.safety.proofs.WorldLemmas.QuietWorlds.{run_append}
 
 flat_snoc : {X A : Type 0} (f : X → List A) (xs : List X) (x : X) → flat_map f (xs ++ x ∷ []) ≡ flat_map f xs ++ f x
 flat_snoc f xs x = flat_map-append f xs (x ∷ []) ∙ ap (λ l. flat_map f xs ++ l) (append-nil (f x))
@@ -71,7 +71,7 @@ has_drawn_more scheme events w new e o m nodes nodes' has has' lines lines' draw
     ap (λ (h : Happening). happenings (opening scheme) events ++ h ∷ []) same ∙ sym (happenings-snoc (opening scheme) events e)
     in
     record {
-      world = led ∙ ap (λ (v : World). (step v e).world) drawn.world ∙ sym (run-snoc (opening scheme) events e);
+      world = led ∙ ap (λ (v : World). (step v e).world) drawn.world ∙ sym (run_append (opening scheme) events (e ∷ []));
       drawn = subst (λ (hs : List Happening). IsDrawn hs nodes' has' lines') all (more (happenings (opening scheme) events) drawn.drawn);
     }
 

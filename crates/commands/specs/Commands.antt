@@ -18,20 +18,21 @@ use Rattle.command_faults.specs.declared.fault.Cause.TheVariants.{Order}
 use Rattle.command_faults.specs.declared.fault.OpFault.{OpFault}
 use Rattle.command_faults.specs.declared.fault.OpFault.TheVariants.{Input as InputFault, Read, Undone, NoMemory}
 use Rattle.report.specs.declared.form.Form.{Form}
-use Rattle.rehearse.specs.Rehearsal.{FailsSo, Reports}
-use Rattle.rehearse.specs.Report.{IsReport}
+use Rattle.event_reports.specs.Rehearsal.{FailsSo, Reports}
+use Rattle.event_reports.specs.Report.{IsReport}
 use Rattle.chart.specs.Chart.{IsChart}
-use Rattle.operator.specs.Show.{FailsToShow, shown}
-use Rattle.operator.specs.declared.actions.Action.{Action}
-use Rattle.operator.specs.declared.actions.Action.TheVariants.{Rehearse, Chart, Show, Audit, Events, Trace, Explain, Run, Node as Alone}
-use Rattle.operator.specs.declared.actions.Extent.{Extent}
-use Rattle.operator.specs.declared.actions.Extent.TheVariants.{Furthest, Whole}
-use Rattle.operator.specs.declared.actions.Missing.{Missing}
-use Rattle.operator.specs.declared.actions.Strictness.{Strictness}
-use Rattle.operator.specs.declared.actions.Strictness.TheVariants.{Strict}
-use Rattle.audit.specs.Audits.{Audits, FailsToAudit, FailsToFindRun, HasRun}
+use Rattle.show.specs.Show.{FailsToShow, shown}
+use Rattle.command_line.specs.declared.actions.Action.{Action}
+use Rattle.command_line.specs.declared.actions.Action.TheVariants.{Rehearse, Chart, Show, Audit, Events, Trace, Explain, Run, Node as Alone}
+use Rattle.command_line.specs.declared.actions.Extent.{Extent}
+use Rattle.command_line.specs.declared.actions.Extent.TheVariants.{Furthest, Whole}
+use Rattle.command_line.specs.declared.actions.Missing.{Missing}
+use Rattle.command_line.specs.declared.actions.Strictness.{Strictness}
+use Rattle.command_line.specs.declared.actions.Strictness.TheVariants.{Strict}
+use Rattle.audit.specs.Audits.{Audits, FailsToAudit}
+use Rattle.loading.specs.Runs.{FailsToFindRun, HasRun}
 use Rattle.audit.specs.Cuts.{CutsOff, FailsToCutOff}
-use Rattle.audit.specs.Stores.{AreLoaded, AreUnwritten}
+use Rattle.loading.specs.Stores.{AreLoaded, AreUnwritten}
 use Rattle.events.specs.Listing.{FailsToList, Lists}
 use Rattle.trace.specs.Traces.{FailsToTrace, Traces}
 use Rattle.explain.specs.Topics.{Explains, FailsToExplain}

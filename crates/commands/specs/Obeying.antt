@@ -8,16 +8,16 @@ use Rattle.stores.specs.declared.node_store.NodeStore.{Ghosts as StoreGhosts}
 use Rattle.command_faults.specs.Faults.{exit_status}
 use Rattle.command_faults.specs.declared.fault.OpFault.{OpFault}
 use Rattle.command_faults.specs.declared.fault.OpFault.TheVariants.{NoMemory, Write}
-use Rattle.operator.specs.Words.{IsUsageFault, NamesAction, kyoto_link}
-use Rattle.operator.specs.declared.actions.Action.{Action}
-use Rattle.operator.specs.declared.command_line.UsageFault.TheVariants.{Help, Usage}
+use Rattle.command_line.specs.Words.{IsUsageFault, NamesAction, kyoto_link}
+use Rattle.command_line.specs.declared.actions.Action.{Action}
+use Rattle.command_line.specs.declared.parsing.UsageFault.TheVariants.{Help, Usage}
 use Rattle.commands.specs.Commands.{FailsToPerform, Performs}
 use Rattle.commands.specs.declared.archive.Archive.{Ghosts}
-use Rattle.commands.specs.declared.obeying.Ended.{Ended}
-use Rattle.commands.specs.declared.obeying.Ended.TheVariants.{Done, Failed, NoAction, WrongWords}
+use Rattle.commands.specs.declared.obeying.CommandEnd.{CommandEnd}
+use Rattle.commands.specs.declared.obeying.CommandEnd.TheVariants.{Done, Failed, NoAction, WrongWords}
 
 -- 0: done; 2: the words are wrong; otherwise the status of the fault
-abbrev pub status_of : Ended → ℕ
+abbrev pub status_of : CommandEnd → ℕ
 status_of Done = 0
 status_of (Failed action fault) = exit_status fault
 status_of (NoAction fault) = exit_status fault
@@ -41,7 +41,7 @@ IsHelpedInPart fault v w = (text : List ℕ) × (count : ℕ) × (fault ≡ Writ
 
 module _ {A F S : Type 0} (g : Ghosts A F S) (archive : A) (remaining : F → Option (List ℕ)) (of : StoreGhosts S) where
   -- the bytes that standard input has left, before and after, and the output
-  abbrev pub Obeys : List (List ℕ) → Ended → (r s before after : Option (List ℕ)) → Type 0
+  abbrev pub Obeys : List (List ℕ) → CommandEnd → (r s before after : Option (List ℕ)) → Type 0
   Obeys words Done r s v w = ((action : Action) × IsNamedBy words action × Performs g archive remaining of action r s v w) ⊎ (AskForHelp words × IsHelped v w)
   Obeys words (Failed action fault) r s v w = IsNamedBy words action × FailsToPerform g archive remaining of action fault r s v w
   Obeys words (NoAction fault) r s v w = ((fault ≡ NoMemory) × Keeps v w) ⊎ (AskForHelp words × IsHelpedInPart fault v w)

@@ -8,7 +8,7 @@ use Rattle.stores.specs.declared.node_store.NodeStore.{Ghosts as StoreGhosts}
 use Rattle.command_faults.specs.SchemeFile.{FailsToRead, ReadsScheme}
 use Rattle.command_faults.specs.declared.fault.OpFault.{OpFault}
 use Rattle.command_faults.specs.declared.fault.OpFault.TheVariants.{Read, NoMemory}
-use Rattle.audit.specs.Stores.{AreLoaded, FailsToLoad}
+use Rattle.loading.specs.Stores.{AreLoaded, FailsToLoad}
 use Rattle.input_lines.specs.Scripts.{FailsToReadScript, ReadsScript}
 use Rattle.input_lines.specs.declared.script_line.ScriptLine.{ScriptLine}
 use Rattle.commands.specs.Unopened.{IsUnopened, of_unopened}

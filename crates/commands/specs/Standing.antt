@@ -12,7 +12,7 @@ use Rattle.desk.specs.Keeping.{IsKept, StoredView}
 use Rattle.node_state.specs.Loading.{IsLoaded}
 use Rattle.node_state.specs.Views.{StateView, committed_records, opened_with}
 use Rattle.command_faults.specs.declared.fault.OpFault.{OpFault}
-use Rattle.operator.specs.declared.actions.NodeWords.{NodeWords}
+use Rattle.command_line.specs.declared.actions.NodeWords.{NodeWords}
 use Rattle.tags.specs.Keys.{NodeKey}
 use Rattle.tags.specs.KeysText.{AreKeys}
 use Rattle.node_setup.specs.Setups.{FailsToSetUp, IsNodeWord}

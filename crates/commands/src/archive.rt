@@ -1,12 +1,12 @@
 //! The files and the stores that the words of a command name.
 ghost use Rattle.std.specs.Prelude.{◌≡◌, true, false, IfErr, IfNone, IfOk, IfSome, OnOk, List, ℕ, string_bytes};
 ghost use Rattle.stores.specs.declared.fault.StoreFault.{StoreFault as AFault};
-ghost use Rattle.operator.specs.declared.actions.Missing.{Missing as IfMissing};
+ghost use Rattle.command_line.specs.declared.actions.Missing.{Missing as IfMissing};
 ghost use Rattle.commands.specs.Unopened.{IsUnopened};
 ghost use Rattle.units.specs.declared.code.Node.{Node as ANode};
 
 use command_faults::OpFault;
-use operator::Missing;
+use command_line::Missing;
 use std::io::Read;
 use stores::{NodeStore, StoreFault};
 use units::Node;

@@ -11,12 +11,12 @@ mod running;
 mod standing;
 
 pub use archive::{Archive, Unopened};
-pub use obeying::{Ended, obey};
+pub use obeying::{CommandEnd, obey};
 pub use opening::scheme_at;
 pub use progress::Progress;
 
 // The actions, the faults that they end with, and the watches of their progress.
 pub use command_faults;
-pub use operator;
+pub use command_line;
 pub use serving;
 pub use weave;

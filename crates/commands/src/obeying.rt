@@ -8,7 +8,7 @@ use crate::performing::perform;
 use crate::progress::Progress;
 use clap::Error;
 use command_faults::{OpFault, write_out};
-use operator::{Action, UsageFault, parse_words};
+use command_line::{Action, UsageFault, parse_words};
 use std::alloc::Global;
 use std::io::{Read, Write};
 use std::net::{Net, TcpListener, TcpStream};
@@ -21,7 +21,7 @@ const WRONG_WORDS: u8 = 2;
 
 /// How a command line ended.
 #[derive(Drop)]
-pub enum Ended {
+pub enum CommandEnd {
     /// Everything was done that the words ask for.
     Done,
     /// The action that the words name failed.
@@ -32,16 +32,16 @@ pub enum Ended {
     WrongWords(Error),
 }
 
-impl Ended {
+impl CommandEnd {
     /// The program's exit status.
     pub fn status(&self) -> u8
         ensures { result ≡ status_of self.now }
     {
         match self {
-            Ended::Done => 0,
-            Ended::Failed(_, fault) => fault.status(),
-            Ended::NoAction(fault) => fault.status(),
-            Ended::WrongWords(_) => WRONG_WORDS,
+            CommandEnd::Done => 0,
+            CommandEnd::Failed(_, fault) => fault.status(),
+            CommandEnd::NoAction(fault) => fault.status(),
+            CommandEnd::WrongWords(_) => WRONG_WORDS,
         }
     }
 }
@@ -68,7 +68,7 @@ pub fn obey<A, I, W, P, R>(
     reader: &mut I,
     writer: &mut W,
     progress: &P,
-) -> Ended
+) -> CommandEnd
 where
     A: Archive,
     I: Read,
@@ -80,14 +80,14 @@ where
 {
     match parse_words(alloc, words) {
         Ok(action) => match perform(rt, alloc, archive, &action, reader, writer, progress) {
-            Ok(()) => Ended::Done,
-            Err(fault) => Ended::Failed(action, fault),
+            Ok(()) => CommandEnd::Done,
+            Err(fault) => CommandEnd::Failed(action, fault),
         },
         Err(UsageFault::Help(error)) => match write_help(alloc, writer, &error) {
-            Ok(()) => Ended::Done,
-            Err(fault) => Ended::NoAction(fault),
+            Ok(()) => CommandEnd::Done,
+            Err(fault) => CommandEnd::NoAction(fault),
         },
-        Err(UsageFault::Usage(error)) => Ended::WrongWords(error),
-        Err(UsageFault::NoMemory) => Ended::NoAction(OpFault::NoMemory),
+        Err(UsageFault::Usage(error)) => CommandEnd::WrongWords(error),
+        Err(UsageFault::NoMemory) => CommandEnd::NoAction(OpFault::NoMemory),
     }
 }

@@ -5,9 +5,9 @@ ghost use Rattle.commands.specs.Opened.{AreStoresIn, FailsToOpen, HasScheme, Has
 ghost use Rattle.commands.specs.Unopened.{of_unopened};
 
 use crate::archive::{Archive, Unopened};
-use audit::read_first;
 use command_faults::{OpFault, SetupFault, read_scheme, store_fault};
 use input_lines::{ScriptLine, read_script};
+use loading::read_first;
 use protocol::nodes_of;
 use protocol::scheme::Scheme;
 use std::alloc::Global;

@@ -8,11 +8,11 @@ ghost use Rattle.commands.specs.Commands.{AreClosed, AreOpened, FailsToLoadFolde
 use crate::archive::Archive;
 use crate::opening::{find_folder, open_stores, scheme_at, script_at};
 use crate::progress::Progress;
-use audit::load_run;
 use command_faults::{OpFault, store_fault};
+use command_line::Strictness;
 use desk::{Stored, WallClock};
 use ended_nodes::EndedNode;
-use operator::Strictness;
+use loading::load_run;
 use protocol::scheme::Scheme;
 use run::{EndedRun, Script, run_script};
 use serving::world::Core;

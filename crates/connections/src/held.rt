@@ -3,11 +3,11 @@ ghost use Rattle.std.specs.Prelude.{◌≡◌, ◌⊎◌, Some, drop, true};
 ghost use Rattle.connections.specs.LineEnds.{length_of};
 ghost use Rattle.connections.specs.Waiting.{EndsLate, SparesOthers, first_number};
 
-use crate::line_ends::{LineEnd, line_end};
 use crate::waiting::Connections;
 use std::io::ErrorKind;
 use std::net::TcpStream;
 use std::time::Instant;
+use streams::{FirstLine, first_line};
 
 /// What a look at a connection shows.
 #[derive(Clone, Copy)]
@@ -20,15 +20,15 @@ enum Arrival {
     End,
 }
 
-/// How many bytes a session is to read of a line that ends there: the line and its newline, or all that comes if the
-/// line is too long. `None` if it isn't whole.
-fn length_of(end: LineEnd) -> Option<u64>
-    ensures { result ≡ length_of end }
+/// How many bytes a session is to read of the line: the line and its newline, or all that comes if the line is too
+/// long. `None` if it isn't whole.
+fn length_of(line: FirstLine<'_>) -> Option<u64>
+    ensures { result ≡ length_of line.entry }
 {
-    match end {
-        LineEnd::Whole(count) => Some((count as u64).saturating_add(1)),
-        LineEnd::Partial => None,
-        LineEnd::TooLong => Some(u64::MAX),
+    match line {
+        FirstLine::Whole(line, _) => Some((line.len() as u64).saturating_add(1)),
+        FirstLine::Partial => None,
+        FirstLine::TooLong => Some(u64::MAX),
     }
 }
 
@@ -38,7 +38,7 @@ fn arrival_of(stream: &TcpStream, front: &mut [u8]) -> Arrival {
     let longest = front.len().saturating_sub(1);
     match stream.peek(front) {
         Ok(0) => Arrival::End,
-        Ok(count) => match length_of(line_end(&front[..count], longest)) {
+        Ok(count) => match length_of(first_line(&front[..count], longest)) {
             Some(length) => Arrival::Line(length),
             None => Arrival::Part,
         },

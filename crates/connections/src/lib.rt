@@ -1,13 +1,10 @@
-//! The connections that a port holds until their lines are whole, the ends of lines, and addresses of the loopback
-//! interface.
+//! The connections that a port holds until their lines are whole, and addresses of the loopback interface.
 #![tactic(auto)]
 
 mod held;
-mod line_ends;
 mod loopback;
 mod waiting;
 
 pub use held::Held;
-pub use line_ends::{LineEnd, line_end};
 pub use loopback::{LONGEST_WAIT, at_loopback, directions, is_loopback, limit_waits};
 pub use waiting::{Connections, LONGEST_LINE_TIME, MOST_CONNECTIONS, Ready, Waiter};

@@ -8,8 +8,8 @@ use crate::confirmation::Confirmation;
 use crate::locked::confirmation_of;
 use crate::opening::Opening;
 use crate::stored::Stored;
-use node_state::{Asked, State, Taken, Told};
-use protocol::{NodeCore, Stepped};
+use node_state::{Asked, State, Taken};
+use protocol::NodeCore;
 use std::marker::{Model, PhantomData};
 use stores::{NodeStore, StoreFault};
 use units::{NoMemory, Node};
@@ -35,8 +35,6 @@ fn fault_after(
 pub(crate) struct AtDesk<O: Opening, C: NodeCore, S: NodeStore> {
     stored: Stored<C, S>,
     fault: Option<StoreFault>,
-    /// How many of the inputs that it was given weren't recorded.
-    unrecorded: usize,
     run: PhantomData<O>,
 }
 
@@ -46,7 +44,6 @@ impl<O: Opening, C: NodeCore, S: NodeStore + Drop> Drop for AtDesk<O, C, S> {
         let AtDesk {
             stored,
             fault: _,
-            unrecorded: _,
             run: _,
         } = self;
         drop(stored);
@@ -78,7 +75,6 @@ impl<O: Opening, C: NodeCore, S: NodeStore> AtDesk<O, C, S> {
         AtDesk {
             stored,
             fault: None,
-            unrecorded: 0,
             run: PhantomData,
         }
     }
@@ -95,23 +91,7 @@ impl<O: Opening, C: NodeCore, S: NodeStore> AtDesk<O, C, S> {
         ensures asked { result.asked ≡ Asked.Take input }
         ensures told { IsTakeOf input result }
     {
-        let taken = self.stored.take(input);
-        self.count(&taken);
-        taken
-    }
-
-    /// Counts the input if it wasn't recorded.
-    fn count(&mut self, taken: &Taken)
-        ensures { self.new ≡ self.old }
-    {
-        if !matches!(taken.told(), Told::Step(Stepped::Recorded(_))) {
-            self.unrecorded = self.unrecorded.saturating_add(1);
-        }
-    }
-
-    /// How many of the inputs that it was given weren't recorded.
-    pub(crate) fn unrecorded(&self) -> usize {
-        self.unrecorded
+        self.stored.take(input)
     }
 
     /// As `commit` of the state to its store, of at most `BATCH` records.
@@ -159,7 +139,6 @@ impl<O: Opening, C: NodeCore, S: NodeStore> AtDesk<O, C, S> {
         let AtDesk {
             stored,
             fault,
-            unrecorded: _,
             run: _,
         } = self;
         (stored, fault)

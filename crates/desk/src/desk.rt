@@ -246,10 +246,6 @@ impl<O: Opening, C: NodeCore, S: NodeStore> SharedNode for Desk<O, C, S, RoomBel
         self.locked.lock(rt).state().committed_count()
     }
 
-    fn unrecorded_count<R: Wait>(&self, rt: &R) -> usize {
-        self.locked.lock(rt).unrecorded()
-    }
-
     fn bells(&self) -> &Bells<RoomBell> {
         &self.bells
     }

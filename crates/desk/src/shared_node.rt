@@ -122,10 +122,6 @@ pub trait SharedNode {
     /// How many records are committed. There may be more once this returns.
     fn committed_count<R: Wait>(&self, rt: &R) -> usize;
 
-    /// How many of the inputs that the state was given weren't recorded: each of them left a note in a seat, if the
-    /// seat had room. There may be more once this returns.
-    fn unrecorded_count<R: Wait>(&self, rt: &R) -> usize;
-
     /// The bells, for threads that wait until there is more to commit or to send: read a bell's number, look at the
     /// node, and wait for another number if there is nothing to do. Such a wait also ends after `LONGEST_QUIET`
     /// seconds, so look again after it.

@@ -16,7 +16,7 @@ use Rattle.world.specs.declared.any_core.Core.{Core}
 use Rattle.command_faults.specs.declared.fault.OpFault.{OpFault}
 use Rattle.command_faults.specs.declared.fault.OpFault.TheVariants.{Input, Read, Write, Store, Stuck, Unsettled, Setup, Undone, NoMemory}
 use Rattle.weave.proofs.Lists.{image_at}
-use Rattle.audit.specs.Audits.{FailsToWeave}
+use Rattle.loading.specs.Runs.{FailsToWeave}
 use Rattle.ended_nodes.specs.Reported.{IsTableFault, committed_by_all}
 use Rattle.ended_nodes.specs.Settled.{AreSettled, AreSettledTo, FailsToSettle, FailsToSettleAt}
 

@@ -10,7 +10,7 @@ use Rattle.weave.specs.declared.fault.WeaveFault.TheVariants as weaving
 use Rattle.command_faults.specs.declared.fault.OpFault.{OpFault}
 use Rattle.command_faults.specs.declared.fault.OpFault.TheVariants.{Write, Stuck, Unsettled, NoMemory}
 use Rattle.report.specs.declared.form.Form.TheVariants.{Lines}
-use Rattle.audit.specs.Audits.{IsAuditTable}
+use Rattle.loading.specs.Runs.{IsAuditTable}
 use Rattle.ended_nodes.specs.Settled.{AreSettled, FailsToSettle}
 
 -- the committed records of each node

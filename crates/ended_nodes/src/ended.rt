@@ -9,9 +9,9 @@ ghost use Rattle.ended_nodes.specs.Reported.{FailsToReport, IsReported, IsTableF
 ghost use Rattle.ended_nodes.specs.Settled.{AreSettled, FailsToSettle, FailsToSettleAt};
 ghost use Rattle.world.specs.Cores.{journal_of, node_of, scheme_of};
 
-use audit::table_of_cores;
 use command_faults::{OpFault, write_out};
 use desk::{Seat, State, Stored, Unsettled, settle_with};
+use loading::table_of_cores;
 use protocol::scheme::Scheme;
 use protocol::{NodeCore, nodes_of};
 use report::Form;

@@ -6,10 +6,10 @@ use Rattle.protocol.specs.World.{opening, outcomes}
 use Rattle.protocol.specs.declared.event.WorldEvent.{WorldEvent}
 use Rattle.report.specs.declared.form.Form.TheVariants.{Lines}
 use Rattle.report.specs.Table.{IsSafeTable}
-use Rattle.rehearse.specs.Rehearsal.{IsRehearsal}
-use Rattle.rehearse.specs.Report.{IsReport, outcome_lines}
-use Rattle.rehearse.proofs.OneRehearsal.{one_rehearsal}
-use Rattle.audit.specs.Audits.{IsAuditTable}
+use Rattle.event_reports.specs.Rehearsal.{IsRehearsal}
+use Rattle.event_reports.specs.Report.{IsReport, outcome_lines}
+use Rattle.event_reports.proofs.OneRehearsal.{one_rehearsal}
+use Rattle.loading.specs.Runs.{IsAuditTable}
 use Rattle.events.specs.Listing.{ListsRun}
 use Rattle.events.specs.Runs.{IsWithinLimits}
 use Rattle.events.proofs.Lines.{rehearsal_of}

@@ -6,7 +6,7 @@ use Rattle.protocol.specs.declared.event.WorldEvent.{WorldEvent}
 use Rattle.input_lines.specs.EventLines.{IsEventLine}
 use Rattle.input_lines.specs.Lines.{AreLines, room_after}
 use Rattle.streams.specs.Inputs.{longest_input}
-use Rattle.rehearse.specs.Rehearsal.{IsRehearsal}
+use Rattle.event_reports.specs.Rehearsal.{IsRehearsal}
 use Rattle.events.specs.Runs.{AreEventLines, IsRun, IsWithinLimits}
 
 -- one line more

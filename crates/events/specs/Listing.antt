@@ -12,8 +12,8 @@ use Rattle.command_faults.specs.declared.fault.OpFault.{OpFault}
 use Rattle.command_faults.specs.declared.fault.OpFault.TheVariants.{Write, Store, Stuck, NoMemory}
 use Rattle.report.specs.declared.form.Form.{Form}
 use Rattle.report.specs.declared.form.Form.TheVariants.{Lines, Json}
-use Rattle.audit.specs.Audits.{FindsNoRun}
-use Rattle.audit.specs.Stores.{AreLoaded, FailsToLoad}
+use Rattle.loading.specs.Runs.{FindsNoRun}
+use Rattle.loading.specs.Stores.{AreLoaded, FailsToLoad}
 use Rattle.events.specs.Runs.{IsRun}
 use Rattle.events.specs.Objects.{run_objects}
 

@@ -1,15 +1,15 @@
 //! The run that leads to the records of all stores.
 ghost use Rattle.std.specs.Prelude.{◌≡◌, ◌≤◌, ◌++◌, ℕ, All, List, IfErr, IfOk, OnOk, length, map};
 ghost use Rattle.std.specs.Io.KnownBytes.{Appends};
-ghost use Rattle.audit.specs.Audits.{FailsToWeave, IsAuditTable};
-ghost use Rattle.audit.specs.Stores.{AreUnwritten};
+ghost use Rattle.loading.specs.Runs.{FailsToWeave, IsAuditTable};
+ghost use Rattle.loading.specs.Stores.{AreUnwritten};
 ghost use Rattle.protocol.specs.Input.{Input};
 ghost use Rattle.protocol.specs.Registries.{nodes};
 ghost use Rattle.protocol.specs.Scheme.{Scheme as Registries};
 ghost use Rattle.protocol.specs.declared.event.WorldEvent.{WorldEvent};
 ghost use Rattle.report.specs.declared.form.Form.TheVariants.{Lines};
-ghost use Rattle.rehearse.specs.Rehearsal.{IsRehearsal};
-ghost use Rattle.rehearse.specs.Report.{IsReport};
+ghost use Rattle.event_reports.specs.Rehearsal.{IsRehearsal};
+ghost use Rattle.event_reports.specs.Report.{IsReport};
 ghost use Rattle.weave.specs.Following.{IsWeaveFault, IsWoven, journal_of};
 ghost use Rattle.world.specs.Cores as node_cores;
 ghost use Rattle.events.specs.Listing.{FailsToList, IsRunIn, Lists, ListsRun};
@@ -17,8 +17,8 @@ ghost use Rattle.events.specs.Runs.{IsWithinLimits};
 
 use crate::objects::run_objects;
 use crate::text::run_text;
-use audit::{fault_of, load_cores};
 use command_faults::OpFault;
+use loading::{fault_of, load_cores};
 use protocol::WorldEvent;
 use protocol::scheme::Scheme;
 use report::Form;

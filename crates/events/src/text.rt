@@ -2,7 +2,7 @@
 ghost use Rattle.std.specs.Prelude.{◌≡◌, ◌++◌, ◌∷◌, [], ℕ, List, IfOk, OnOk};
 ghost use Rattle.protocol.specs.Scheme.{Scheme as Registries};
 ghost use Rattle.protocol.specs.declared.event.WorldEvent.{WorldEvent as Happening};
-ghost use Rattle.rehearse.specs.Rehearsal.{IsRehearsal};
+ghost use Rattle.event_reports.specs.Rehearsal.{IsRehearsal};
 ghost use Rattle.units.specs.Text.{IsFreeOf};
 ghost use Rattle.input_lines.specs.EventLines.{IsEventLine};
 ghost use Rattle.events.specs.Runs.{AreEventLines, IsRun, IsWithinLimits};

@@ -14,7 +14,7 @@ mod script_line;
 mod verbs;
 mod written;
 
-pub use cutting::first_line;
+pub use cutting::input_line;
 pub use events::event_of;
 pub use instruction::{Instruction, MOST_TURNS};
 pub use instructions::instruction_of;

@@ -2,7 +2,7 @@
 ghost use Rattle.std.specs.Prelude.{◌≡◌, ℕ, List, IfOk, IfErr};
 ghost use Rattle.input_lines.specs.Lines.{IsLine, IsNextFault, room_after};
 
-use crate::cutting::first_line;
+use crate::cutting::input_line;
 use crate::line::WordsFault;
 use command_faults::{Cause, OpFault};
 use std::alloc::Global;
@@ -44,7 +44,7 @@ pub fn next_line<L: WrittenLine>(
         × (p.2 ≡ room_after room words)) }
     ensures err { IfErr result (IsNextFault L.writes bytes.now room line) }
 {
-    let (words, rest) = match first_line(bytes, room) {
+    let (words, rest) = match input_line(bytes, room) {
         Ok(parts) => parts,
         Err(cause) => return Err(OpFault::Input { line, cause }),
     };

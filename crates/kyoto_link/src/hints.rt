@@ -7,7 +7,7 @@ use crate::shown_lines::{line_at, shown};
 use crate::store_hints::{tell_no_store, tell_store};
 use crate::system_files::SystemFiles;
 use commands::command_faults::{Cause, OpFault, SetupFault};
-use commands::operator::{Action, NodeWords};
+use commands::command_line::{Action, NodeWords};
 use commands::{Archive, scheme_at};
 use std::io::IsTerminal;
 use std::{env, fs};

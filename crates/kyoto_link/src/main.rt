@@ -20,7 +20,7 @@ use crate::system_files::SystemFiles;
 use crate::watching::Terminal;
 use clap::Error;
 use commands::command_faults::OpFault;
-use commands::{Ended, obey};
+use commands::{CommandEnd, obey};
 use std::io::{ErrorKind, IsTerminal};
 use std::net::{Net, TcpListener, TcpStream};
 use std::process::ExitCode;
@@ -60,19 +60,19 @@ fn tell_wrong_words(rt: &HostRuntime, words: &[String], error: &Error) {
 
 /// Writes on standard error what went wrong, if anything did, and returns the exit status. If standard error can't be
 /// written, only the status shows it.
-fn report(rt: &HostRuntime, words: &[String], ended: &Ended, input: Option<&[u8]>) -> ExitCode
+fn report(rt: &HostRuntime, words: &[String], ended: &CommandEnd, input: Option<&[u8]>) -> ExitCode
     ensures { exit_status result ≡ status_of ended.now }
 {
     match ended {
-        Ended::Done => {}
-        Ended::Failed(action, fault) => {
+        CommandEnd::Done => {}
+        CommandEnd::Failed(action, fault) => {
             tell(rt, *fault);
             if is_node(words) || are_wanted(rt) {
                 explain(rt, action, *fault, input);
             }
         }
-        Ended::NoAction(fault) => tell(rt, *fault),
-        Ended::WrongWords(error) => tell_wrong_words(rt, words, error),
+        CommandEnd::NoAction(fault) => tell(rt, *fault),
+        CommandEnd::WrongWords(error) => tell_wrong_words(rt, words, error),
     }
     ExitCode::from(ended.status())
 }
@@ -122,7 +122,7 @@ where
     R: Threads + Wait + SystemClock + Net<Listener = TcpListener, Stream = TcpStream> + Sync,
 {
     let Ok(mut input) = input_of(rt, threads, words) else {
-        return report(rt, words, &Ended::NoAction(OpFault::NoMemory), None);
+        return report(rt, words, &CommandEnd::NoAction(OpFault::NoMemory), None);
     };
     tell_waiting(rt, words);
     let ended = obey(
@@ -146,7 +146,7 @@ fn main(rt: HostRuntime) -> ExitCode {
     match words(&rt) {
         Ok(words) => run(&rt, &rt, words.as_slice()),
         Err(error) if error.kind() == ErrorKind::OutOfMemory => {
-            report(&rt, &[], &Ended::NoAction(OpFault::NoMemory), None)
+            report(&rt, &[], &CommandEnd::NoAction(OpFault::NoMemory), None)
         }
         Err(_) => {
             let _ = eprintln!(rt;

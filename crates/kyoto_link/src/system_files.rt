@@ -3,7 +3,7 @@
 use crate::copies::StoreCopy;
 use crate::watching::MigrationLine;
 use commands::command_faults::{OpFault, SetupFault};
-use commands::operator::Missing;
+use commands::command_line::Missing;
 use commands::{Archive, Unopened};
 use protocol::units::Node;
 use sqlite::File as StoreFile;

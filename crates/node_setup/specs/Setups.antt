@@ -13,7 +13,7 @@ use Rattle.command_faults.specs.declared.fault.OpFault.{OpFault}
 use Rattle.command_faults.specs.declared.fault.OpFault.TheVariants.{Setup as of_setup}
 use Rattle.command_faults.specs.declared.setup_fault.SetupFault.{SetupFault}
 use Rattle.command_faults.specs.declared.setup_fault.SetupFault.TheVariants.{CleanUp, Exposed, Listen, NotTheLog, Unknown}
-use Rattle.operator.specs.declared.actions.NodeWords.{NodeWords}
+use Rattle.command_line.specs.declared.actions.NodeWords.{NodeWords}
 use Rattle.sockets.specs.Addresses.{NodeAddress}
 use Rattle.node_setup.specs.Peers.{Allows, ArePeers, FailsToLink, HasAll}
 use Rattle.node_setup.specs.Words.{IsSeconds}

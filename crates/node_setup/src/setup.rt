@@ -5,7 +5,7 @@ ghost use Rattle.node_setup.specs.Setups.{FailsToListen, FailsToSetUp, FailsToTi
 use crate::peers::{Guard, read_peers};
 use crate::words::read_seconds;
 use command_faults::{OpFault, SetupFault, node_of};
-use operator::NodeWords;
+use command_line::NodeWords;
 use protocol::scheme::Scheme;
 use sockets::Ports;
 use std::alloc::Global;

@@ -14,7 +14,7 @@ use std::mem;
 use units::NoMemory;
 use wire::Input;
 
-/// The notes of one thread: the records that it made, and every other result that it got about the journal.
+/// The notes of one thread: the records that it made, and the other results that it got about the journal.
 #[derive(Debug)]
 pub struct Seat {
     tickets: Vec<Ticket>,
@@ -158,6 +158,13 @@ impl Seat {
             self.lengths = Lengths::Fell;
         }
         self.seen = self.seen.max(length);
+    }
+
+    /// Forgets the notes, but not the tickets: for a thread whose other results nobody reports.
+    pub fn forget_notes(&mut self)
+        ensures { self.new ≡ record self.old { notes = [] } }
+    {
+        self.notes.clear();
     }
 
     /// Keeps that the records of this receipt are committed.

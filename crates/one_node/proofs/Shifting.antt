@@ -28,7 +28,7 @@ use Rattle.serving.proofs.Ordering.{has_none}
 use Rattle.one_node.specs.Lives.{AnswersExport, EndsShift, GoesOn, IsCarried, IsLife, IsShift, begins_with, held_nowhere, opens_with, records_line}
 use Rattle.one_node.specs.Shifts.{AsksToEnd, HasTurns, IsAnswered, Talks, empty_seat, never}
 use Rattle.one_node.specs.Turns.{IsTurn, Turn, Exported, Line, Timed, Unread, answers_of, answers_text, clean_up_moment, lines_of, raw_lines}
-use Rattle.one_node.specs.declared.answering.LineFault.TheVariants as faults
+use Rattle.one_node.specs.declared.answering.OperatorFault.TheVariants as faults
 use Rattle.one_node.proofs.Going.{goes_on, goes_to_committed, goes_to_journal}
 use Rattle.one_node.proofs.Turning.{answered_on, read_on, turns_as}
 

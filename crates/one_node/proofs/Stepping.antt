@@ -21,8 +21,8 @@ use Rattle.one_node.specs.Reading.{ReadsLine, ReadsOn, held_of}
 use Rattle.command_faults.specs.declared.fault.OpFault.{OpFault}
 use Rattle.one_node.specs.Shifts.{AnswersLine, AwaitsExport, EndsThere, Hears, IsBegun, IsNext, TakesLine, Talks, never}
 use Rattle.one_node.specs.Turns.{AsksExport, IsAhead, IsAnswer, IsTimely, IsTurn, Turn, Line, Unread, answers_text, fault_line, line_to, raw_lines}
-use Rattle.one_node.specs.declared.answering.LineFault.{LineFault}
-use Rattle.one_node.specs.declared.answering.LineFault.TheVariants as faults
+use Rattle.one_node.specs.declared.answering.OperatorFault.{OperatorFault}
+use Rattle.one_node.specs.declared.answering.OperatorFault.TheVariants as faults
 use Rattle.one_node.specs.declared.operator.Next.{Next}
 use Rattle.one_node.specs.declared.operator.Next.TheVariants.{On, Export, End}
 use Rattle.one_node.proofs.HeldLines.{held_again, held_short, held_whole, long_front}
@@ -68,7 +68,7 @@ module _ (scheme : Scheme) (n : Node) (tells : Moment → Type 0) where
     begins = begun;
   }
 
-  unread : (raw : List ℕ) (fault : LineFault) (v w : Option (List ℕ)) (count counted : ℕ) (seat : SeatView) (after : List ℕ) → IsTurn scheme n (HasHeard seat) tells never (Unread raw fault)
+  unread : (raw : List ℕ) (fault : OperatorFault) (v w : Option (List ℕ)) (count counted : ℕ) (seat : SeatView) (after : List ℕ) → IsTurn scheme n (HasHeard seat) tells never (Unread raw fault)
       → Appends v w (fault_line (count + 1) fault) → counted ≡ count + 1 → after ≡ [] → AnswersLine scheme n tells raw v w count counted seat seat after
   unread raw fault v w count counted seat after is written one begun = record {
     turn = Unread raw fault;

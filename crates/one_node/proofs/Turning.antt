@@ -22,7 +22,7 @@ use Rattle.serving.specs.declared.answer.ScriptAnswer.{ScriptAnswer}
 use Rattle.serving.specs.declared.answer.ScriptAnswer.TheVariants.{NotPossible, Told as Answered}
 use Rattle.one_node.specs.Shifts.{HasTurns, Hears, IsAnswered, IsRead, Talks, never}
 use Rattle.one_node.specs.Turns.{IsAnswer, IsTurn, Turn, Line, Unread, Exported, Timed, answers_of, answers_text, export_line, fault_line, line_to, lines_of, raw_lines}
-use Rattle.one_node.specs.declared.answering.LineFault.TheVariants as faults
+use Rattle.one_node.specs.declared.answering.OperatorFault.TheVariants as faults
 
 -- ---- turns after turns
 

@@ -15,7 +15,7 @@ use Rattle.serving.specs.Orders.{AreOrders}
 use Rattle.serving.specs.Committed.{ordered_from}
 use Rattle.one_node.specs.Shifts.{AsksToEnd, IsAnswered, IsBegun, IsNext, IsRead}
 use Rattle.one_node.specs.Turns.{AsksExport, IsExportLine, IsTurn, Turn, Exported, Unread, answers_of, answers_text, lines_of}
-use Rattle.one_node.specs.declared.answering.LineFault.TheVariants as faults
+use Rattle.one_node.specs.declared.answering.OperatorFault.TheVariants as faults
 use Rattle.one_node.specs.declared.operator.Next.{Next}
 use Rattle.one_node.specs.declared.operator.Next.TheVariants.{On, Export, End}
 

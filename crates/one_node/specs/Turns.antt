@@ -16,14 +16,14 @@ use Rattle.input_lines.specs.declared.script_line.ScriptLine.{ScriptLine}
 use Rattle.serving.specs.Answers.{answer_line, asked_by, is_possible}
 use Rattle.serving.specs.declared.answer.ScriptAnswer.{ScriptAnswer}
 use Rattle.serving.specs.declared.answer.ScriptAnswer.TheVariants.{NotPossible, Told as Answered}
-use Rattle.one_node.specs.declared.answering.LineFault.{LineFault}
-use Rattle.one_node.specs.declared.answering.LineFault.TheVariants as faults
+use Rattle.one_node.specs.declared.answering.OperatorFault.{OperatorFault}
+use Rattle.one_node.specs.declared.answering.OperatorFault.TheVariants as faults
 
 pub data Turn : Type 0 where
   -- a line, the order or question that it writes, and its result
   Line : List ℕ → Instruction → ScriptAnswer → Turn
   -- a line that asks for nothing, for an export that failed or for a clean-up that is refused, and why
-  Unread : List ℕ → LineFault → Turn
+  Unread : List ℕ → OperatorFault → Turn
   -- a line that asks for an export, and how many records were exported
   Exported : List ℕ → ℕ → Turn
   -- a clean-up that the clock ordered at that moment, and the node's result
@@ -39,14 +39,14 @@ raw_lines (Unread raw fault ∷ turns) = raw ∷ raw_lines turns
 raw_lines (Exported raw count ∷ turns) = raw ∷ raw_lines turns
 raw_lines (Timed moment told ∷ turns) = raw_lines turns
 
-abbrev pub fault_word : LineFault → List ℕ
+abbrev pub fault_word : OperatorFault → List ℕ
 fault_word faults.Order = codes "order"
 fault_word faults.TooLong = codes "too-long"
 fault_word faults.Export = codes "export"
 fault_word faults.Moment = codes "moment"
 
 -- the result of the line with that number, which has that fault
-abbrev pub fault_line : ℕ → LineFault → List ℕ
+abbrev pub fault_line : ℕ → OperatorFault → List ℕ
 fault_line number fault = decimal number ++ codes " fault " ++ fault_word fault ++ codes "\n"
 
 -- the result of the line with that number, for which that many records were exported

@@ -8,7 +8,7 @@ use units::NoMemory;
 
 /// Why the node did nothing for a line.
 #[derive(Clone, Copy, Debug, PartialEq, Eq)]
-pub enum LineFault {
+pub enum OperatorFault {
     /// It is no order and no question.
     Order,
     /// It has more than `LONGEST_LINE` bytes.
@@ -19,22 +19,26 @@ pub enum LineFault {
     Moment,
 }
 
-impl LineFault {
+impl OperatorFault {
     /// The word for it.
     fn word(self) -> &'static str
         ensures { result.now ≡ fault_word self }
     {
         match self {
-            LineFault::Order => "order",
-            LineFault::TooLong => "too-long",
-            LineFault::Export => "export",
-            LineFault::Moment => "moment",
+            OperatorFault::Order => "order",
+            OperatorFault::TooLong => "too-long",
+            OperatorFault::Export => "export",
+            OperatorFault::Moment => "moment",
         }
     }
 }
 
 /// Adds the result of the line with that number, which has that fault. After `NoMemory` the text may have a part of it.
-pub(crate) fn push_fault(text: &mut String, number: u64, fault: LineFault) -> Result<(), NoMemory>
+pub(crate) fn push_fault(
+    text: &mut String,
+    number: u64,
+    fault: OperatorFault,
+) -> Result<(), NoMemory>
     ensures { OnOk result (string_bytes text.new ≡ string_bytes text.old ++ fault_line number fault) }
 {
     let word = fault.word();

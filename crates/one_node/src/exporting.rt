@@ -5,7 +5,7 @@ ghost use Rattle.protocol.specs.Input.{Input as AnInput};
 ghost use Rattle.one_node.specs.Lives.{AnswersExport, IsCarried};
 ghost use Rattle.one_node.specs.Turns.{AsksExport, IsExportLine};
 
-use crate::answering::{LineFault, push_export};
+use crate::answering::{OperatorFault, push_export};
 use crate::operator::Operator;
 use command_faults::OpFault;
 use std::io::Write;
@@ -75,7 +75,7 @@ impl Operator {
                 push_export(&mut text, number, records.len())?;
                 self.write_answer(writer, text.as_str(), number)
             }
-            Err(NotExported) => self.refuse(writer, LineFault::Export),
+            Err(NotExported) => self.refuse(writer, OperatorFault::Export),
         }
     }
 }

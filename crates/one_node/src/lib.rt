@@ -10,6 +10,6 @@ mod reading;
 mod shift;
 mod timer;
 
-pub use answering::LineFault;
+pub use answering::OperatorFault;
 pub use exporting::{Exporter, NotExported};
 pub use living::{Setting, run_alone};

@@ -1,5 +1,5 @@
 //! The life of a node that stands alone: shift after shift, until its operator ends it.
-ghost use Rattle.std.specs.Prelude.{◌≡◌, ◌<◌, ◌++◌, ◌∷◌, [], true, false, ℕ, List, All, IfOk, Ok, OnOk, length, string_bytes};
+ghost use Rattle.std.specs.Prelude.{◌≡◌, ◌++◌, ◌∷◌, [], true, false, ℕ, List, All, IfOk, Ok, OnOk, length, string_bytes};
 ghost use Rattle.std.specs.Io.KnownBytes.{Appends};
 ghost use Rattle.desk.specs.Keeping.{IsKept, IsToSend, MayOpen, StoredView};
 ghost use Rattle.node_state.specs.Views.{SeatView, committed_records, opened_with};
@@ -45,32 +45,13 @@ pub struct Setting<'a, N: Network> {
     pub clean_up: Option<Duration>,
 }
 
-/// The one desk of a node.
-type OneDesk<O, S> = Vec<Desk<O, Core, S, RoomBell>>;
-
-/// The one desk of the node's state, which has a bell for each of these peers. Fails with `NoMemory` if memory ran out:
-/// then the store is closed.
-fn one_desk<O: Opening, S: NodeStore + Drop>(
-    alloc: Global,
-    peers: &[Node],
-    loaded: Stored<Core, S>,
-) -> Result<OneDesk<O, S>, NoMemory>
-    requires { MayOpen S.NodeStore O.opened loaded }
-    ensures { IfOk result (λ v. 0 < length v.items) }
-{
-    let desk = desk_of::<O, S>(alloc, peers, loaded)?;
-    let mut desks = Vec::new(alloc);
-    desks.push(desk)?;
-    Ok(desks)
-}
-
-/// Runs the node at its one desk for a shift, and writes the results of the operator's lines. It has five type
+/// Runs the node at its desk for a shift, and writes the results of the operator's lines. It has five type
 /// parameters: the desk, the network, the operator's two streams, and the system.
 fn run_desk<D, N, I, W, R>(
     rt: &R,
     setting: &Setting<'_, N>,
     node: Node,
-    desks: &[D],
+    desk: &D,
     operator: &mut Operator,
     reader: &mut I,
     writer: &mut W,
@@ -82,7 +63,6 @@ where
     W: Write,
     R: Threads + Wait + SystemClock + Sync,
     requires member { is_node setting.now.scheme.now node ≡ true }
-    requires desk { 0 < length desks.now }
     ensures taken { IfOk result (λ s. All (AreOfThread D.is_to_send
         (IsReceivedBy (N.leads setting.now.network.now) N.Reader.remaining N.Writer.contents)
         (N.Clock.tells setting.now.network.now)) s.threads.items) }
@@ -97,7 +77,7 @@ where
     let threads = NodeThreads::new(
         operator.alloc,
         node,
-        &desks[0],
+        desk,
         setting.network,
         setting.peers,
         &barrier,
@@ -105,7 +85,7 @@ where
     let client = Client {
         scheme: setting.scheme,
         node,
-        desks,
+        desk,
         network: setting.network,
     };
     operator.run_shift(rt, &client, &threads, &barrier, reader, writer)
@@ -130,7 +110,7 @@ fn end_shift<K: Opening + Life, S: NodeStore + Drop>(
     alloc: Global,
     scheme: &Scheme,
     node: Node,
-    desks: OneDesk<K, S>,
+    desk: Desk<K, Core, S, RoomBell>,
     shift: Shift,
 ) -> Result<(Stored<Core, S>, Next), OpFault>
     requires took { All (HasOnly K.takes) shift.threads.items }
@@ -144,14 +124,6 @@ fn end_shift<K: Opening + Life, S: NodeStore + Drop>(
         seat,
         next,
     } = shift;
-    let mut desks = desks;
-    let popped = desks.pop();
-    drop(desks);
-    let Some(desk) = popped else {
-        drop(threads);
-        drop(seat);
-        return Err(OpFault::Unsettled { node });
-    };
     let seats = all_seats(threads, seat)?;
     let stored = end_desk(node, desk)?;
     let core = settle_node(alloc, scheme, node, stored.state(), seats.as_slice())?;
@@ -194,19 +166,11 @@ where
 {
     let alloc = operator.alloc;
     let node = loaded.state().node();
-    let desks = one_desk::<K, N::Store>(alloc, setting.peers, loaded)?;
-    match run_desk(
-        rt,
-        setting,
-        node,
-        desks.as_slice(),
-        operator,
-        reader,
-        writer,
-    ) {
-        Ok(shift) => end_shift::<K, N::Store>(alloc, setting.scheme, node, desks, shift),
+    let desk = desk_of::<K, N::Store>(alloc, setting.peers, loaded)?;
+    match run_desk(rt, setting, node, &desk, operator, reader, writer) {
+        Ok(shift) => end_shift::<K, N::Store>(alloc, setting.scheme, node, desk, shift),
         Err(fault) => {
-            drop(desks);
+            drop(desk);
             Err(fault)
         }
     }

@@ -1,5 +1,5 @@
 //! The operator of a node, who writes lines and reads the result of each.
-ghost use Rattle.std.specs.Prelude.{◌≡◌, ◌<◌, ◌+◌, ◌++◌, ◌∷◌, [], false, true, List, ℕ, IfOk, OnOk, length};
+ghost use Rattle.std.specs.Prelude.{◌≡◌, ◌+◌, ◌++◌, ◌∷◌, [], false, true, List, ℕ, IfOk, OnOk, length};
 ghost use Rattle.std.specs.Io.KnownBytes.{Appends};
 ghost use Rattle.units.specs.declared.code.Node.{Node as ANode};
 ghost use Rattle.protocol.specs.Registries.{is_node};
@@ -10,7 +10,7 @@ ghost use Rattle.serving.specs.declared.answer.ScriptAnswer.{ScriptAnswer as AnA
 ghost use Rattle.one_node.specs.Shifts.{IsBegun, IsNext, IsTimed, Operates, TakesLine, Talks};
 ghost use Rattle.one_node.specs.Turns.{IsAhead, IsAnswer, IsTimely, clean_up_moment, fault_line, line_to};
 
-use crate::answering::{LineFault, push_fault};
+use crate::answering::{OperatorFault, push_fault};
 use crate::exporting::export_path;
 use crate::reading::{LineBuffer, Step};
 use crate::timer::Timer;
@@ -33,13 +33,9 @@ use wire::Input;
 /// How long the operator's thread sleeps if there is nothing to read, in milliseconds.
 const QUIET_PAUSE: u64 = 10;
 
-/// How many notes are kept at least before they are settled. The C library keeps for each thread the most memory that
-/// its notes have taken, so a larger number makes a node larger for good.
-const LEAST_NOTES: usize = 512;
-
-/// Settling goes through the journal once, so more notes are kept if the journal is long: one for this number of
-/// records.
-const RECORDS_A_NOTE: usize = 64;
+/// How many notes of the operator's lines are kept before they are settled, which takes some 10 MB. Settling goes
+/// through the whole journal and ends all threads, so it has to be rare.
+const MOST_NOTES: usize = 65_536;
 
 /// How many seconds the moment of an operator's clean-up may be ahead of the node's clock: a day. A wrong year would
 /// cancel all transfers with status Checked.
@@ -59,13 +55,12 @@ pub(crate) enum Next {
     End,
 }
 
-/// A node that is given orders and asked questions: at its desk, under its scheme.
+/// A node that is given orders and asked questions, at its desk and under its scheme.
 #[derive(Drop)]
 pub(crate) struct Client<'a, D: SharedNode, N: Network> {
     pub(crate) scheme: &'a Scheme,
     pub(crate) node: Node,
-    /// The node's one desk.
-    pub(crate) desks: &'a [D],
+    pub(crate) desk: &'a D,
     pub(crate) network: &'a N,
 }
 
@@ -100,7 +95,6 @@ impl<'a, D: SharedNode, N: Network> Client<'a, D, N> {
         instruction: Instruction,
     ) -> ScriptAnswer
         requires member { is_node self.now.scheme.now self.now.node ≡ true }
-        requires desk { 0 < length self.now.desks.now }
         ensures answer { IsAnswer self.now.scheme.now self.now.node (HasHeard seat.new) instruction result }
         ensures grows { Grows seat.old seat.new }
         ensures orders { (lines : List ALine) (answers : List AnAnswer) → length answers ≡ length lines
@@ -108,28 +102,20 @@ impl<'a, D: SharedNode, N: Network> Client<'a, D, N> {
             → HasOrders self.now.node (lines ++ line_to self.now.node instruction ∷ []) (answers ++ result ∷ []) seat.new }
     {
         if takes(self.node, &instruction) {
-            ScriptAnswer::Told(ask(rt, self.desks, 0, seat, instruction, &mut Nobody))
+            ScriptAnswer::Told(ask(rt, self.desk, seat, instruction, &[], &mut Nobody))
         } else {
             ScriptAnswer::NotPossible
         }
     }
 
-    /// Whether the desk has stopped, or so many notes were made there that they are to be settled.
+    /// Whether the desk has stopped, or the seat has so many notes that they are to be settled.
     fn is_to_settle<R: Wait>(&self, rt: &R, seat: &Seat) -> bool {
-        let Some(desk) = self.desks.first() else {
-            return true;
-        };
-        if !desk.is_running(rt) {
-            return true;
-        }
-        let notes = desk.unrecorded_count(rt).saturating_add(seat.notes().len());
-        notes >= LEAST_NOTES.max(desk.committed_count(rt) / RECORDS_A_NOTE)
+        seat.notes().len() >= MOST_NOTES || !self.desk.is_running(rt)
     }
 
     /// Orders a clean-up at the clock's moment, if the node is the log.
     fn clean_up<R: Wait + SystemClock>(&self, rt: &R, seat: &mut Seat)
         requires member { is_node self.now.scheme.now self.now.node ≡ true }
-        requires desk { 0 < length self.now.desks.now }
         ensures { IsTimed self.now.scheme.now self.now.node (N.Clock.tells self.now.network.now) seat.old
             seat.new }
     {
@@ -143,13 +129,12 @@ impl<'a, D: SharedNode, N: Network> Client<'a, D, N> {
     fn order_clean_up<R: Wait + SystemClock>(&self, rt: &R, seat: &mut Seat)
         requires log { self.now.node ≡ ANode.Itl }
         requires member { is_node self.now.scheme.now self.now.node ≡ true }
-        requires desk { 0 < length self.now.desks.now }
         ensures { IsTimed self.now.scheme.now self.now.node (N.Clock.tells self.now.network.now) seat.old
             seat.new }
     {
         let moment = self.network.now();
         let order = Instruction::Order(Input::CleanUp(moment));
-        let _told = ask(rt, self.desks, 0, seat, order, &mut Nobody);
+        let _told = ask(rt, self.desk, seat, order, &[], &mut Nobody);
     }
 }
 
@@ -209,7 +194,7 @@ impl Operator {
     pub(crate) fn refuse<W: Write>(
         &mut self,
         writer: &mut W,
-        fault: LineFault,
+        fault: OperatorFault,
     ) -> Result<(), OpFault>
         ensures written { OnOk result (Appends (W.contents writer.old) (W.contents writer.new)
             (fault_line (self.old.count + 1) fault)) }
@@ -233,7 +218,6 @@ impl Operator {
         seat: &mut Seat,
     ) -> Result<Next, OpFault>
         requires member { is_node client.now.scheme.now client.now.node ≡ true }
-        requires desk { 0 < length client.now.desks.now }
         ensures { IfOk result (λ next. TakesLine client.now.scheme.now client.now.node
             (N.Clock.tells client.now.network.now) self.old.line.held.items (W.contents writer.old)
             (W.contents writer.new) self.old.count self.new.count seat.old seat.new self.new.line.held.items next) }
@@ -252,7 +236,7 @@ impl Operator {
         match instruction_of(self.alloc, self.line.held()) {
             Ok(instruction) => {
                 if client.is_ahead(&instruction) {
-                    self.refuse(writer, LineFault::Moment)?;
+                    self.refuse(writer, OperatorFault::Moment)?;
                     return Ok(Next::On);
                 }
                 let answer = client.answer(rt, seat, instruction);
@@ -261,7 +245,7 @@ impl Operator {
                 Ok(Next::On)
             }
             Err(WordsFault::Order) => {
-                self.refuse(writer, LineFault::Order)?;
+                self.refuse(writer, OperatorFault::Order)?;
                 Ok(Next::On)
             }
             Err(WordsFault::NoMemory) => Err(OpFault::NoMemory),
@@ -280,7 +264,6 @@ impl Operator {
         seat: &mut Seat,
     ) -> Result<Next, OpFault>
         requires member { is_node client.now.scheme.now client.now.node ≡ true }
-        requires desk { 0 < length client.now.desks.now }
         ensures { (begun : List ℕ) → IsBegun self.old.line.held.items begun → IfOk result
             (λ next. (left : List ℕ) × Talks client.now.scheme.now client.now.node
             (N.Clock.tells client.now.network.now) begun (I.remaining reader.old) (I.remaining reader.new)
@@ -294,7 +277,7 @@ impl Operator {
         match self.line.step(reader) {
             Step::Line => self.take_line(rt, client, writer, seat),
             Step::TooLong => {
-                self.refuse(writer, LineFault::TooLong)?;
+                self.refuse(writer, OperatorFault::TooLong)?;
                 Ok(Next::On)
             }
             Step::Quiet => {
@@ -318,7 +301,6 @@ impl Operator {
         seat: &mut Seat,
     ) -> Result<Next, OpFault>
         requires member { is_node client.now.scheme.now client.now.node ≡ true }
-        requires desk { 0 < length client.now.desks.now }
         ensures { Operates client.now.scheme.now client.now.node (N.Clock.tells client.now.network.now)
             self.old.line.held.items self.new.line.held.items (I.remaining reader.old) (I.remaining reader.new)
             (W.contents writer.old) (W.contents writer.new) self.old.count self.new.count seat.old seat.new result }

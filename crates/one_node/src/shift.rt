@@ -1,6 +1,6 @@
 //! A shift of a node: its threads run at a desk, and the results of its operator's lines are written, until the node is
 //! to end or the notes are to be settled.
-ghost use Rattle.std.specs.Prelude.{◌≡◌, ◌<◌, [], true, ℕ, List, All, IfOk, Ok, length};
+ghost use Rattle.std.specs.Prelude.{◌≡◌, [], true, ℕ, List, All, IfOk, Ok};
 ghost use Rattle.std.specs.Thread.{IsSync};
 ghost use Rattle.desk.specs.Keeping.{IsAtDesk, IsKept};
 ghost use Rattle.settling.specs.Settling.{IsSettled};
@@ -31,15 +31,6 @@ pub(crate) struct Shift {
     pub(crate) next: Next,
 }
 
-impl<D: SharedNode, N: Network> Client<'_, D, N> {
-    /// Stops the node's desk, so that its threads end.
-    fn stop<R: Wait>(&self, rt: &R) {
-        for desk in self.desks {
-            desk.stop(rt);
-        }
-    }
-}
-
 impl Operator {
     /// Reads lines as `operate` does, once these threads have begun, and then stops the desk. Fails with `NoMemory` if a
     /// thread is missing: then no line was read. It has the type parameters of `operate`.
@@ -53,7 +44,6 @@ impl Operator {
         seat: &mut Seat,
     ) -> Result<Next, OpFault>
         requires member { is_node client.now.scheme.now client.now.node ≡ true }
-        requires desk { 0 < length client.now.desks.now }
         ensures { Operates client.now.scheme.now client.now.node (N.Clock.tells client.now.network.now)
             self.old.line.held.items self.new.line.held.items (I.remaining reader.old) (I.remaining reader.new)
             (W.contents writer.old) (W.contents writer.new) self.old.count self.new.count seat.old seat.new result }
@@ -62,7 +52,7 @@ impl Operator {
             Ok(()) => self.operate(rt, client, reader, writer, seat),
             Err(NoMemory) => Err(OpFault::NoMemory),
         };
-        client.stop(rt);
+        client.desk.stop(rt);
         next
     }
 
@@ -84,7 +74,6 @@ impl Operator {
         W: Write,
         R: Threads + Wait + SystemClock + Sync,
         requires member { is_node client.now.scheme.now client.now.node ≡ true }
-        requires desk { 0 < length client.now.desks.now }
         ensures taken { IfOk result (λ s. All (AreOfThread D.is_to_send
             (IsReceivedBy (N.leads node.now.network.now) N.Reader.remaining N.Writer.contents)
             (N.Clock.tells node.now.network.now)) s.threads.items) }
@@ -111,7 +100,6 @@ impl Operator {
             { run_node(rt, alloc, node) },
             &mut || -> Result<Next, OpFault>
                 requires member { is_node client.now.scheme.now client.now.node ≡ true }
-                requires desk { 0 < length client.now.desks.now }
                 ensures { Operates client.entry.now.scheme.now client.entry.now.node
                     (N.Clock.tells client.entry.now.network.now)
                     self.entry.now.line.held.items self.exit.now.line.held.items

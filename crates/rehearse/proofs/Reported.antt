@@ -6,7 +6,7 @@ use Rattle.protocol.specs.declared.event.WorldEvent.{WorldEvent}
 use Rattle.report.specs.Table.{IsSafeTable}
 use Rattle.report.specs.declared.form.Form.TheVariants.{Lines}
 use Rattle.rehearse.specs.Rehearsal.{HasRun}
-use Rattle.rehearse.specs.Report.{IsReport}
+use Rattle.event_reports.specs.Report.{IsReport}
 
 -- the outcomes' lines, and then the table of the world that the events lead to
 pub reported : (scheme : Scheme) (events : List WorldEvent) (w : World) (lines text : List ℕ) → HasRun scheme events w lines → (table : List ℕ) × IsSafeTable Lines scheme events table × (text ≡ lines ++ table) → IsReport scheme events text

@@ -4,11 +4,11 @@ ghost use Rattle.std.specs.Prelude.{◌≡◌, ◌++◌, ℕ, List, IfErr, OnOk,
 ghost use Rattle.std.specs.Io.KnownBytes.{Appends};
 ghost use Rattle.protocol.specs.World.{step};
 ghost use Rattle.report.specs.ReportLines.{outcome_line};
-ghost use Rattle.rehearse.specs.Rehearsal.{Reports, FailsSo};
-ghost use Rattle.rehearse.specs.Report.{IsReport};
+ghost use Rattle.event_reports.specs.Rehearsal.{Reports, FailsSo};
+ghost use Rattle.event_reports.specs.Report.{IsReport};
 
-use crate::reporting::{Reporter, report_input};
 use command_faults::OpFault;
+use event_reports::{Reporter, report_input};
 use protocol::WorldEvent;
 use report::{Form, push_outcome, push_table};
 use scheme::Scheme;
@@ -43,7 +43,7 @@ fn run_event(
 
 impl Reporter for Rehearsal {
     ghost use Rattle.std.specs.Prelude.{string_bytes};
-    ghost use Rattle.rehearse.specs.Report.{IsReport};
+    ghost use Rattle.event_reports.specs.Report.{IsReport};
     ghost use Rattle.rehearse.specs.Rehearsal.{HasRun};
 
     ghost was_told = { λ r scheme events. HasRun scheme events r.world (string_bytes r.lines) };

@@ -5,3 +5,4 @@ pub mod Texts
 mod Objects
 pub mod CountedUnits
 mod SafeTables
+pub mod NumberedLines

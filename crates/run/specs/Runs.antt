@@ -13,7 +13,7 @@ use Rattle.weave.specs.Following.{journal_of}
 use Rattle.command_faults.specs.declared.fault.OpFault.{OpFault}
 use Rattle.command_faults.specs.declared.fault.OpFault.TheVariants.{Write, NoMemory}
 use Rattle.report.specs.declared.form.Form.TheVariants.{Lines}
-use Rattle.audit.specs.Audits.{IsAuditTable}
+use Rattle.loading.specs.Runs.{IsAuditTable}
 use Rattle.ended_nodes.specs.Ended.{states_of}
 use Rattle.ended_nodes.specs.Reported.{committed_by_all}
 use Rattle.input_lines.specs.declared.script_line.ScriptLine.{ScriptLine}

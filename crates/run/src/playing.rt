@@ -51,7 +51,7 @@ fn play<D: SharedNode, P: Watch, R: Wait + SystemClock>(
     match index_for(scheme, line) {
         Some(at) => {
             let seat = &mut seats[at];
-            ScriptAnswer::Told(ask_copy(rt, desks, at, seat, &line.instruction, watch))
+            ScriptAnswer::Told(ask_copy(rt, &desks[at], seat, &line.instruction, desks, watch))
         }
         None => ScriptAnswer::NotPossible,
     }

@@ -18,14 +18,13 @@ ghost use Rattle.run.specs.Runs.{FailsToRun, HaveOthers, IsLoadedAmong, IsRunRep
 ghost use Rattle.serving.specs.Ends.{HaveEnded, IsLateFault};
 ghost use Rattle.serving.specs.declared.answer.ScriptAnswer.{ScriptAnswer as AnAnswer};
 
-use crate::gathering::{ThreadSeats, end_all};
+use crate::gathering::end_all;
 use crate::script::Script;
 use crate::taking::Taking;
-use crate::threads::{Heard, Played, Run, run_and_play};
-use crate::wiring::NodeDesk;
+use crate::threads::{EndingNodes, Run, run_and_play};
 use command_faults::{OpFault, write_out};
 use desk::stores::NodeStore;
-use desk::{Opening, Seat, Stored};
+use desk::{Opening, Stored};
 use ended_nodes::{EndedNode, table_of_ended};
 use protocol::scheme::Scheme;
 use serving::{Watch, first_undone, lines_of};
@@ -36,7 +35,7 @@ use std::marker::Brand;
 use std::rt::Clock as SystemClock;
 use std::sync::Wait;
 use std::thread::Threads;
-use units::{NoMemory, Node};
+use units::NoMemory;
 use world::Core;
 
 /// What a run leaves.
@@ -79,15 +78,6 @@ fn with_table<T: Taking, S: NodeStore, P: weave::Watch>(
         Ok(table) => Ok(joined(alloc, answers, table.as_str())?),
         Err(fault) => Err(fault),
     }
-}
-
-/// The nodes of a run at its end: their names and desks, and the seats of each node's threads and of the script.
-#[derive(Drop)]
-struct EndingNodes<O: Opening, S: NodeStore + Drop> {
-    names: Vec<Node>,
-    desks: Vec<NodeDesk<O, S>>,
-    threads: Vec<ThreadSeats>,
-    script: Vec<Seat>,
 }
 
 /// The nodes that a run leaves, and the answers with the table of their committed records.
@@ -137,19 +127,18 @@ fn whole_of<K: Opening + Taking, S: NodeStore + Drop, P: weave::Watch>(
 }
 
 /// Writes the results of a run: the answers in any case, and then the table or the fault. Returns what the run leaves.
-fn write_run<K: Opening + Taking, N: Network, W: Write, P: weave::Watch>(
+fn write_run<K: Opening + Taking, S: NodeStore + Drop, W: Write, P: weave::Watch>(
     alloc: Global,
     script: &Script<'_>,
-    run: Run<K, N>,
+    run: Run<K, S>,
     writer: &mut W,
     watch: &mut P,
-) -> Result<EndedRun<N::Store>, OpFault>
-    requires names { run.names.items ≡ all_nodes script.now.scheme.now }
-    requires desks { vec_len run.desks ≡ length run.names.items }
-    requires taken { AreAll (HasOnly K.takes) run.heard.threads.items }
-    requires seats { vec_len run.heard.script.seats ≡ length (all_nodes script.now.scheme.now) }
-    requires played { IsPlayed script.now.scheme.now script.now.lines.now run.heard.script.answers.items
-        run.heard.script.seats.items }
+) -> Result<EndedRun<S>, OpFault>
+    requires names { run.nodes.names.items ≡ all_nodes script.now.scheme.now }
+    requires desks { vec_len run.nodes.desks ≡ length run.nodes.names.items }
+    requires taken { AreAll (HasOnly K.takes) run.nodes.threads.items }
+    requires seats { vec_len run.nodes.script ≡ length (all_nodes script.now.scheme.now) }
+    requires played { IsPlayed script.now.scheme.now script.now.lines.now run.answers.items run.nodes.script.items }
     requires unordered { (input : AnInput) → K.takes input → was_ordered input ≡ false }
     ensures ok { IfOk result
         (λ r. (text : List ℕ)
@@ -157,33 +146,18 @@ fn write_run<K: Opening + Taking, N: Network, W: Write, P: weave::Watch>(
         × Appends (W.contents writer.old) (W.contents writer.new) text) }
     ensures others { IfOk result (λ r. HaveOthers K.takes script.now.scheme.now (states_in r.nodes.items)) }
     ensures ended { IfOk result
-        (λ r. HaveEnded N.Store.NodeStore K.opened script.now.scheme.now (stored_in r.nodes.items)) }
+        (λ r. HaveEnded S.NodeStore K.opened script.now.scheme.now (stored_in r.nodes.items)) }
     ensures err { IfErr result
-        (λ e. FailsToRun N.Store.NodeStore K.opened e script.now.scheme.now script.now.lines.now
+        (λ e. FailsToRun S.NodeStore K.opened e script.now.scheme.now script.now.lines.now
         (W.contents writer.old) (W.contents writer.new)) }
 {
-    let Run {
-        names,
-        desks,
-        heard,
-    } = run;
-    let Heard {
-        threads,
-        script: played,
-    } = heard;
-    let Played { seats, answers } = played;
+    let Run { nodes, answers } = run;
     let told = answers.as_slice();
     let Ok(text) = lines_of(alloc, told) else {
         return Err(OpFault::NoMemory);
     };
     let undone = first_undone(script.lines, told);
-    let nodes = EndingNodes {
-        names,
-        desks,
-        threads,
-        script: seats,
-    };
-    match whole_of::<K, N::Store, P>(alloc, script.scheme, nodes, text.as_str(), watch) {
+    match whole_of::<K, S, P>(alloc, script.scheme, nodes, text.as_str(), watch) {
         Ok(Whole { ended, text }) => match write_out(writer, text.as_str()) {
             Ok(()) => Ok(EndedRun {
                 nodes: ended,
@@ -237,7 +211,7 @@ where
         (W.contents writer.old) (W.contents writer.new)) }
 {
     let run = run_and_play::<K, N, P, R>(rt, alloc, script, loaded, network, watch)?;
-    write_run::<K, N, W, P>(alloc, script, run, writer, watch)
+    write_run::<K, N::Store, W, P>(alloc, script, run, writer, watch)
 }
 
 /// Runs all nodes, each in threads of its own, while the script's lines are ordered and asked one after another; then

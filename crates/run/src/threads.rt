@@ -12,6 +12,7 @@ use crate::gathering::ThreadSeats;
 use crate::playing::play_all;
 use crate::script::Script;
 use crate::wiring::{NodeDesk, desks_of, nodes_to_run};
+use desk::stores::NodeStore;
 use desk::{Opening, Seat, SharedNode, Stored};
 use protocol::nodes_of;
 use serving::{ScriptAnswer, Starting, Watch};
@@ -38,12 +39,21 @@ pub(crate) struct Heard {
     pub script: Played,
 }
 
-/// The remains of a run: the names of the nodes, their desks, and the notes made there.
+/// The nodes of a run whose threads have ended: their names, their desks, and the notes made there, by the threads of
+/// each node and by the script.
 #[derive(Drop)]
-pub(crate) struct Run<O: Opening, N: Network> {
+pub(crate) struct EndingNodes<O: Opening, S: NodeStore + Drop> {
     pub names: Vec<Node>,
-    pub desks: Vec<NodeDesk<O, N::Store>>,
-    pub heard: Heard,
+    pub desks: Vec<NodeDesk<O, S>>,
+    pub threads: Vec<ThreadSeats>,
+    pub script: Vec<Seat>,
+}
+
+/// The remains of a run: its nodes, and an answer to each line of the script.
+#[derive(Drop)]
+pub(crate) struct Run<O: Opening, S: NodeStore + Drop> {
+    pub nodes: EndingNodes<O, S>,
+    pub answers: Vec<ScriptAnswer>,
 }
 
 /// Plays the script with new seats at these desks of all nodes.
@@ -216,7 +226,7 @@ pub(crate) fn run_and_play<O, N, P, R>(
     loaded: Vec<Stored<Core, N::Store>>,
     network: &N,
     watch: &mut P,
-) -> Result<Run<O, N>, NoMemory>
+) -> Result<Run<O, N::Store>, NoMemory>
 where
     O: Opening + Send,
     N: Network,
@@ -224,20 +234,22 @@ where
     R: Threads + Wait + SystemClock + Sync,
     requires nodes { map (λ s. s.state.node) loaded.items ≡ nodes_in script.now.scheme.now }
     requires may_open { All (MayOpen N.Store.NodeStore O.opened) loaded.items }
-    ensures names { IfOk result (λ run. run.names.items ≡ nodes_in script.now.scheme.now) }
-    ensures desks { IfOk result (λ run. vec_len run.desks ≡ length run.names.items) }
+    ensures names { IfOk result (λ run. run.nodes.names.items ≡ nodes_in script.now.scheme.now) }
+    ensures desks { IfOk result (λ run. vec_len run.nodes.desks ≡ length run.nodes.names.items) }
     ensures taken { IfOk result
         (λ run. AreAll (AreOfThread (IsToSend N.Store.NodeStore O.opened)
         (IsReceivedBy (N.leads network.now) N.Reader.remaining N.Writer.contents)
-        (N.Clock.tells network.now)) run.heard.threads.items) }
+        (N.Clock.tells network.now)) run.nodes.threads.items) }
     ensures played { IfOk result
-        (λ run. IsPlayed script.now.scheme.now script.now.lines.now run.heard.script.answers.items
-        run.heard.script.seats.items) }
-    ensures seats { IfOk result (λ run. vec_len run.heard.script.seats ≡ length (nodes_in script.now.scheme.now)) }
+        (λ run. IsPlayed script.now.scheme.now script.now.lines.now run.answers.items run.nodes.script.items) }
+    ensures seats { IfOk result (λ run. vec_len run.nodes.script ≡ length (nodes_in script.now.scheme.now)) }
 {
     let names = nodes_of(alloc, script.scheme)?;
     let desks = desks_of::<O, N::Store>(alloc, names.as_slice(), loaded)?;
-    let heard = run_desks(
+    let Heard {
+        threads,
+        script: played,
+    } = run_desks(
         rt,
         alloc,
         script,
@@ -246,9 +258,12 @@ where
         network,
         watch,
     )?;
-    Ok(Run {
+    let Played { seats, answers } = played;
+    let nodes = EndingNodes {
         names,
         desks,
-        heard,
-    })
+        threads,
+        script: seats,
+    };
+    Ok(Run { nodes, answers })
 }

@@ -17,7 +17,7 @@ use Rattle.replies.specs.Answers.{is_without_journal}
 use Rattle.input_lines.specs.declared.instruction.Instruction.{Instruction}
 use Rattle.input_lines.specs.declared.instruction.Instruction.TheVariants as instruction
 use Rattle.serving.specs.Heard.{HasHeard, IsConfirmed}
-use Rattle.serving.specs.Notes.{IsAwaited, IsNote, IsNoted, IsNotedOf}
+use Rattle.serving.specs.Notes.{HasOrEnds, IsAwaited, IsNote, IsNoted, IsNotedOf}
 use Rattle.serving.specs.Orders.{Notes}
 
 -- ---- one question
@@ -103,7 +103,7 @@ no_awaited seat id status turns = record {
     earlier = [];
     last = [];
     notes_are = refl;
-    waited = All-nil (λ (note : Note). (note.asked ≡ Query id) × (note.told ≢ Status (Some status)));
+    waited = All-nil (λ (note : Note). (note.asked ≡ Query id) × (HasOrEnds status note.told → ⊥));
     noted = ((λ judged. absurd (true≢false judged)), (λ unjudged. inl refl));
     most = omega arith;
     over = inr (inl refl);
@@ -122,7 +122,7 @@ pub record Waits (id : TransactionId) (status : AStatus) (count : ℕ) (old new 
   pub earlier : List Note
   pub last : List Note
   pub added : new.notes ≡ old.notes ++ (earlier ++ last)
-  pub waited : All (λ (note : Note). (note.asked ≡ Query id) × (note.told ≢ Status (Some status))) earlier
+  pub waited : All (λ (note : Note). (note.asked ≡ Query id) × (HasOrEnds status note.told → ⊥)) earlier
   pub noted : IsNoted (Query id) told last
   pub many : length earlier + 1 ≡ count
 
@@ -131,7 +131,7 @@ first_wait id status old new told n = record {
   earlier = [];
   last = n.notes;
   added = n.added;
-  waited = All-nil (λ (note : Note). (note.asked ≡ Query id) × (note.told ≢ Status (Some status)));
+  waited = All-nil (λ (note : Note). (note.asked ≡ Query id) × (HasOrEnds status note.told → ⊥));
   noted = n.is;
   many = refl;
 }
@@ -145,12 +145,12 @@ one_note seat id (Status status) notes heard judged noted = noted
 one_note seat id (Refused refusal) notes heard judged noted = noted.0 judged
 
 pub next_wait : (id : TransactionId) (status : AStatus) (count : ℕ) (old mid new : SeatView) (told next : Told)
-    → Waits id status count old mid told → HasHeard mid (Query id) told → (told ≢ Status (Some status)) × (is_without_journal told ≡ false) → Notes (IsNoted (Query id)) mid new next
+    → Waits id status count old mid told → HasHeard mid (Query id) told → (HasOrEnds status told → ⊥) × (is_without_journal told ≡ false) → Notes (IsNoted (Query id)) mid new next
     → Waits id status (count + 1) old new next
 next_wait id status count old mid new told next w heard waits n =
     let one = one_note mid id told w.last heard waits.1 w.noted in
-    let waiting = λ (note : Note). (note.asked ≡ Query id) × (note.told ≢ Status (Some status)) in
-    let differs : one.0.told ≢ Status (Some status) = λ same. waits.0 (sym one.3 ∙ same) in
+    let waiting = λ (note : Note). (note.asked ≡ Query id) × (HasOrEnds status note.told → ⊥) in
+    let differs : HasOrEnds status one.0.told → ⊥ = λ has. waits.0 (subst (HasOrEnds status) one.3 has) in
     record {
       earlier = w.earlier ++ one.0 ∷ [];
       last = n.notes;
@@ -161,7 +161,7 @@ next_wait id status count old mid new told next w heard waits n =
     }
 
 pub awaited : (id : TransactionId) (status : AStatus) (turns count : ℕ) (old new : SeatView) (told : Told) → Waits id status count old new told → count ≤ max 1 turns
-    → (told ≡ Status (Some status)) ⊎ ((is_without_journal told ≡ true) ⊎ (count ≡ max 1 turns)) → Notes (IsAwaited id status turns) old new told
+    → HasOrEnds status told ⊎ ((is_without_journal told ≡ true) ⊎ (count ≡ max 1 turns)) → Notes (IsAwaited id status turns) old new told
 awaited id status turns count old new told w low over = record {
   notes = w.earlier ++ w.last;
   added = w.added;

@@ -1,14 +1,14 @@
 -- How often a script asked: lines and notes as values.
 use Rattle.std.proofs.Common.{◌≡◌, ◌≢◌, ◌∙◌, ◌+◌, ℕ, List, [], ◌∷◌, false, true≢false, length, length-append, None, Some, inl, inr, refl, sym, ap, arith}
 use Rattle.std.proofs.lemmas.List.Elements.{All-nil, All-push}
-use Rattle.status.specs.declared.status.Status.TheVariants.{Proposed, Completed}
+use Rattle.status.specs.declared.status.Status.TheVariants.{Proposed, Rejected, Completed}
 use Rattle.protocol.proofs.WorkedScheme.{nz1}
 use Rattle.node_state.specs.declared.notes.Asked.TheVariants.{Query}
 use Rattle.node_state.specs.declared.notes.Note.{Note}
 use Rattle.node_state.specs.declared.notes.Told.{Told}
 use Rattle.node_state.specs.declared.notes.Told.TheVariants.{Status, Refused}
 use Rattle.input_lines.specs.declared.instruction.Instruction.TheVariants.{Status as Ask, Until}
-use Rattle.serving.specs.Notes.{IsAwaited, IsNotedOf}
+use Rattle.serving.specs.Notes.{HasOrEnds, IsAwaited, IsNotedOf}
 
 abbrev note : Told → Note
 note told = record { asked = Query nz1; told = told; length = 3 }
@@ -23,8 +23,12 @@ completed = Status (Some Completed)
 abbrev awaited : ℕ → Told → List Note → Type 0
 awaited turns told notes = IsNotedOf (Until nz1 Completed turns) told notes
 
-differ : proposed ≢ completed
-differ e = cc (e)
+abbrev rejected : Told
+rejected = Status (Some Rejected)
+
+waits : HasOrEnds Completed proposed → ⊥
+waits (inl e) = cc (e)
+waits (inr e) = e
 
 pub asked_once : IsNotedOf (Ask nz1) (Status None) (note (Status None) ∷ [])
 asked_once = (note (Status None), refl, refl, refl)
@@ -35,10 +39,22 @@ until_it_has_it = record {
   earlier = note proposed ∷ [];
   last = note completed ∷ [];
   notes_are = refl;
-  waited = All-push (λ (n : Note). (n.asked ≡ Query nz1) × (n.told ≢ completed)) [] (note proposed) (All-nil (λ (n : Note). (n.asked ≡ Query nz1) × (n.told ≢ completed))) (refl, differ);
+  waited = All-push (λ (n : Note). (n.asked ≡ Query nz1) × (HasOrEnds Completed n.told → ⊥)) [] (note proposed) (All-nil (λ (n : Note). (n.asked ≡ Query nz1) × (HasOrEnds Completed n.told → ⊥))) (refl, waits);
   noted = (note completed, refl, refl, refl);
   most = omega arith;
-  over = inl refl;
+  over = inl (inl refl);
+}
+
+-- the second time it is rejected, and never completed
+pub until_it_ends : awaited 5 rejected (note proposed ∷ note rejected ∷ [])
+until_it_ends = record {
+  earlier = note proposed ∷ [];
+  last = note rejected ∷ [];
+  notes_are = refl;
+  waited = All-push (λ (n : Note). (n.asked ≡ Query nz1) × (HasOrEnds Completed n.told → ⊥)) [] (note proposed) (All-nil (λ (n : Note). (n.asked ≡ Query nz1) × (HasOrEnds Completed n.told → ⊥))) (refl, waits);
+  noted = (note rejected, refl, refl, refl);
+  most = omega arith;
+  over = inl (inr tt);
 }
 
 -- it was asked as often as it may be
@@ -47,7 +63,7 @@ as_often_as_it_may = record {
   earlier = [];
   last = note proposed ∷ [];
   notes_are = refl;
-  waited = All-nil (λ (n : Note). (n.asked ≡ Query nz1) × (n.told ≢ completed));
+  waited = All-nil (λ (n : Note). (n.asked ≡ Query nz1) × (HasOrEnds Completed n.told → ⊥));
   noted = (note proposed, refl, refl, refl);
   most = omega arith;
   over = inr (inr refl);
@@ -59,7 +75,7 @@ at_a_stopped_node = record {
   earlier = [];
   last = [];
   notes_are = refl;
-  waited = All-nil (λ (n : Note). (n.asked ≡ Query nz1) × (n.told ≢ completed));
+  waited = All-nil (λ (n : Note). (n.asked ≡ Query nz1) × (HasOrEnds Completed n.told → ⊥));
   noted = ((λ judged. absurd (true≢false judged)), (λ unjudged. inl refl));
   most = omega arith;
   over = inr (inl refl);
@@ -73,7 +89,7 @@ pub not_too_few : awaited 2 proposed (note proposed ∷ []) → ⊥
 not_too_few h =
     let count : ◌≡◌ {A = ℕ} 1 (length h.earlier + 1) = many 2 proposed (note proposed ∷ []) h h.noted.0 h.noted.1 in
     elim h.over [
-      | inl has ↦ differ has
+      | inl has ↦ waits has
       | inr rest ↦ elim rest [ inl none ↦ true≢false (sym none) | inr all ↦ let two : ◌≡◌ {A = ℕ} (length h.earlier + 1) 2 = all in omega (arith, count, two) ]
     ]
 

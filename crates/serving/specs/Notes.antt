@@ -3,6 +3,7 @@ use Rattle.std.specs.Prelude.{◌≡◌, ◌≢◌, ◌⊎◌, ◌<◌, ◌+◌,
 use Rattle.units.specs.declared.code.Node.{Node}
 use Rattle.status.specs.declared.id.TransactionId.{TransactionId}
 use Rattle.status.specs.declared.status.Status.{Status as AStatus}
+use Rattle.protocol.specs.Claims.{IsEnd}
 use Rattle.protocol.specs.declared.node_core.Stepped.TheVariants.{Recorded}
 use Rattle.node_state.specs.Expected.{stopped}
 use Rattle.node_state.specs.Telling.{is_unjudged}
@@ -43,16 +44,21 @@ IsNoted asked (Step (Recorded place)) notes = notes ≡ []
 IsNoted asked (Refused refusal) notes = (is_unjudged refusal.code ≡ false → IsNote asked (Refused refusal) notes) × (is_unjudged refusal.code ≡ true → (notes ≡ []) ⊎ ((refusal ≡ stopped) × ((told : Told) × IsNote asked told notes)))
 IsNoted asked told notes = IsNote asked told notes
 
--- a script's line asked where the transaction stands, again and again while it didn't have that status, until it had
--- it, or no journal judged the question, or it was asked as often as the line says
+-- the transaction has that status, or one that never changes
+abbrev pub HasOrEnds : AStatus → Told → Type 0
+HasOrEnds status (Status (Some found)) = (found ≡ status) ⊎ IsEnd found
+HasOrEnds status _ = ⊥
+
+-- a script's line asked where the transaction stands, again and again, until it had that status or one that never
+-- changes, or no journal judged the question, or it was asked as often as the line says
 pub record IsAwaited (id : TransactionId) (status : AStatus) (turns : ℕ) (told : Told) (notes : List Note) : Type 0 where
   pub earlier : List Note
   pub last : List Note
   pub notes_are : notes ≡ earlier ++ last
-  pub waited : All (λ (note : Note). (note.asked ≡ Query id) × (note.told ≢ Status (Some status))) earlier
+  pub waited : All (λ (note : Note). (note.asked ≡ Query id) × (HasOrEnds status note.told → ⊥)) earlier
   pub noted : IsNoted (Query id) told last
   pub most : length earlier < max 1 turns
-  pub over : (told ≡ Status (Some status)) ⊎ ((is_without_journal told ≡ true) ⊎ (length earlier + 1 ≡ max 1 turns))
+  pub over : HasOrEnds status told ⊎ ((is_without_journal told ≡ true) ⊎ (length earlier + 1 ≡ max 1 turns))
 
 abbrev pub IsNotedOf : Instruction → Told → List Note → Type 0
 IsNotedOf (instruction.Order input) told notes = IsNoted (Take input) told notes

@@ -1,9 +1,10 @@
 //! An order or a question, at the desk of its node.
-ghost use Rattle.std.specs.Prelude.{◌≡◌, ◌≢◌, ◌⊎◌, ◌<◌, true, false, length, Some};
+ghost use Rattle.std.specs.Prelude.{◌≡◌, ◌⊎◌, true, false};
 ghost use Rattle.replies.specs.Answers.{is_without_journal};
 ghost use Rattle.serving.specs.Answers.{asked_by};
 ghost use Rattle.serving.specs.Heard.{Grows, HasHeard, IsConfirmed};
-ghost use Rattle.serving.specs.Notes.{IsAwaited, IsNoted, IsNotedOf};
+ghost use Rattle.protocol.specs.Claims.{IsEnd};
+ghost use Rattle.serving.specs.Notes.{HasOrEnds, IsAwaited, IsNoted, IsNotedOf};
 ghost use Rattle.serving.specs.Orders.{Adds, Notes};
 
 use crate::watch::{Watch, tell_committed};
@@ -86,13 +87,26 @@ fn question<D: SharedNode, R: Wait + SystemClock>(
     confirmed(rt, desk, seat, taken)
 }
 
-/// Whether the waiting is over: the transaction has the status, or no journal judged the question.
+/// Whether a transaction with that status is over: the status never changes.
+fn is_end(status: Status) -> bool
+    ensures end { result ≡ true → IsEnd status }
+    ensures under_way { result ≡ false → IsEnd status → ⊥ }
+{
+    match status {
+        Status::Proposed | Status::Checked | Status::Accepted => false,
+        Status::Rejected | Status::Terminated | Status::Cancelled | Status::Completed => true,
+    }
+}
+
+/// Whether the waiting is over: the transaction has the status, or one that never changes, or no journal judged the
+/// question.
 fn is_over(told: Told, status: Status) -> bool
-    ensures over { result ≡ true → (told ≡ Told.Status (Some status)) ⊎ (is_without_journal told ≡ true) }
-    ensures waits { result ≡ false → (told ≢ Told.Status (Some status)) × (is_without_journal told ≡ false) }
+    ensures over { result ≡ true → HasOrEnds status told ⊎ (is_without_journal told ≡ true) }
+    ensures waits { result ≡ false → (HasOrEnds status told → ⊥) × (is_without_journal told ≡ false) }
 {
     match told {
-        Told::Status(found) => found == Some(status),
+        Told::Status(Some(found)) => found == status || is_end(found),
+        Told::Status(None) => false,
         _ => is_without_journal(told),
     }
 }
@@ -105,58 +119,57 @@ struct Awaited {
     turns: u64,
 }
 
-/// Asks where the transaction stands until it has that status, at most that many times, and returns the last result. If
-/// no journal judged it, since the node had stopped or memory ran out, it isn't asked again.
+/// Asks where the transaction stands until it has that status or one that never changes, at most that many times, and
+/// returns the last result. If no journal judged it, since the node had stopped or memory ran out, it isn't asked again. Between two questions the
+/// watch is told how many records the watched desks have committed together.
 fn question_until<D: SharedNode, P: Watch, R: Wait + SystemClock>(
     rt: &R,
-    desks: &[D],
-    at: usize,
+    desk: &D,
     seat: &mut Seat,
     awaited: Awaited,
+    watched: &[D],
     watch: &mut P,
 ) -> Told
-    requires { at < length desks.now }
     ensures heard { HasHeard seat.new (Asked.Query awaited.id) result }
     ensures grows { Grows seat.old seat.new }
     ensures adds { Adds (Asked.Query awaited.id) seat.old seat.new result }
     ensures notes { Notes (IsAwaited awaited.id awaited.status awaited.turns) seat.old seat.new result }
 {
-    let mut told = question(rt, &desks[at], seat, awaited.id);
+    let mut told = question(rt, desk, seat, awaited.id);
     for asked in 1..awaited.turns {
         if is_over(told, awaited.status) {
             break;
         }
-        tell_committed(rt, desks, watch);
+        tell_committed(rt, watched, watch);
         thread::sleep(rt, Duration::from_millis(TURN));
-        told = question(rt, &desks[at], seat, awaited.id);
+        told = question(rt, desk, seat, awaited.id);
     }
     told
 }
 
-/// The result of an order or a question at the desk with that index: for an order, once its record is committed, and
-/// for a question, once the records that the result rests on are. The seat has kept the result. Refusal `NODE_STOPPED`
-/// if the node stopped before, and refusal `OUT_OF_MEMORY` if memory ran out. The watch is told how many records these
-/// desks have committed while a question waits.
+/// The result of an order or a question at the desk: for an order, once its record is committed, and for a question,
+/// once the records that the result rests on are. The seat has kept the result. Refusal `NODE_STOPPED` if the node
+/// stopped before, and refusal `OUT_OF_MEMORY` if memory ran out. While a question waits, the watch is told how many
+/// records the watched desks have committed together.
 pub fn ask<D: SharedNode, P: Watch, R: Wait + SystemClock>(
     rt: &R,
-    desks: &[D],
-    at: usize,
+    desk: &D,
     seat: &mut Seat,
     instruction: Instruction,
+    watched: &[D],
     watch: &mut P,
 ) -> Told
-    requires { at < length desks.now }
     ensures heard { HasHeard seat.new (asked_by instruction) result }
     ensures grows { Grows seat.old seat.new }
     ensures adds { Adds (asked_by instruction) seat.old seat.new result }
     ensures notes { Notes (IsNotedOf instruction) seat.old seat.new result }
 {
     match instruction {
-        Instruction::Order(input) => order(rt, &desks[at], seat, input),
-        Instruction::Status(id) => question(rt, &desks[at], seat, id),
+        Instruction::Order(input) => order(rt, desk, seat, input),
+        Instruction::Status(id) => question(rt, desk, seat, id),
         Instruction::Until { id, status, turns } => {
             let awaited = Awaited { id, status, turns };
-            question_until(rt, desks, at, seat, awaited, watch)
+            question_until(rt, desk, seat, awaited, watched, watch)
         }
     }
 }
@@ -165,20 +178,19 @@ pub fn ask<D: SharedNode, P: Watch, R: Wait + SystemClock>(
 /// memory for a copy: then nothing was asked.
 pub fn ask_copy<D: SharedNode, P: Watch, R: Wait + SystemClock>(
     rt: &R,
-    desks: &[D],
-    at: usize,
+    desk: &D,
     seat: &mut Seat,
     instruction: &Instruction,
+    watched: &[D],
     watch: &mut P,
 ) -> Told
-    requires { at < length desks.now }
     ensures heard { HasHeard seat.new (asked_by instruction.now) result }
     ensures grows { Grows seat.old seat.new }
     ensures adds { Adds (asked_by instruction.now) seat.old seat.new result }
     ensures notes { Notes (IsNotedOf instruction.now) seat.old seat.new result }
 {
     match instruction.copy() {
-        Ok(instruction) => ask(rt, desks, at, seat, instruction, watch),
+        Ok(instruction) => ask(rt, desk, seat, instruction, watched, watch),
         Err(_) => Told::Refused(Refusal::NO_MEMORY),
     }
 }

@@ -25,7 +25,7 @@ pub(crate) enum RoundEnd {
 
 /// Sends the unacknowledged messages to a peer: the one with the least key, and then those with higher keys, each once.
 /// Ends if no connection could be made, so that a peer that is down costs one connect a round. `back_off` counts that
-/// failure, and each connection that was made ends the row before.
+/// failure, and each connection that was made ends the row before. The seat forgets its notes.
 fn send_round<D: SharedNode, N: Network, R: Wait>(
     rt: &R,
     alloc: Global,
@@ -45,7 +45,9 @@ fn send_round<D: SharedNode, N: Network, R: Wait>(
 {
     let mut from: usize = 0;
     for _ in rt.forever() {
-        match send_next(rt, alloc, desk, seat, network, peer, from) {
+        let sent = send_next(rt, alloc, desk, seat, network, peer, from);
+        seat.forget_notes();
+        match sent {
             Sent::Received(key) | Sent::NotReceived(key) => {
                 back_off.reset();
                 match key.checked_add(1) {

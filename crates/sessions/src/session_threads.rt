@@ -86,7 +86,7 @@ fn serve_one<D: SharedNode, Rd: Read + Drop, Wr: Write + Drop, R: Wait + SystemC
 
 impl<D: SharedNode, N: Network> NodeThreads<'_, D, N> {
     /// Accepts connections and serves each to its end, until the desk stops. A connection whose stream ended after a
-    /// line is given back to the network. It stops the desk if `MOST_FAILED_ACCEPTS` accepts in a row failed, at all
+    /// line is given back to the network, and one that was accepted as the desk stopped. It stops the desk if `MOST_FAILED_ACCEPTS` accepts in a row failed, at all
     /// session threads together. An accept to which nobody came isn't a failed one, and doesn't end the row.
     ///
     /// A node has `SESSION_THREADS` such threads. If the system has no thread for some of them, fewer sessions are
@@ -104,6 +104,11 @@ impl<D: SharedNode, N: Network> NodeThreads<'_, D, N> {
                 break;
             }
             match self.network.accept(self.node) {
+                Accepted::Connection(reader, writer) if !self.desk.is_running(rt) => {
+                    // Its line is for the threads that come next, if any do.
+                    self.network.give_back(self.node, reader, writer);
+                    break;
+                }
                 Accepted::Connection(reader, writer) => {
                     *self.failures.lock(rt) = 0;
                     let served = serve_one(rt, self.alloc, self.desk, reader, writer, jobs, seat);

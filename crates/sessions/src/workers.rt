@@ -176,7 +176,8 @@ impl<'a, D: SharedNode, R: Wait + SystemClock> Answerer for WorkersAnswerer<'a, 
 impl<D: SharedNode, N: Network> NodeThreads<'_, D, N> {
     /// Has the desk take the jobs of the channel with this seat, and hands back the result of each without waiting for
     /// a commit, until no session thread is left. It also ends if the desk has stopped and no job comes, since a
-    /// session thread may not have begun yet.
+    /// session thread may not have begun yet. The seat forgets its notes: a peer may repeat its messages without end,
+    /// and nobody reports the results of what isn't recorded.
     pub(crate) fn work<R: Wait + SystemClock>(&self, rt: &R, seat: &mut Seat)
         requires { AreOfThread D.is_to_send
             (IsReceivedBy (N.leads self.now.network.now) N.Reader.remaining N.Writer.contents)
@@ -191,6 +192,7 @@ impl<D: SharedNode, N: Network> NodeThreads<'_, D, N> {
             };
             let JobRequest { job, back } = request;
             let begun = begin_job(rt, self.desk, seat, self.network, self.network, job);
+            seat.forget_notes();
             drop(back.send(rt, begun));
             drop(back);
         }

@@ -8,7 +8,7 @@ mod line_port;
 mod port;
 mod ports;
 
-pub use connections::{LONGEST_LINE_TIME, LineEnd, MOST_CONNECTIONS, is_loopback, line_end};
+pub use connections::{LONGEST_LINE_TIME, MOST_CONNECTIONS, is_loopback};
 pub use dialled::Dialled;
 pub use line_port::LinePort;
 pub use port::Port;

@@ -47,32 +47,16 @@ pub record Cutting (limit : ℕ) (held piece : List ℕ) (lines : List (List ℕ
   pub within : IsWithin limit begun
   pub rest : (tail : List ℕ) → rest_after held lines tail ≡ begun ++ tail
 
--- no newline before `end`
-pub front_free : (left : List ℕ) (end : ℕ) → IsFirstByte (is_byte 10) left (Some end) → HasNoNewline (take end left)
-front_free left end first =
-    let small : length (take end left) ≡ end = length-take-le end left (omega (arith, first.0.high)) in
-    free_from 10 (take end left) (λ k h e.
-    let below : k < end = omega arith in
-    first.0.before k (omega arith) below (eq-eqb _ _ (sym (get_or-take end left k 0 below) ∙ e)))
-
-pub none_free : (left : List ℕ) → IsFirstByte (is_byte 10) left None → HasNoNewline left
-none_free left never = free_from 10 left (λ k h e. never k (omega arith) h (eq-eqb _ _ e))
-
 -- a newline ends the line
-pub ends_line : (limit : ℕ) (held piece : List ℕ) (ls : List (List ℕ)) (begun left : List ℕ) (end : ℕ) → IsFirstByte (is_byte 10) left (Some end) → length begun + end ≤ limit
-    → Cutting limit held piece ls begun left → Cutting limit held piece (ls ++ (begun ++ take end left) ∷ []) [] (take (length left - (end + 1)) (drop (end + 1) left))
-ends_line limit held piece ls begun left end first room s =
-    let part = take end left in
-    let after = take (length left - (end + 1)) (drop (end + 1) left) in
-    let small : length part ≡ end = length-take-le end left (omega (arith, first.0.high)) in
-    let byte : get_or left end 0 ≡ 10 = eqb-true _ _ first.1 in
-    let cut : left ≡ part ++ 10 ∷ after =
-    split_at left end 0 first.0.high ∙ ap (λ b. part ++ b ∷ drop (suc end) left) byte ∙ ap (λ n. part ++ 10 ∷ drop n left) (sym (add-one end)) ∙ ap (λ r. part ++ 10 ∷ r) (sym (take_rest left (end + 1))) in
+pub ends_line : (limit : ℕ) (held piece : List ℕ) (ls : List (List ℕ)) (begun left line after : List ℕ) → IsWithin (limit - length begun) line → left ≡ line ++ 10 ∷ after
+    → Cutting limit held piece ls begun left → Cutting limit held piece (ls ++ (begun ++ line) ∷ []) [] after
+ends_line limit held piece ls begun left line after part cut s =
+    let room : length begun + length line ≤ limit = omega (arith, s.within.1, part.1) in
     record {
-      whole = s.whole ∙ ap (λ t. stream_of ls (begun ++ t)) cut ∙ ap (stream_of ls) (sym (append_assoc begun part (10 ∷ after))) ∙ sym (stream_join ls ((begun ++ part) ∷ []) after);
-      each = lines_join limit ls ((begun ++ part) ∷ []) s.each ((free_join begun part s.within.0 (front_free left end first), omega (arith, length-append begun part)), tt);
+      whole = s.whole ∙ ap (λ t. stream_of ls (begun ++ t)) cut ∙ ap (stream_of ls) (sym (append_assoc begun line (10 ∷ after))) ∙ sym (stream_join ls ((begun ++ line) ∷ []) after);
+      each = lines_join limit ls ((begun ++ line) ∷ []) s.each ((free_join begun line s.within.0 part.0, omega (arith, length-append begun line)), tt);
       within = (tt, omega arith);
-      rest = rest_pushed held ls (begun ++ part);
+      rest = rest_pushed held ls (begun ++ line);
     }
 
 -- the line is over the limit before it ends
@@ -92,19 +76,15 @@ over_front limit held piece ls begun left end free low long s =
       no_line = subst HasNoNewline (sym front) (free_front (limit + 1) (begun ++ part) (free_join begun part s.within.0 free));
     }
 
-pub over_at : (limit : ℕ) (held piece : List ℕ) (ls : List (List ℕ)) (begun left : List ℕ) (end : ℕ) → IsFirstByte (is_byte 10) left (Some end) → limit < length begun + end
+pub over_limit : (limit : ℕ) (held piece : List ℕ) (ls : List (List ℕ)) (begun left : List ℕ) → limit - length begun < length left → HasNoNewline (take (limit - length begun + 1) left)
     → Cutting limit held piece ls begun left → IsOver limit (held ++ piece) ls
-over_at limit held piece ls begun left end first long s = over_front limit held piece ls begun left end (front_free left end first) (omega (arith, first.0.high)) long s
-
-pub over_left : (limit : ℕ) (held piece : List ℕ) (ls : List (List ℕ)) (begun left : List ℕ) → HasNoNewline left → limit < length begun + length left
-    → Cutting limit held piece ls begun left → IsOver limit (held ++ piece) ls
-over_left limit held piece ls begun left free long s = over_front limit held piece ls begun left (length left) (free_front (length left) left free) (omega arith) long s
+over_limit limit held piece ls begun left long free s = over_front limit held piece ls begun left (limit - length begun + 1) free (omega arith) (omega (arith, s.within.1)) s
 
 -- the bytes that are left have no newline and are within the limit
-pub cut_up : (limit : ℕ) (held piece : List ℕ) (ls : List (List ℕ)) (begun left : List ℕ) → HasNoNewline left → length begun + length left ≤ limit
-    → Cutting limit held piece ls begun left → Splits limit (held ++ piece) ls (rest_after held ls left)
-cut_up limit held piece ls begun left free room s = record {
+pub cut_up : (limit : ℕ) (held piece : List ℕ) (ls : List (List ℕ)) (begun left : List ℕ) → IsWithin (limit - length begun) left → Cutting limit held piece ls begun left
+    → Splits limit (held ++ piece) ls (rest_after held ls left)
+cut_up limit held piece ls begun left part s = record {
   whole = s.whole ∙ ap (stream_of ls) (sym (s.rest left));
   each = s.each;
-  rest_within = subst (IsWithin limit) (sym (s.rest left)) (free_join begun left s.within.0 free, omega (arith, length-append begun left));
+  rest_within = subst (IsWithin limit) (sym (s.rest left)) (free_join begun left s.within.0 part.0, omega (arith, length-append begun left, s.within.1, part.1));
 }

@@ -3,10 +3,12 @@
 #![tactic(auto)]
 
 mod calls;
+mod lines;
 mod splitter;
 mod whole;
 
 pub use calls::{CallFault, Calls};
+pub use lines::{FirstLine, first_line};
 pub use splitter::{Line, LineFault, Splitter, Truncated, cuts};
 pub use whole::{
     LONGEST_INPUT, LONGEST_INPUT_LINE, MOST_INTERRUPTIONS, ReadFault, WriteFault, read_input,

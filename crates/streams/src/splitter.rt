@@ -3,8 +3,8 @@ ghost use Rattle.std.specs.Prelude.{◌≡◌, ◌↔◌, ℕ, List, [], ◌++�
 ghost use Rattle.streams.specs.Lines.{IsWithin, Splits, IsOver};
 ghost use Rattle.streams.specs.Splitting.{IsCut, Feeds, rest_after};
 
+use crate::lines::{FirstLine, first_line};
 use bytes::BytesMut;
-use memchr::memchr;
 use std::alloc::{AllocError, Global};
 use std::marker::Model;
 use thiserror::Error;
@@ -86,18 +86,17 @@ fn cut_lines<'a>(
     let mut lines = Vec::new(alloc);
     let mut begun = held;
     let mut left = piece;
-    while let Some(end) = memchr(b'\n', left) {
-        if end > limit - begun.len() {
-            return Ok(Cut::Over(Items::from_vec(lines)));
+    loop {
+        match first_line(left, limit - begun.len()) {
+            FirstLine::Whole(line, rest) => {
+                lines.push(join_line(alloc, begun, line)?)?;
+                begun = &[];
+                left = rest;
+            }
+            FirstLine::Partial => return Ok(Cut::Whole(Items::from_vec(lines), left)),
+            FirstLine::TooLong => return Ok(Cut::Over(Items::from_vec(lines))),
         }
-        lines.push(join_line(alloc, begun, &left[..end])?)?;
-        begun = &[];
-        left = &left[end + 1..];
     }
-    if left.len() > limit - begun.len() {
-        return Ok(Cut::Over(Items::from_vec(lines)));
-    }
-    Ok(Cut::Whole(Items::from_vec(lines), left))
 }
 
 /// Holds `tail`: after the held bytes, or in their place if lines have ended.

@@ -1,14 +1,13 @@
 -- The first line of some bytes, and the line that is returned for it.
-use Rattle.std.proofs.Common.{◌≡◌, ℕ, zero, suc, ◌+◌, ◌<◌, ◌≤◌, inl, inr, leb, eqb, Bool, true, false, cond, List, [], ◌∷◌, ◌++◌, Option, Some, None, length, get_or, take, drop, refl, sym, ap, subst, ◌∙◌, arith, add-one, append_assoc, append-nil, length-append}
+use Rattle.std.proofs.Common.{◌≡◌, ℕ, zero, suc, ◌+◌, ◌-◌, ◌<◌, ◌≤◌, inl, inr, leb, eqb, Bool, true, false, cond, List, [], ◌∷◌, ◌++◌, Option, Some, None, length, get_or, take, drop, refl, sym, ap, subst, ◌∙◌, arith, add-one, append_assoc, append-nil, length-append}
 use Rattle.std.proofs.Math.Seq.{split_at, drop-length}
 use Rattle.std.proofs.lemmas.Bool.{ne_eqb, eqb-true, cases_lt}
-use Rattle.std.proofs.lemmas.List.{take-append-drop, drop-drop}
+use Rattle.std.proofs.lemmas.List.{take-append-drop, drop-drop, length-take-le}
 use Rattle.std.specs.Io.KnownBytes.{Consumes, Keeps, IsAtEnd}
 use Rattle.std.specs.Prelude.{option_map}
-use Rattle.memchr.specs.Find.{IsFirstByte, is_byte}
 use Rattle.units.specs.declared.code.Node.{Node}
 use Rattle.streams.specs.Lines.{HasNoNewline}
-use Rattle.streams.proofs.Streams.{none_free, front_free, free_join}
+use Rattle.streams.proofs.Streams.{free_join}
 use Rattle.tags.specs.Keys.{NodeKey}
 use Rattle.tagged_lines.specs.Lines.{Adds, IsFront}
 use Rattle.tagged_lines.specs.Opened.{line_of, longest_tagged, opened, opened_first, opened_line}
@@ -21,33 +20,13 @@ use Rattle.tagged_lines.specs.declared.opening_reader.Stage.TheVariants as stage
 
 -- ---- lines that grow
 
-pub cut_front : (bytes : List ℕ) (end : ℕ) → IsFirstByte (is_byte 10) bytes (Some end) → IsFront bytes (take end bytes) (10 ∷ drop (end + 1) bytes)
-cut_front bytes end first =
-    let byte : get_or bytes end 0 ≡ 10 = eqb-true _ _ first.1 in
-    record {
-      whole = split_at bytes end 0 first.0.high ∙ ap (λ b. take end bytes ++ b ∷ drop (suc end) bytes) byte ∙ ap (λ n. take end bytes ++ 10 ∷ drop n bytes) (sym (add-one end));
-      free = front_free bytes end first;
-    }
-
-pub whole_front : (bytes : List ℕ) → IsFirstByte (is_byte 10) bytes None → IsFront bytes bytes []
-whole_front bytes never = record { whole = sym (append-nil bytes); free = none_free bytes never }
-
--- the added bytes, if they fit and if they don't
-pub added_whole : (limit : ℕ) (old bytes new front rest : List ℕ) (result : Added) → IsFront bytes front (10 ∷ rest) → (length old + length front ≤ limit → (new ≡ old ++ front) × (result ≡ Whole))
-    → (limit < length old + length front → (new ≡ old) × (result ≡ TooLong)) → Adds limit old bytes new result
-added_whole limit old bytes new front rest result is fits long =
-    elim (cases_lt limit (length old + length front)) [
-      | inl over ↦ let h = long over in subst (Adds limit old bytes new) (sym h.1) (h.0, (front, 10 ∷ rest, is, over))
-      | inr within ↦ let h = fits within in subst (Adds limit old bytes new) (sym h.1) (front, rest, is, h.0)
-    ]
-
-pub added_more : (limit : ℕ) (old bytes new : List ℕ) (result : Added) → IsFront bytes bytes [] → (length old + length bytes ≤ limit → (new ≡ old ++ bytes) × (result ≡ More))
-    → (limit < length old + length bytes → (new ≡ old) × (result ≡ TooLong)) → Adds limit old bytes new result
-added_more limit old bytes new result is fits long =
-    elim (cases_lt limit (length old + length bytes)) [
-      | inl over ↦ let h = long over in subst (Adds limit old bytes new) (sym h.1) (h.0, (bytes, [], is, over))
-      | inr within ↦ let h = fits within in subst (Adds limit old bytes new) (sym h.1) (h.0, is.free)
-    ]
+-- the added bytes don't fit
+pub long_front : (limit count : ℕ) (old bytes : List ℕ) → count ≡ limit - length old → count < length bytes → HasNoNewline (take (count + 1) bytes)
+    → (front after : List ℕ) × IsFront bytes front after × (limit < length old + length front)
+long_front limit count old bytes room more free =
+    let front = take (count + 1) bytes in
+    let size : length front ≡ count + 1 = length-take-le (count + 1) bytes (omega (arith, more)) in
+    (front, drop (count + 1) bytes, record { whole = sym (take-append-drop (count + 1) bytes); free = free }, omega (arith, size, room))
 
 -- ---- the first line
 

@@ -2,7 +2,7 @@
 ghost use Rattle.std.specs.Prelude.{◌≡◌, ◌≤◌, ◌<◌, ◌+◌, ◌++◌, length, take, drop, vec_capacity};
 ghost use Rattle.tagged_lines.specs.Lines.{Adds};
 
-use memchr::memchr;
+use streams::{FirstLine, first_line};
 
 /// The result of adding bytes to a line.
 #[derive(Clone, Copy, Debug, PartialEq, Eq)]
@@ -15,20 +15,14 @@ pub(crate) enum Added {
     TooLong,
 }
 
-/// Adds the bytes to the line, which may have `limit` bytes, and returns `added`, or `TooLong` if they don't fit.
+/// Adds the bytes to the line, which has room for them, and returns `added`.
 fn append(limit: usize, line: &mut Vec<u8>, bytes: &[u8], added: Added) -> Added
-    requires within { length line.old.items ≤ limit }
+    requires within { length line.old.items + length bytes.now ≤ limit }
     requires room { limit < vec_capacity line.old }
-    ensures fits { length line.old.items + length bytes.now ≤ limit
-        → (line.new.items ≡ line.old.items ++ bytes.now) × (result ≡ added) }
-    ensures long { limit < length line.old.items + length bytes.now
-        → (line.new.items ≡ line.old.items) × (result ≡ Added.TooLong) }
-    ensures within { length line.new.items ≤ limit }
+    ensures items { line.new.items ≡ line.old.items ++ bytes.now }
+    ensures same { result ≡ added }
     ensures room { limit < vec_capacity line.new }
 {
-    if bytes.len() > limit - line.len() {
-        return Added::TooLong;
-    }
     if line.extend_from_slice(bytes).is_err() {
         unreachable!();
     }
@@ -43,9 +37,10 @@ pub(crate) fn add(limit: usize, line: &mut Vec<u8>, bytes: &[u8]) -> Added
     ensures within { length line.new.items ≤ limit }
     ensures room { limit < vec_capacity line.new }
 {
-    match memchr(b'\n', bytes) {
-        Some(end) => append(limit, line, &bytes[..end], Added::Whole),
-        None => append(limit, line, bytes, Added::More),
+    match first_line(bytes, limit - line.len()) {
+        FirstLine::Whole(front, _) => append(limit, line, front, Added::Whole),
+        FirstLine::Partial => append(limit, line, bytes, Added::More),
+        FirstLine::TooLong => Added::TooLong,
     }
 }
 

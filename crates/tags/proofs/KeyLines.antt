@@ -1,11 +1,7 @@
 -- Lines of a file of keys, one after another.
 use Rattle.std.proofs.Common.{◌≡◌, ℕ, suc, ◌+◌, ◌-◌, ◌<◌, ◌≤◌, inl, inr, List, [], ◌∷◌, ◌++◌, Some, None, length, get_or, take, drop, false, refl, sym, ap, subst, ◌∙◌, arith, add-one, append_assoc, append-nil}
-use Rattle.std.proofs.Math.Seq.{split_at}
-use Rattle.std.proofs.lemmas.Bool.{eqb-true, cases_eq}
-use Rattle.std.proofs.lemmas.List.{take_rest}
+use Rattle.std.proofs.lemmas.Bool.{cases_eq}
 use Rattle.std.specs.List.{AllByRecursion}
-use Rattle.memchr.specs.Find.{IsFirstByte, is_byte}
-use Rattle.streams.proofs.Streams.{none_free, front_free}
 use Rattle.streams.specs.Lines.{stream_of, HasNoNewline}
 use Rattle.tags.specs.Keys.{NodeKey, has_key, key_of}
 use Rattle.tags.specs.KeysText.{HasLines, WriteKeys, AreKeys, IsKeyLine, IsKeysFault, IsLineAfter, IsFirstLine, IsLineFault, ReadsKeys, with_last, most_keys}
@@ -18,7 +14,7 @@ with_last_front : (l : List ℕ) (ended : List (List ℕ)) (last : List ℕ) →
 with_last_front l ended [] = refl
 with_last_front l ended (b ∷ bs) = refl
 
-lines_front : (line rest : List ℕ) → HasNoNewline line → (bytes : List ℕ) → bytes ≡ line ++ 10 ∷ rest → IsFirstLine bytes line rest
+pub lines_front : (line rest : List ℕ) → HasNoNewline line → (bytes : List ℕ) → bytes ≡ line ++ 10 ∷ rest → IsFirstLine bytes line rest
 lines_front line rest free bytes cut lines h = record {
   ended = line ∷ h.ended;
   last = h.last;
@@ -62,15 +58,6 @@ some_lines : (bytes : List ℕ) (lines : List (List ℕ)) → 0 < length bytes �
 some_lines bytes [] some h = let e = none_from_no_lines bytes h in absurd (omega (arith, some, ap length e))
 some_lines bytes (l ∷ ls) some h = omega arith
 
--- a newline ends the first line
-pub line_ended : (bytes : List ℕ) (end : ℕ) → IsFirstByte (is_byte 10) bytes (Some end) → IsFirstLine bytes (take end bytes) (take (length bytes - (end + 1)) (drop (end + 1) bytes))
-line_ended bytes end first =
-    let byte : get_or bytes end 0 ≡ 10 = eqb-true _ _ first.1 in
-    let after = take (length bytes - (end + 1)) (drop (end + 1) bytes) in
-    let cut : bytes ≡ take end bytes ++ 10 ∷ after =
-    split_at bytes end 0 first.0.high ∙ ap (λ b. take end bytes ++ b ∷ drop (suc end) bytes) byte ∙ ap (λ n. take end bytes ++ 10 ∷ drop n bytes) (sym (add-one end)) ∙ ap (λ r. take end bytes ++ 10 ∷ r) (sym (take_rest bytes (end + 1))) in
-    lines_front (take end bytes) after (front_free bytes end first) bytes cut
-
 -- the only line lacks its newline
 only_line : (bytes : List ℕ) → HasNoNewline bytes → 0 < length bytes → HasLines bytes (bytes ∷ [])
 only_line [] free some = absurd (omega (arith, some))
@@ -85,10 +72,8 @@ no_lines_of_none lines h = go h.ended h.last h.whole h.all
     go ([] ∷ ls) last whole all = cc (whole)
     go ((b ∷ l) ∷ ls) last whole all = cc (whole)
 
-pub line_unended : (bytes line rest : List ℕ) → IsFirstByte (is_byte 10) bytes None → 0 < length bytes → line ≡ bytes → rest ≡ [] → IsFirstLine bytes line rest
-line_unended bytes line rest never some same end lines h =
-    let none = no_lines_of_none lines (subst (λ (t : List ℕ). HasLines t lines) end h) in
-    subst (λ (t : List (List ℕ)). HasLines bytes (line ∷ t)) (sym none) (subst (λ (t : List ℕ). HasLines bytes (t ∷ [])) (sym same) (only_line bytes (none_free bytes never) some))
+pub line_unended : (bytes : List ℕ) → HasNoNewline bytes → 0 < length bytes → IsFirstLine bytes bytes []
+line_unended bytes free some lines h = subst (λ (t : List (List ℕ)). HasLines bytes (bytes ∷ t)) (sym (no_lines_of_none lines h)) (only_line bytes free some)
 
 -- ---- keys
 

@@ -9,8 +9,8 @@ ghost use Rattle.tags.specs.KeysText.{AreKeys, IsKeyLine, IsKeysFault, IsFirstLi
 use crate::key::{KEY_BYTES, Key};
 use crate::keys::Entry;
 use hex::FromHex;
-use memchr::memchr;
 use std::alloc::Global;
+use streams::{FirstLine, first_line};
 use thiserror::Error;
 use units::{Code, Node};
 
@@ -73,14 +73,14 @@ fn read_line(line: &[u8]) -> Option<Entry>
     Some(Entry { node, key })
 }
 
-/// The first line of some bytes, without its newline, and the bytes after it.
-fn first_line(bytes: &[u8]) -> (&[u8], &[u8])
+/// The line with which the bytes begin, without its newline, and the bytes after it. The last line may lack its newline.
+fn next_line(bytes: &[u8]) -> (&[u8], &[u8])
     requires { 0 < length bytes.now }
     ensures { IsFirstLine bytes.now result.0.now result.1.now }
 {
-    match memchr(b'\n', bytes) {
-        Some(end) => (&bytes[..end], &bytes[end + 1..]),
-        None => bytes.split_at(bytes.len()),
+    match first_line(bytes, bytes.len()) {
+        FirstLine::Whole(line, rest) => (line, rest),
+        FirstLine::Partial | FirstLine::TooLong => (bytes, &[]),
     }
 }
 
@@ -147,7 +147,7 @@ fn read_lines<'a>(entries: &mut Vec<Entry>, text: &'a [u8]) -> Result<&'a [u8], 
         if left.is_empty() {
             return Ok(left);
         }
-        let (line, rest) = first_line(left);
+        let (line, rest) = next_line(left);
         add_line(entries, line)?;
         left = rest;
     }

@@ -13,8 +13,8 @@ use Rattle.weave.specs.Following.{journal_of}
 use Rattle.command_faults.specs.declared.fault.OpFault.{OpFault}
 use Rattle.command_faults.specs.declared.fault.OpFault.TheVariants.{Write, Store, Stuck, NoMemory}
 use Rattle.report.specs.declared.form.Form.{Form}
-use Rattle.audit.specs.Audits.{FindsNoRun}
-use Rattle.audit.specs.Stores.{AreLoaded, FailsToLoad}
+use Rattle.loading.specs.Runs.{FindsNoRun}
+use Rattle.loading.specs.Stores.{AreLoaded, FailsToLoad}
 use Rattle.trace.specs.Lines.{IsTrace}
 use Rattle.trace.specs.Rows.{rows}
 

@@ -1,8 +1,8 @@
 //! The trace of a transaction in the records of all stores.
 ghost use Rattle.std.specs.Prelude.{◌≡◌, ℕ, All, List, IfErr, IfOk, OnOk, length, map};
 ghost use Rattle.std.specs.Io.KnownBytes.{Appends};
-ghost use Rattle.audit.specs.Audits.{FailsToWeave};
-ghost use Rattle.audit.specs.Stores.{AreUnwritten};
+ghost use Rattle.loading.specs.Runs.{FailsToWeave};
+ghost use Rattle.loading.specs.Stores.{AreUnwritten};
 ghost use Rattle.protocol.specs.Input.{Input};
 ghost use Rattle.protocol.specs.Registries.{nodes};
 ghost use Rattle.weave.specs.Following.{IsWeaveFault, IsWoven, journal_of};
@@ -10,8 +10,8 @@ ghost use Rattle.world.specs.Cores as node_cores;
 ghost use Rattle.trace.specs.Traces.{FailsToTrace, Traces, TracesRun};
 
 use crate::following::trace_text;
-use audit::{fault_of, load_cores};
 use command_faults::OpFault;
+use loading::{fault_of, load_cores};
 use protocol::scheme::Scheme;
 use report::Form;
 use status::TransactionId;

@@ -1,7 +1,7 @@
 use Rattle.std.proofs.Common.{List, string_bytes, subst}
 use Rattle.protocol.specs.Input.{Input}
 use Rattle.report.specs.declared.form.Form.TheVariants.{Lines}
-use Rattle.audit.specs.Audits.{FailsToWeave, IsAuditTable}
+use Rattle.loading.specs.Runs.{FailsToWeave, IsAuditTable}
 use Rattle.ended_nodes.proofs.Settling.{of_settling, of_weaving}
 use Rattle.ended_nodes.proofs.Reporting.{if_err, if_ok}
 use Rattle.ended_nodes.specs.Ended.{seats_in, states_in}

@@ -1,0 +1,4 @@
+pub mod WorkedWords
+pub mod UsageFaults
+pub mod SubcommandTables
+pub mod SubcommandWords

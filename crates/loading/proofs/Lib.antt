@@ -1,0 +1,4 @@
+pub mod Loaded
+pub mod Tables
+pub mod WovenCores
+pub mod Pairs

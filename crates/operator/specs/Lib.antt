@@ -1,4 +1,0 @@
-pub mod Words
-pub mod Subcommands
-pub mod Show
-pub mod Pages

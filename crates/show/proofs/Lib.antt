@@ -1,0 +1,4 @@
+pub mod RecordLines
+pub mod Pages
+pub mod ShownPages
+pub mod ShowFaults

@@ -1,6 +1,6 @@
 #!/usr/bin/env python3
-"""Tries whether a node pauses: while its operator asks, while transfers are made one after another, and while a stranger
-repeats a recorded message as fast as the node takes it.
+"""Tries whether a node pauses: while its operator asks, while transfers are made one after another, while a stranger
+repeats a recorded message as fast as the node takes it, and while strangers send single bytes over many connections.
 
     pauses.py [NAME ..]
 
@@ -31,6 +31,9 @@ SECONDS, LEAST_RATE = 20, 0.8
 REPEATS, WARM_UP, MOST_GROWTH = 1_000_000, 100_000, 1 << 20
 # The most repeats that are under way on one connection.
 BURST = 1_000
+# How many connections send single bytes, and how long each pauses between two of them; the seconds for which transfers
+# are counted beside them, and the part of their rate that must be left.
+SLOW, SLOW_PAUSE, SLOW_SECONDS, LEAST_BESIDE_SLOW = (60, 1_000), (0.001, 0.05), 10, 0.5
 
 
 class TimedNode(NodeProcess):
@@ -131,10 +134,10 @@ def proposal(first, other, number):
     return json.dumps(message, sort_keys=True, separators=(",", ":")).encode()
 
 
-def rate(group, first, other, number):
-    """Makes transfers from that unit on for some seconds, and returns their rate and the next unit."""
+def rate(group, first, other, number, seconds=SECONDS):
+    """Makes transfers from that unit on for some seconds. Returns the next unit, and their seconds."""
     begin = time.monotonic()
-    while time.monotonic() - begin < SECONDS:
+    while time.monotonic() - begin < seconds:
         transfer(group, first, other, number)
         number += 1
     return number, (time.monotonic() - begin)
@@ -177,7 +180,65 @@ def try_memory(given):
         return f"{count - WARM_UP} repeats, {grown / 1_024:+.0f} kB"
 
 
-TRIALS = {"questions": try_questions, "transfers": try_transfers, "repeats": try_repeats, "memory": try_memory}
+class Trickle:
+    """Strangers that send single bytes over connections, each at its pace, and connect again when a node has closed one."""
+
+    def __init__(self, port, count, pause):
+        self.port, self.pause, self.sent, self.over = port, pause, 0, threading.Event()
+        self.connections = [self.connect() for _ in range(count)]
+        self.thread = threading.Thread(target=self.work, daemon=True)
+
+    def connect(self):
+        it = socket.create_connection((HOST, self.port), timeout=10)
+        it.setsockopt(socket.IPPROTO_TCP, socket.TCP_NODELAY, 1)
+        it.setblocking(False)
+        return it
+
+    def send(self, place):
+        """Sends a byte over the connection with that place."""
+        try:
+            self.connections[place].send(b"x")
+            self.sent += 1
+        except BlockingIOError:
+            pass
+        except OSError:
+            self.connections[place].close()
+            with contextlib.suppress(OSError):
+                self.connections[place] = self.connect()
+
+    def work(self):
+        while not self.over.is_set():
+            begin = time.monotonic()
+            for place in range(len(self.connections)):
+                self.send(place)
+            time.sleep(max(0, self.pause - (time.monotonic() - begin)))
+
+    def stop(self):
+        self.over.set()
+        self.thread.join(60)
+        for it in self.connections:
+            it.close()
+
+
+def try_slow(given):
+    """Makes transfers while the log has many connections that send it single bytes."""
+    with started(given, 2, 200_000) as group:
+        first, other = group.codes
+        number, spent = rate(group, first, other, 1, SLOW_SECONDS)
+        alone, texts = (number - 1) / spent, []
+        for count, pause in zip(SLOW, SLOW_PAUSE):
+            trickle = Trickle(group.ports[LOG], count, pause)
+            trickle.thread.start()
+            then, spent = rate(group, first, other, number, SLOW_SECONDS)
+            trickle.stop()
+            beside, number = (then - number) / spent, then
+            texts.append(f"{beside:.0f} beside {count} connections with {trickle.sent / spent:.0f} bytes a second")
+            differ(beside < LEAST_BESIDE_SLOW * alone and not given.busy, f"{alone:.0f} transfers a second alone, {texts[-1]}")
+        group.stop_all()
+        return f"{alone:.0f} transfers a second alone, {', '.join(texts)}"
+
+
+TRIALS = {"questions": try_questions, "transfers": try_transfers, "repeats": try_repeats, "slow": try_slow, "memory": try_memory}
 
 
 def main():

@@ -1,77 +1,36 @@
 //! The connections that a port holds, and the bytes that have come on them.
 ghost use Rattle.std.specs.Prelude.{◌≡◌, ◌⊎◌, Some, drop, true};
-ghost use Rattle.connections.specs.LineEnds.{length_of};
 ghost use Rattle.connections.specs.Waiting.{EndsLate, SparesOthers, first_number};
 
+use crate::arriving::{Arrival, Arriving};
 use crate::waiting::Connections;
-use std::io::ErrorKind;
 use std::net::TcpStream;
 use std::time::Instant;
-use streams::{FirstLine, first_line};
-
-/// What a look at a connection shows.
-#[derive(Clone, Copy)]
-enum Arrival {
-    /// A line has come, or the beginning of one that is too long, with the number of bytes that a session is to read.
-    Line(u64),
-    /// Less than a line has come, or nothing.
-    Part,
-    /// The connection has ended, or failed.
-    End,
-}
-
-/// How many bytes a session is to read of the line: the line and its newline, or all that comes if the line is too
-/// long. `None` if it isn't whole.
-fn length_of(line: FirstLine<'_>) -> Option<u64>
-    ensures { result ≡ length_of line.entry }
-{
-    match line {
-        FirstLine::Whole(line, _) => Some((line.len() as u64).saturating_add(1)),
-        FirstLine::Partial => None,
-        FirstLine::TooLong => Some(u64::MAX),
-    }
-}
-
-/// What a look at the connection shows, whose reads don't wait. No byte is taken from it. A line may have one byte less
-/// than `front` has room for.
-fn arrival_of(stream: &TcpStream, front: &mut [u8]) -> Arrival {
-    let longest = front.len().saturating_sub(1);
-    match stream.peek(front) {
-        Ok(0) => Arrival::End,
-        Ok(count) => match length_of(first_line(&front[..count], longest)) {
-            Some(length) => Arrival::Line(length),
-            None => Arrival::Part,
-        },
-        Err(error) => match error.kind() {
-            ErrorKind::WouldBlock | ErrorKind::Interrupted => Arrival::Part,
-            _ => Arrival::End,
-        },
-    }
-}
 
 /// The connections of a port that no session has.
 #[derive(Drop)]
 pub struct Held {
-    pub connections: Connections<TcpStream>,
-    /// Room for looking at the first bytes of a connection.
-    pub front: Vec<u8>,
+    pub connections: Connections<Arriving>,
+    /// Room for the bytes of one read: one more than a line may have.
+    pub piece: Vec<u8>,
     /// Whether peers may have connected that the last accept left.
     pub is_behind: bool,
 }
 
 impl Held {
-    /// Looks at the connection with that number, if it waits for a line. If a line has come, the connection is for a
-    /// session. If it has ended or failed, or if it sends no more and its line isn't whole, it is closed.
+    /// Reads what has come on the connection with that number, if it waits for a line. If the line is whole, the
+    /// connection is for a session. If it has ended or failed, or if it sends no more and its line isn't whole, it is
+    /// closed.
     pub fn look_at(&mut self, number: usize, sends_no_more: bool)
         ensures others { SparesOthers number self.old.connections.waiting.entries self.new.connections.waiting.entries }
         ensures gone { sends_no_more ≡ true → first_number self.old.connections.waiting.entries ≡ Some number
             → self.new.connections.waiting.entries ≡ drop 1 self.old.connections.waiting.entries }
         ensures next { self.new.connections.next ≡ self.old.connections.next }
     {
-        let Some(stream) = self.connections.get(number) else {
+        let Some(arriving) = self.connections.get(number) else {
             return;
         };
-        match arrival_of(stream, &mut self.front) {
+        match arriving.read_on(&mut self.piece) {
             Arrival::Line(length) => self.connections.line_came(number, length),
             Arrival::Part if !sends_no_more => {}
             _ => drop(self.connections.take(number)),

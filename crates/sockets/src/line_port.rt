@@ -5,12 +5,12 @@ ghost use Rattle.connections.specs.Waiting.{MayHold};
 
 use crate::accept_faults::{AcceptFault, accept_fault};
 use crate::port::LONGEST_ACCEPT;
-use connections::{Connections, Held, Ready, limit_waits};
+use connections::{ArrivedLine, Arriving, Connections, Held, Ready, limit_waits};
 use mio::unix::SourceFd;
 use mio::{Events, Interest, Poll, Registry, Token};
 use sessions::{Accepted, Listen};
 use std::alloc::Global;
-use std::io::{self, Read, Take};
+use std::io;
 use std::marker::Model;
 use std::net::{Net, SocketAddr, TcpListener, TcpStream};
 use std::os::fd::AsRawFd;
@@ -34,8 +34,8 @@ struct Watch {
     events: Events,
 }
 
-/// A TCP listener that hands a connection to a session only once a whole line of it can be read at once, or the
-/// beginning of one that is too long, and for that line alone: its reader ends after the newline. `give_back` has the
+/// A TCP listener that hands a connection to a session only once a whole line of it has come, or the beginning of one
+/// that is too long, and for that line alone: its reader ends after the newline. Each byte is read once, when it comes. `give_back` has the
 /// connection wait for its next line.
 ///
 /// It has up to `MOST_CONNECTIONS` connections that no session has. For a further one, the one that has waited longest
@@ -46,6 +46,7 @@ struct Watch {
 /// regardless of how much comes. Several threads may call it: one waits for all, and the others for it.
 pub struct LinePort<R> {
     rt: R,
+    alloc: Global,
     listener: TcpListener,
     address: SocketAddr,
     /// The registry of `watch`, with which a connection can be added while `watch` waits.
@@ -60,6 +61,7 @@ impl<R: Drop> Drop for LinePort<R> {
     fn drop(self) {
         let LinePort {
             rt,
+            alloc: _,
             listener,
             address: _,
             registry,
@@ -107,16 +109,17 @@ impl<R: Net<Listener = TcpListener, Stream = TcpStream> + Drop> LinePort<R> {
         )?;
         let events = Events::with_capacity(alloc, MOST_AT_ONCE)?;
         let connections = Connections::new(alloc, FIRST_CONNECTION)?;
-        let front = Vec::from_elem(alloc, 0u8, longest_line.saturating_add(1))?;
+        let piece = Vec::from_elem(alloc, 0u8, longest_line.saturating_add(1))?;
         Ok(LinePort {
             rt,
+            alloc,
             listener,
             address,
             registry,
             watch: Mutex::new(Watch { poll, events }),
             held: Mutex::new(Held {
                 connections,
-                front,
+                piece,
                 is_behind: false,
             }),
         })
@@ -136,8 +139,8 @@ impl<R: Wait + SystemClock> LinePort<R> {
     /// The connection waits for a line from now on. If there are `MOST_CONNECTIONS`, it takes the place of the one that
     /// has waited longest. It is closed if a line has come on each of them, if it can't be watched, or if memory ran
     /// out.
-    fn hold(&self, held: &mut Held, stream: TcpStream, now: Instant)
-        ensures waiting { MayHold stream now held.old.connections.next (deque_len held.old.connections.ready)
+    fn hold(&self, held: &mut Held, arriving: Arriving, now: Instant)
+        ensures waiting { MayHold arriving now held.old.connections.next (deque_len held.old.connections.ready)
             held.old.connections.waiting.entries held.new.connections.waiting.entries }
         ensures ready { held.new.connections.ready ≡ held.old.connections.ready }
     {
@@ -146,12 +149,12 @@ impl<R: Wait + SystemClock> LinePort<R> {
             return;
         }
         let watched = self.registry.register(
-            &mut SourceFd(&stream.as_raw_fd()),
+            &mut SourceFd(&arriving.stream().as_raw_fd()),
             Token(connections.next_number()),
             Interest::READABLE,
         );
         if watched.is_ok() {
-            let _refused = connections.add(stream, now);
+            let _refused = connections.add(arriving, now);
         }
     }
 
@@ -170,7 +173,7 @@ impl<R: Wait + SystemClock> LinePort<R> {
             match self.listener.accept() {
                 Ok((stream, _)) => {
                     if limit_waits(&stream).is_some() && stream.set_nonblocking(true).is_ok() {
-                        self.hold(held, stream, now);
+                        self.hold(held, Arriving::new(self.alloc, stream), now);
                     }
                 }
                 Err(error) => match accept_fault(&error) {
@@ -209,16 +212,17 @@ impl<R: Wait + SystemClock> LinePort<R> {
 
     /// A connection on which a line has come, for a session. `None` if there is none, or if it can't be handed over and
     /// is closed.
-    fn next_line(&self) -> Option<(Take<TcpStream>, TcpStream)> {
+    fn next_line(&self) -> Option<(ArrivedLine, TcpStream)> {
         let mut guard = self.held.lock(&self.rt);
         let held = &mut *guard;
         let Ready { connection, length } = held.connections.take_ready()?;
+        let stream = connection.stream();
         self.registry
-            .deregister(&mut SourceFd(&connection.as_raw_fd()))
+            .deregister(&mut SourceFd(&stream.as_raw_fd()))
             .ok()?;
-        connection.set_nonblocking(false).ok()?;
-        let writer = held.second_handle(&connection)?;
-        Some((connection.take(length), writer))
+        stream.set_nonblocking(false).ok()?;
+        let writer = held.second_handle(stream)?;
+        Some((connection.into_line(length), writer))
     }
 
     /// How long an accept waits for an event.
@@ -233,11 +237,11 @@ impl<R: Wait + SystemClock> LinePort<R> {
 
 impl<R: Wait + SystemClock> Listen for LinePort<R> {
     // It ends after the line.
-    type Reader = Take<TcpStream>;
+    type Reader = ArrivedLine;
 
     type Writer = TcpStream;
 
-    fn accept(&self) -> Accepted<Take<TcpStream>, TcpStream> {
+    fn accept(&self) -> Accepted<ArrivedLine, TcpStream> {
         let mut guard = self.watch.lock(&self.rt);
         let watch = &mut *guard;
         let longest = Some(self.longest_wait());
@@ -252,20 +256,26 @@ impl<R: Wait + SystemClock> Listen for LinePort<R> {
         }
     }
 
-    /// Takes back a connection whose line got a reply: it waits for a further line. It is closed if not all bytes were
-    /// read that were to be, or if it can't be held.
-    fn give_back(&self, reader: Take<TcpStream>, writer: TcpStream) {
+    /// Takes back a connection whose line got a reply: it waits for a further line, or is for a session at once if that
+    /// has come. It is closed if not all bytes were read that were to be, or if it can't be held.
+    fn give_back(&self, reader: ArrivedLine, writer: TcpStream) {
         drop(writer);
-        if reader.limit() > 0 {
-            return;
-        }
-        let stream = reader.into_inner();
         let Ok(now) = Instant::now(&self.rt) else {
             return;
         };
-        if stream.set_nonblocking(true).is_ok() {
-            let mut guard = self.held.lock(&self.rt);
-            self.hold(&mut guard, stream, now);
+        let mut guard = self.held.lock(&self.rt);
+        let held = &mut *guard;
+        let longest = held.piece.len().saturating_sub(1);
+        let Some((arriving, next)) = reader.into_arriving(longest) else {
+            return;
+        };
+        if arriving.stream().set_nonblocking(true).is_err() {
+            return;
+        }
+        let number = held.connections.next_number();
+        self.hold(held, arriving, now);
+        if let Some(length) = next {
+            held.connections.line_came(number, length);
         }
     }
 }

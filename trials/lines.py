@@ -117,8 +117,9 @@ class Client:
         return self
 
     def end(self):
-        """Sends no more."""
-        self.socket.shutdown(socket.SHUT_WR)
+        """Sends no more. The node may have closed the connection already."""
+        with contextlib.suppress(OSError):
+            self.socket.shutdown(socket.SHUT_WR)
         return self
 
     def expect_end(self):

@@ -4,8 +4,8 @@ repeats a recorded message as fast as the node takes it, and while strangers sen
 
     pauses.py [NAME ..]
 
-Without names it tries all. Each writes a line with what it measured, and fails at the limit that the line names. Stores
-are on a disk in memory if the system has one.
+Without names it tries all. Each writes a line with what it measured, and fails beyond its limit, which bench/README has.
+Stores are on a disk in memory if the system has one.
 """
 import argparse
 import contextlib

@@ -47,7 +47,7 @@ fn fill<S: NodeStore>(store: &mut S, records: &[Input]) -> Result<(), NotExporte
 impl<A: Archive> Exporter for Exports<'_, A> {
     ghost use Rattle.commands.specs.Standing.{IsExported};
 
-    ghost holds = { λ e path n inputs. IsExported A.Archive e.archive.now A.Store.NodeStore path n inputs };
+    ghost holds = { λ e n path inputs. IsExported A.Archive e.archive.now A.Store.NodeStore path n inputs };
 
     fn export(&self, path: &str, node: Node, records: &[Input]) -> Result<(), NotExported> {
         let Ok(mut store) = self.archive.make_store(path, node) else {

@@ -20,3 +20,6 @@ pub use command_faults;
 pub use command_line;
 pub use serving;
 pub use weave;
+
+// What a node writes of its troubles.
+pub use sockets::{Notice, Trouble};

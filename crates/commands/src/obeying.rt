@@ -10,7 +10,7 @@ use clap::Error;
 use command_faults::{OpFault, write_out};
 use command_line::{Action, UsageFault, parse_words};
 use std::alloc::Global;
-use std::io::{Read, Write};
+use std::io::{Eprint, Read, Write};
 use std::net::{Net, TcpListener, TcpStream};
 use std::rt::Clock as SystemClock;
 use std::sync::Wait;
@@ -74,7 +74,12 @@ where
     I: Read,
     W: Write,
     P: Progress,
-    R: Threads + Wait + SystemClock + Net<Listener = TcpListener, Stream = TcpStream> + Sync,
+    R: Threads
+        + Wait
+        + SystemClock
+        + Eprint
+        + Net<Listener = TcpListener, Stream = TcpStream>
+        + Sync,
     ensures { Obeys A.Archive archive.now A.File.remaining A.Store.NodeStore (map string_bytes words.now) result
         (I.remaining reader.old) (I.remaining reader.new) (W.contents writer.old) (W.contents writer.new) }
 {

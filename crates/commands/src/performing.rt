@@ -19,7 +19,7 @@ use rehearse::rehearse;
 use report::Form;
 use show::show;
 use std::alloc::Global;
-use std::io::{Read, Write};
+use std::io::{Eprint, Read, Write};
 use std::net::{Net, TcpListener, TcpStream};
 use std::rt::Clock as SystemClock;
 use std::sync::Wait;
@@ -250,7 +250,12 @@ where
     I: Read,
     W: Write,
     P: Progress,
-    R: Threads + Wait + SystemClock + Net<Listener = TcpListener, Stream = TcpStream> + Sync,
+    R: Threads
+        + Wait
+        + SystemClock
+        + Eprint
+        + Net<Listener = TcpListener, Stream = TcpStream>
+        + Sync,
     ensures ok { OnOk result (Performs A.Archive archive.now A.File.remaining A.Store.NodeStore action.now
         (I.remaining reader.old) (I.remaining reader.new) (W.contents writer.old) (W.contents writer.new)) }
     ensures err { IfErr result

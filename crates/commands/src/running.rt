@@ -19,7 +19,7 @@ use serving::world::Core;
 use sessions::JoinedNetwork;
 use sockets::{Port, Ports};
 use std::alloc::Global;
-use std::io::{ErrorKind, Write};
+use std::io::{Eprint, ErrorKind, Write};
 use std::net::{Net, TcpListener, TcpStream};
 use std::rt::Clock as SystemClock;
 use std::sync::Wait;
@@ -144,7 +144,12 @@ where
     S: NodeStore + Send + Drop,
     W: Write,
     P: Progress,
-    R: Threads + Wait + SystemClock + Net<Listener = TcpListener, Stream = TcpStream> + Sync,
+    R: Threads
+        + Wait
+        + SystemClock
+        + Eprint
+        + Net<Listener = TcpListener, Stream = TcpStream>
+        + Sync,
     requires opened { AreOpened script.now.scheme.now loaded.items }
     ensures ok { IfOk result
         (λ r. HasReported S.NodeStore script.now.scheme.now script.now.lines.now loaded.items
@@ -194,7 +199,12 @@ where
     A: Archive,
     W: Write,
     P: Progress,
-    R: Threads + Wait + SystemClock + Net<Listener = TcpListener, Stream = TcpStream> + Sync,
+    R: Threads
+        + Wait
+        + SystemClock
+        + Eprint
+        + Net<Listener = TcpListener, Stream = TcpStream>
+        + Sync,
     requires opened { AreOpened script.now.scheme.now loaded.items }
     ensures ok { OnOk result
         (RunsLoaded A.Store.NodeStore (A.closes archive.now) script.now.scheme.now script.now.lines.now strictness
@@ -237,7 +247,12 @@ where
     A: Archive,
     W: Write,
     P: Progress,
-    R: Threads + Wait + SystemClock + Net<Listener = TcpListener, Stream = TcpStream> + Sync,
+    R: Threads
+        + Wait
+        + SystemClock
+        + Eprint
+        + Net<Listener = TcpListener, Stream = TcpStream>
+        + Sync,
     ensures ok { OnOk result
         (RunsFolder A.Archive archive.now A.File.remaining A.Store.NodeStore scheme.now folder.now script.now strictness
         (W.contents writer.old) (W.contents writer.new)) }

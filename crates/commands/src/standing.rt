@@ -22,7 +22,7 @@ use serving::world::Core;
 use sessions::{JoinedNetwork, Network};
 use sockets::{LinePort, Ports};
 use std::alloc::Global;
-use std::io::{ErrorKind, Read, Write};
+use std::io::{Eprint, ErrorKind, Read, Write};
 use std::net::{Net, SocketAddr, TcpListener, TcpStream};
 use std::rt::Clock as SystemClock;
 use std::sync::Wait;
@@ -256,7 +256,7 @@ where
     requires member { is_node standing.scheme.now loaded.state.node ≡ true }
     requires opened { loaded.state
         ≡ opened_with standing.scheme.now loaded.state.node loaded.state.journal }
-    ensures life { IfOk result (λ s. Lives (λ path inputs. E.holds exporter.now path loaded.state.node inputs)
+    ensures life { IfOk result (λ s. Lives (E.holds exporter.now loaded.state.node)
         standing.entry.scheme.now loaded.state.node loaded.state.journal s.state
         (I.remaining reader.old) (I.remaining reader.new) (W.contents writer.old) (W.contents writer.new)) }
     ensures keeps { IfOk result (IsKept N.Store.NodeStore) }
@@ -309,6 +309,7 @@ where
     T: Net<Listener = TcpListener, Stream = TcpStream>
         + Wait
         + SystemClock
+        + Eprint
         + Copy
         + Send
         + Sync
@@ -316,7 +317,7 @@ where
     R: Threads + Wait + SystemClock + Sync,
     requires member { is_node standing.scheme.now stored.state.node ≡ true }
     requires opened { stored.state ≡ opened_with standing.scheme.now stored.state.node stored.state.journal }
-    ensures life { IfOk result (λ s. Lives (λ path inputs. E.holds exporter.now path stored.state.node inputs)
+    ensures life { IfOk result (λ s. Lives (E.holds exporter.now stored.state.node)
         standing.entry.scheme.now stored.state.node stored.state.journal s.state
         (I.remaining reader.old) (I.remaining reader.new) (W.contents writer.old) (W.contents writer.new)) }
     ensures keeps { IfOk result (IsKept S.NodeStore) }
@@ -386,7 +387,12 @@ where
     A: Archive,
     I: Read,
     W: Write,
-    R: Threads + Wait + SystemClock + Net<Listener = TcpListener, Stream = TcpStream> + Sync,
+    R: Threads
+        + Wait
+        + SystemClock
+        + Eprint
+        + Net<Listener = TcpListener, Stream = TcpStream>
+        + Sync,
     requires { is_node scheme.now setup.node ≡ true }
     ensures { OnOk result (StandsIn A.Archive archive.now A.Store.NodeStore words.now scheme.now setup.entry.node
         (I.remaining reader.old) (I.remaining reader.new) (W.contents writer.old) (W.contents writer.new)) }
@@ -442,7 +448,12 @@ where
     A: Archive,
     I: Read,
     W: Write,
-    R: Threads + Wait + SystemClock + Net<Listener = TcpListener, Stream = TcpStream> + Sync,
+    R: Threads
+        + Wait
+        + SystemClock
+        + Eprint
+        + Net<Listener = TcpListener, Stream = TcpStream>
+        + Sync,
     ensures ok { OnOk result (StandsAlone A.Archive archive.now A.File.remaining A.Store.NodeStore words.now
         (I.remaining reader.old) (I.remaining reader.new) (W.contents writer.old) (W.contents writer.new)) }
     ensures err { IfErr result (λ e. FailsToStand A.Archive archive.now A.File.remaining words.now e

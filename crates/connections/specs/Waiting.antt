@@ -15,6 +15,10 @@ use Rattle.connections.specs.declared.waiting.Ready.{Ready}
 abbrev pub is_late : Instant → Instant → Bool
 is_late now since = nat_lt (LONGEST_LINE_TIME * 1_000_000_000) (instant_nanos now - instant_nanos since)
 
+-- how many nanoseconds are left until it has waited for `LONGEST_LINE_TIME` seconds
+abbrev pub nanos_left : Instant → Instant → ℕ
+nanos_left now since = LONGEST_LINE_TIME * 1_000_000_000 - (instant_nanos now - instant_nanos since)
+
 -- each number is below n
 abbrev pub AreBelow : {X : Type 0} → ℕ → List (ℕ × X) → Type 0
 AreBelow n es = AllByRecursion (λ e. e.0 < n) es
@@ -40,6 +44,11 @@ module _ {T : Type 0} where
   abbrev pub first_late : Instant → List (ℕ × Waiter T) → Option ℕ
   first_late now [] = None
   first_late now (e ∷ es) = if is_late now e.1.since then Some e.0 else None
+
+  -- how many nanoseconds are left until the first of those that wait is late; all of them if none waits
+  abbrev pub time_left : Instant → List (ℕ × Waiter T) → ℕ
+  time_left now [] = LONGEST_LINE_TIME * 1_000_000_000
+  time_left now (e ∷ es) = nanos_left now e.1.since
 
   -- those that go on waiting once a further connection comes, while that many others have sent a line
   abbrev pub left_for_one : List (ℕ × Waiter T) → ℕ → List (ℕ × Waiter T)

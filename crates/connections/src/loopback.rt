@@ -3,6 +3,7 @@ ghost use Rattle.std.specs.Prelude.{◌≡◌, ◌↔◌, IsTrue};
 ghost use Rattle.std.specs.Net.Socket.{socket_port};
 ghost use Rattle.connections.specs.Loopback.{IsOfLoopback, LeadsBack};
 
+use std::io;
 use std::net::{Ipv4Addr, SocketAddr, SocketAddrV4, TcpStream};
 use std::time::Duration;
 
@@ -38,13 +39,21 @@ pub const LONGEST_WAIT: u64 = 2;
 /// Makes each read and each write of the connection fail after `LONGEST_WAIT` seconds from now on. `None` if the system
 /// takes no limit for its waits.
 pub fn limit_waits(stream: &TcpStream) -> Option<()> {
-    let longest = Some(Duration::from_secs(LONGEST_WAIT));
-    stream.set_read_timeout(longest).ok()?;
-    stream.set_write_timeout(longest).ok()?;
+    limit_waits_to(stream, Duration::from_secs(LONGEST_WAIT)).ok()
+}
+
+/// Makes each read and each write of the connection fail with `WouldBlock` after that time, which isn't zero.
+///
+/// # Errors
+///
+/// Fails as the system does, if it takes no such limit.
+pub fn limit_waits_to(stream: &TcpStream, longest: Duration) -> io::Result<()> {
+    stream.set_read_timeout(Some(longest))?;
+    stream.set_write_timeout(Some(longest))?;
     // Otherwise a line waits for the acknowledgement of the one before it. If it can't be set, everything is only
     // slower.
     let _ = stream.set_nodelay(true);
-    Some(())
+    Ok(())
 }
 
 /// The reader and the writer of a connection; each fails after `LONGEST_WAIT` seconds. `None` if the system has no

@@ -5,9 +5,10 @@ ghost use Rattle.std.specs.BTreeMap.{btree_map_len, is_at, IsUnchanged};
 ghost use Rattle.std.specs.Map.{remove_entry};
 ghost use Rattle.std.specs.Option.{option_copied, option_to_list};
 ghost use Rattle.std.specs.Ordering.{nat_cmp};
+ghost use Rattle.std.specs.Duration.{as_nanos};
 ghost use Rattle.std.specs.VecDeque.{deque_len, deque_capacity};
 ghost use Rattle.connections.specs.declared.waiting.TheConstants.{MOST_CONNECTIONS};
-ghost use Rattle.connections.specs.Waiting.{AreBelow, AreBelow-prop, begun, connection_of, first_late, is_late, left_for_one, line_of};
+ghost use Rattle.connections.specs.Waiting.{AreBelow, AreBelow-prop, begun, connection_of, first_late, is_late, left_for_one, line_of, nanos_left, time_left};
 
 use std::alloc::{AllocError, Global};
 use std::collections::{BTreeMap, VecDeque};
@@ -40,6 +41,13 @@ fn is_late(now: Instant, since: Instant) -> bool
     ensures { result ≡ is_late now since }
 {
     now.duration_since(since) > Duration::from_secs(LONGEST_LINE_TIME)
+}
+
+/// How long a wait that began then may last on: `LONGEST_LINE_TIME` seconds in all. 0 if it is late.
+fn left_of(now: Instant, since: Instant) -> Duration
+    ensures { as_nanos result ≡ nanos_left now since }
+{
+    Duration::from_secs(LONGEST_LINE_TIME).saturating_sub(now.duration_since(since))
 }
 
 /// The connections of a port that no session has: those that wait for a line, each under a number, and those on which a
@@ -169,6 +177,17 @@ impl<T: Drop> Connections<T> {
             Some(*number)
         } else {
             None
+        }
+    }
+
+    /// How long nothing has to be done if no line comes: until the connection that has waited longest for one is late,
+    /// or for `LONGEST_LINE_TIME` seconds if none waits.
+    pub fn time_left(&self, now: Instant) -> Duration
+        ensures { as_nanos result ≡ time_left now self.now.waiting.entries }
+    {
+        match self.waiting.first_key_value() {
+            Some((_, longest)) => left_of(now, longest.since),
+            None => Duration::from_secs(LONGEST_LINE_TIME),
         }
     }
 

@@ -19,6 +19,7 @@ use Rattle.node_state.specs.Loading.{IsLoaded}
 use Rattle.node_state.specs.Views.{StateView, opened_with, tail}
 use Rattle.node_state.specs.declared.notes.Told.{Told}
 use Rattle.node_state.proofs.JournalFronts.{front_more}
+use Rattle.settling.proofs.FollowedRecords.{take_own}
 
 -- ---- lists
 
@@ -26,11 +27,6 @@ take_fits : {X : Type 0} (n : ℕ) (xs : List X) → length (take n xs) ≤ leng
 take_fits zero xs = omega arith
 take_fits (suc n) [] = omega arith
 take_fits (suc n) (x ∷ xs) = omega (arith, take_fits n xs)
-
-take_own : {X : Type 0} (n : ℕ) (xs : List X) → take (length (take n xs)) xs ≡ take n xs
-take_own zero xs = refl
-take_own (suc n) [] = refl
-take_own (suc n) (x ∷ xs) = ap (λ l. x ∷ l) (take_own n xs)
 
 -- ---- places
 

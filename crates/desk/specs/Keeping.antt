@@ -11,9 +11,10 @@ use Rattle.stores.specs.Faults.{count_after}
 use Rattle.stores.specs.declared.fault.StoreFault.{StoreFault}
 use Rattle.stores.specs.declared.node_store.NodeStore.{Ghosts}
 use Rattle.wire.specs.declared.message.Message.{Message}
+use Rattle.protocol.specs.History.{sends}
 use Rattle.node_state.specs.Calls.{batch_of, committed_by, done}
 use Rattle.desk.specs.Desks.{HasToSend, IsConfirmation}
-use Rattle.node_state.specs.Views.{StateView}
+use Rattle.node_state.specs.Views.{StateView, committed_past, committed_records}
 use Rattle.desk.specs.declared.confirmation.Confirmation.{Confirmation}
 
 -- ---- the texts at the places of a store
@@ -90,7 +91,7 @@ module _ {S : Type 0} (g : Ghosts S) (opened : Scheme → Node → List Input �
     pub runs : kept.state.runs ≡ true
 
   -- No clause can name the state and store under a desk's lock, so each says that there are some state and store of
-  -- this run which committed these records or had this message to send.
+  -- this run which committed these records, had these as its committed records or had this message to send.
   pub record IsOfRun (kept : StoredView S) : Type 0 where
     pub keeps : IsKept g kept
     pub fault : Option StoreFault
@@ -103,6 +104,14 @@ module _ {S : Type 0} (g : Ghosts S) (opened : Scheme → Node → List Input �
   -- a message to send, which a committed record in the store sends
   abbrev pub IsToSend : Node → ℕ → Option (ℕ × Message) → Type 0
   IsToSend peer from found = (kept : StoredView S) × IsOfRun kept × HasToSend kept.state peer from found
+
+  -- the committed records send that many messages
+  abbrev pub HaveSent : ℕ → Type 0
+  HaveSent count = (kept : StoredView S) × IsOfRun kept × (count ≡ length (sends (committed_past kept.state)))
+
+  -- these are the committed records from that place on, or the first ones of these, at most that many
+  abbrev pub AreCommitted : ℕ → ℕ → List Input → Type 0
+  AreCommitted from most records = (kept : StoredView S) × IsOfRun kept × (records ≡ take most (drop from (committed_records kept.state)))
 
   -- that many records are committed, and a store has them
   abbrev pub AreStored : ℕ → Type 0

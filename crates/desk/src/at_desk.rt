@@ -2,7 +2,7 @@
 //! functions, which can't name the state, follow from them.
 ghost use Rattle.std.specs.Prelude.{◌≡◌, IfOk};
 ghost use Rattle.desk.specs.Desks.{IsOf, IsTakeOf};
-ghost use Rattle.desk.specs.Keeping.{IsAtDesk, IsCommit, IsKept, IsConfirmationOfRun, IsToSend, MayOpen, fault_after};
+ghost use Rattle.desk.specs.Keeping.{AreCommitted, HaveSent, IsAtDesk, IsCommit, IsKept, IsConfirmationOfRun, IsToSend, MayOpen, fault_after};
 
 use crate::confirmation::Confirmation;
 use crate::locked::confirmation_of;
@@ -53,7 +53,7 @@ impl<O: Opening, C: NodeCore, S: NodeStore + Drop> Drop for AtDesk<O, C, S> {
 impl<O: Opening, C: NodeCore, S: NodeStore> Model for AtDesk<O, C, S> {
     ghost use Rattle.std.specs.Coded.{codes};
     ghost use Rattle.scheme.specs.contracts.registries.Scheme as kept_scheme;
-    ghost use Rattle.desk.specs.Keeping.{IsAtDesk, StoredView};
+    ghost use Rattle.desk.specs.Keeping.{AreCommitted, HaveSent, IsAtDesk, StoredView};
 
     ghost Value = { StoredView S };
 
@@ -115,6 +115,20 @@ impl<O: Opening, C: NodeCore, S: NodeStore> AtDesk<O, C, S> {
             Some((key, message)) => Ok(Some((key, message.copy()?))),
             None => Ok(None),
         }
+    }
+
+    /// As `committed_sends` of the state.
+    pub(crate) fn committed_sends(&self) -> usize
+        ensures { HaveSent S.NodeStore O.opened result }
+    {
+        self.stored.state().committed_sends()
+    }
+
+    /// As `committed_from` of the state.
+    pub(crate) fn committed_from(&self, from: usize, most: usize) -> Result<Vec<Input>, NoMemory>
+        ensures { IfOk result (λ records. AreCommitted S.NodeStore O.opened from most records.items) }
+    {
+        self.stored.state().committed_from(from, most)
     }
 
     /// As `confirmation_of` of the state.

@@ -186,11 +186,15 @@ impl<O: Opening, C: NodeCore, S: NodeStore, B: Bell> Desk<O, C, S, B> {
 }
 
 impl<O: Opening, C: NodeCore, S: NodeStore> SharedNode for Desk<O, C, S, RoomBell> {
-    ghost use Rattle.desk.specs.Keeping.{AreStored, IsCommit, IsToSend};
+    ghost use Rattle.desk.specs.Keeping.{AreCommitted, AreStored, HaveSent, IsCommit, IsToSend};
 
     ghost is_commit = { IsCommit S.NodeStore O.opened };
 
     ghost is_to_send = { IsToSend S.NodeStore O.opened };
+
+    ghost have_sent = { HaveSent S.NodeStore O.opened };
+
+    ghost are_committed = { AreCommitted S.NodeStore O.opened };
 
     ghost are_stored = { AreStored S.NodeStore O.opened };
 
@@ -236,6 +240,19 @@ impl<O: Opening, C: NodeCore, S: NodeStore> SharedNode for Desk<O, C, S, RoomBel
         from: usize,
     ) -> Result<Option<(usize, Message)>, NoMemory> {
         self.locked.lock(rt).next_send(peer, from)
+    }
+
+    fn committed_sends<R: Wait>(&self, rt: &R) -> usize {
+        self.locked.lock(rt).committed_sends()
+    }
+
+    fn committed_from<R: Wait>(
+        &self,
+        rt: &R,
+        from: usize,
+        most: usize,
+    ) -> Result<Vec<Input>, NoMemory> {
+        self.locked.lock(rt).committed_from(from, most)
     }
 
     fn is_running<R: Wait>(&self, rt: &R) -> bool {

@@ -19,8 +19,9 @@ use wire::{Input, Message};
 /// A node's state and its store, as the threads that share them see them. A thread brings a seat of its own to each
 /// call whose result it notes. Functions over this trait reach one type in place of those of a desk.
 pub trait SharedNode {
-    ghost use Rattle.std.specs.Prelude.{ℕ, Option, Result};
+    ghost use Rattle.std.specs.Prelude.{ℕ, List, Option, Result};
     ghost use Rattle.units.specs.declared.code.Node.{Node as ANode};
+    ghost use Rattle.wire.specs.declared.input.Input.{Input as AnInput};
     ghost use Rattle.wire.specs.declared.message.Message.{Message as AMessage};
     ghost use Rattle.stores.specs.declared.fault.StoreFault.{StoreFault as AFault};
 
@@ -30,6 +31,13 @@ pub trait SharedNode {
     /// Some state and store of this run had this to send to the peer, from that key on: the first committed message
     /// that no record acknowledges, with its key; or nothing.
     ghost is_to_send: { ANode → ℕ → Option (ℕ × AMessage) → Type 0 };
+
+    /// Some state and store of this run had committed records that send that many messages.
+    ghost have_sent: { ℕ → Type 0 };
+
+    /// Some state and store of this run had these as its committed records from that place on, or the first ones of
+    /// these, at most that many.
+    ghost are_committed: { ℕ → ℕ → List AnInput → Type 0 };
 
     /// Some state and store of this run had that many records committed.
     ghost are_stored: { ℕ → Type 0 };
@@ -115,6 +123,21 @@ pub trait SharedNode {
         from: usize,
     ) -> Result<Option<(usize, Message)>, NoMemory>
         ensures { IfOk result (λ found. is_to_send peer from found) };
+
+    /// How many messages the committed records send: the keys of all of them are below it. There may be more once this
+    /// returns.
+    fn committed_sends<R: Wait>(&self, rt: &R) -> usize
+        ensures { have_sent result };
+
+    /// Copies of the committed records from place `from` on, at most `most` of them, the oldest first; none if no more
+    /// are committed. There may be more once this returns. Fails with `NoMemory` if memory ran out.
+    fn committed_from<R: Wait>(
+        &self,
+        rt: &R,
+        from: usize,
+        most: usize,
+    ) -> Result<Vec<Input>, NoMemory>
+        ensures { IfOk result (λ copies. are_committed from most copies.items) };
 
     /// Whether the state runs: it wasn't stopped, and no commit of it failed.
     fn is_running<R: Wait>(&self, rt: &R) -> bool;

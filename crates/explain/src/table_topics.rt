@@ -59,7 +59,7 @@ Meaning: of a block: no transaction reserves it
     (
         "exported",
         "exported: an outcome at a node (exported COUNT)
-When: the file has all committed records, COUNT of them
+When: the file has COUNT records, among them all that were committed when the line was read
 ",
     ),
     (

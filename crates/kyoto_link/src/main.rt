@@ -21,7 +21,7 @@ use crate::watching::Terminal;
 use clap::Error;
 use commands::command_faults::OpFault;
 use commands::{CommandEnd, obey};
-use std::io::{ErrorKind, IsTerminal};
+use std::io::{Eprint, ErrorKind, IsTerminal};
 use std::net::{Net, TcpListener, TcpStream};
 use std::process::ExitCode;
 use std::rt::Clock as SystemClock;
@@ -106,7 +106,11 @@ fn tell_waiting(rt: &HostRuntime, words: &[String]) {
 }
 
 /// The input of the command that the words name.
-fn input_of<R: Net>(rt: &HostRuntime, net: &R, words: &[String]) -> io::Result<StandardInput> {
+fn input_of<'a, R: Net>(
+    rt: &'a HostRuntime,
+    net: &R,
+    words: &[String],
+) -> io::Result<StandardInput<'a>> {
     if is_node(words) {
         return StandardInput::of_operator(rt, net);
     }
@@ -119,7 +123,12 @@ fn input_of<R: Net>(rt: &HostRuntime, net: &R, words: &[String]) -> io::Result<S
 /// Does what the words ask for. `threads` is the same runtime, as one that may start threads, wait and open sockets.
 fn run<R>(rt: &HostRuntime, threads: &R, words: &[String]) -> ExitCode
 where
-    R: Threads + Wait + SystemClock + Net<Listener = TcpListener, Stream = TcpStream> + Sync,
+    R: Threads
+        + Wait
+        + SystemClock
+        + Eprint
+        + Net<Listener = TcpListener, Stream = TcpStream>
+        + Sync,
 {
     let Ok(mut input) = input_of(rt, threads, words) else {
         return report(rt, words, &CommandEnd::NoAction(OpFault::NoMemory), None);

@@ -1,10 +1,12 @@
 //! Standard input, and that of a node, whose operator may write nothing for long.
 
+use commands::{Notice, Trouble};
 use mio::unix::SourceFd;
 use mio::{Events, Interest, Poll, Token};
 use std::alloc::Global;
 use std::io::{self, BufReader, ErrorKind, Input, Read, StdinLock};
 use std::net::Net;
+use std::thread;
 use std::time::Duration;
 
 /// The file descriptor of standard input.
@@ -12,6 +14,9 @@ const STANDARD_INPUT: i32 = 0;
 
 /// How long a read waits for something to be written, in milliseconds.
 const LONGEST_WAIT: u64 = 250;
+
+/// The work of a reader, as its notices name it.
+const READING: &str = "reading standard input";
 
 /// How many bytes are read at once at most.
 const READ_AT_ONCE: usize = 4_096;
@@ -55,25 +60,48 @@ impl Watch {
 
 /// Standard input, with reads that fail with `WouldBlock` if nothing was written for `LONGEST_WAIT` milliseconds.
 #[derive(Drop)]
-pub(crate) struct OperatorInput {
+pub(crate) struct OperatorInput<'a> {
+    rt: &'a HostRuntime,
     stdin: StdinLock<'static>,
     watch: Option<Watch>,
+    notice: Notice,
 }
 
-impl Read for OperatorInput {
-    fn read(&mut self, piece: &mut [u8]) -> io::Result<usize> {
-        if let Some(watch) = &mut self.watch {
-            if !watch.has_come()? {
-                return Err(ErrorKind::WouldBlock.into());
+impl<'a> OperatorInput<'a> {
+    /// Whether a read returns at once. If the system can't tell, standard error has a line that says so, and no further
+    /// one until it can again; this has then lasted as long as a wait in which nothing came.
+    fn has_come(&mut self) -> bool {
+        let Some(watch) = &mut self.watch else {
+            return true;
+        };
+        match watch.has_come() {
+            Ok(has_come) => {
+                self.notice.over();
+                has_come
+            }
+            Err(_) => {
+                self.notice.tell(self.rt, Trouble::Refused);
+                thread::sleep(self.rt, Duration::from_millis(LONGEST_WAIT));
+                false
             }
         }
-        self.stdin.read(piece)
+    }
+}
+
+impl<'a> Read for OperatorInput<'a> {
+    /// Also fails with `WouldBlock` if the system can't tell whether something was written.
+    fn read(&mut self, piece: &mut [u8]) -> io::Result<usize> {
+        if self.has_come() {
+            self.stdin.read(piece)
+        } else {
+            Err(ErrorKind::WouldBlock.into())
+        }
     }
 }
 
 /// Standard input, as a command reads it.
 #[derive(Drop)]
-pub(crate) enum StandardInput {
+pub(crate) enum StandardInput<'a> {
     /// Each read waits until something is written. What was read is kept for a hint, if one is wanted and memory
     /// doesn't run out.
     Waiting {
@@ -81,26 +109,31 @@ pub(crate) enum StandardInput {
         kept: Option<Vec<u8>>,
     },
     /// A read returns now and then if nothing is written.
-    Returning(BufReader<OperatorInput>),
+    Returning(BufReader<OperatorInput<'a>>),
 }
 
-impl StandardInput {
+impl<'a> StandardInput<'a> {
     /// The input of a node's operator.
     ///
     /// # Errors
     ///
     /// Fails with `OutOfMemory`.
-    pub(crate) fn of_operator<R: Net>(rt: &HostRuntime, net: &R) -> io::Result<StandardInput> {
+    pub(crate) fn of_operator<R: Net>(
+        rt: &'a HostRuntime,
+        net: &R,
+    ) -> io::Result<StandardInput<'a>> {
         let input = OperatorInput {
+            rt,
             stdin: rt.reader(),
             watch: Watch::new(net, rt.alloc()),
+            notice: Notice::new(READING),
         };
         let reader = BufReader::with_capacity(rt.alloc(), READ_AT_ONCE, input)?;
         Ok(StandardInput::Returning(reader))
     }
 
     /// The input of any other command.
-    pub(crate) fn of_command(rt: &HostRuntime) -> StandardInput {
+    pub(crate) fn of_command(rt: &HostRuntime) -> StandardInput<'a> {
         StandardInput::Waiting {
             stdin: rt.reader(),
             kept: None,
@@ -108,7 +141,7 @@ impl StandardInput {
     }
 
     /// The input of a command whose hints show a line of it: what is read is kept.
-    pub(crate) fn kept_for_hints(rt: &HostRuntime) -> StandardInput {
+    pub(crate) fn kept_for_hints(rt: &HostRuntime) -> StandardInput<'a> {
         StandardInput::Waiting {
             stdin: rt.reader(),
             kept: Some(Vec::new(rt.alloc())),
@@ -138,7 +171,7 @@ fn keep(kept: &mut Option<Vec<u8>>, bytes: &[u8]) {
     }
 }
 
-impl Read for StandardInput {
+impl<'a> Read for StandardInput<'a> {
     fn read(&mut self, piece: &mut [u8]) -> io::Result<usize> {
         match self {
             StandardInput::Waiting { stdin, kept } => {

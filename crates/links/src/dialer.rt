@@ -48,4 +48,12 @@ impl<'k, D: Dial> Dial for Tagged<'k, D> {
         let (reader, writer) = self.inner.connect(peer)?;
         made(self.alloc, key, self.node, peer, reader, writer).ok()
     }
+
+    fn stop(&self) {
+        self.inner.stop();
+    }
+
+    fn begin(&self) {
+        self.inner.begin();
+    }
 }

@@ -44,4 +44,12 @@ impl<'k, L: Listen> Listen for Tagged<'k, L> {
             Accepted::Failed => Accepted::Failed,
         }
     }
+
+    fn stop(&self) {
+        self.inner.stop();
+    }
+
+    fn begin(&self) {
+        self.inner.begin();
+    }
 }

@@ -1,5 +1,5 @@
 //! A node's state.
-ghost use Rattle.std.specs.Prelude.{◌≡◌, ◌+◌, ◌<◌, ◌≤◌, [], true, false, length, take, slice_get, option_copied, option_map, None, Some, Ok, Err, IfOk, IfSome, MatchResult};
+ghost use Rattle.std.specs.Prelude.{◌≡◌, ◌+◌, ◌<◌, ◌≤◌, [], true, false, length, take, drop, slice_get, option_copied, option_map, None, Some, Ok, Err, IfOk, IfSome, MatchResult};
 ghost use Rattle.protocol.specs.Cores.{Replays};
 ghost use Rattle.protocol.specs.History.{is_acknowledged, sends};
 ghost use Rattle.protocol.specs.Unacknowledged.{IsLeastFrom, awaits};
@@ -430,6 +430,18 @@ impl<C: NodeCore> State<C> {
         ensures { result.now ≡ committed_records self.now }
     {
         &self.core.journal()[..self.committed]
+    }
+
+    /// Copies of the committed records from place `from` on, at most `most` of them, the oldest first; none if no more
+    /// are committed. Fails with `NoMemory` if memory ran out.
+    pub fn committed_from(&self, from: usize, most: usize) -> Result<Vec<Input>, NoMemory>
+        ensures { IfOk result (λ records. records.items ≡ take most (drop from (committed_records self.now))) }
+    {
+        let committed = self.committed();
+        // No place and no sum is past the end.
+        let start = from.min(committed.len());
+        let count = most.min(committed.len() - start);
+        copies(self.alloc, &committed[start..start + count])
     }
 }
 

@@ -1,8 +1,8 @@
+pub mod Ending
+pub mod Forgetting
 pub mod Going
 pub mod HeldLines
 pub mod Possible
-pub mod ShiftAfterShift
-pub mod Shifting
 pub mod Stepping
 pub mod Turning
 pub mod Words

@@ -1,4 +1,4 @@
 pub mod Lives
 pub mod Reading
-pub mod Shifts
+pub mod Operating
 pub mod Turns

@@ -3,6 +3,7 @@ use Rattle.std.specs.Prelude.{◌≡◌, ◌<◌, ◌≤◌, ◌+◌, ℕ, true,
 use Rattle.units.specs.Limits.{longest_line}
 use Rattle.units.specs.declared.code.Node.{Node}
 use Rattle.units.specs.declared.code.Node.TheVariants.{Itl}
+use Rattle.protocol.specs.Input.{Input}
 use Rattle.protocol.specs.Input.TheVariants.{CleanUp}
 use Rattle.protocol.specs.Moment.{Moment}
 use Rattle.protocol.specs.Scheme.{Scheme}
@@ -89,6 +90,18 @@ IsExportLine line path = line ≡ codes "export " ++ path
 
 abbrev pub AsksExport : List ℕ → Type 0
 AsksExport line = (path : List ℕ) × IsExportLine line path
+
+-- which records a file at a path has
+module _ (Holds : List ℕ → List Input → Type 0) where
+  -- that many records were written into a file at the path of the line, and the journal begins with them
+  pub record IsCarried (journal : List Input) (line : List ℕ) (count : ℕ) : Type 0 where
+    pub path : List ℕ
+    pub asks : IsExportLine line path
+    pub records : List Input
+    pub holds : Holds path records
+    pub rest : List Input
+    pub first : journal ≡ records ++ rest
+    pub counts : count ≡ length records
 
 -- ---- clean-ups and the clock
 

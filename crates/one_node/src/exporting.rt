@@ -2,8 +2,8 @@
 ghost use Rattle.std.specs.Prelude.{◌≡◌, [], IfNone, IfSome, OnOk, List, ℕ, length};
 ghost use Rattle.units.specs.declared.code.Node.{Node as ANode};
 ghost use Rattle.protocol.specs.Input.{Input as AnInput};
-ghost use Rattle.one_node.specs.Lives.{AnswersExport, IsCarried};
-ghost use Rattle.one_node.specs.Turns.{AsksExport, IsExportLine};
+ghost use Rattle.one_node.specs.Operating.{AnswersExport};
+ghost use Rattle.one_node.specs.Turns.{AsksExport, IsCarried, IsExportLine};
 
 use crate::answering::{OperatorFault, push_export};
 use crate::operator::Operator;
@@ -19,8 +19,8 @@ pub struct NotExported;
 
 /// Writes records into new files.
 pub trait Exporter {
-    /// The file at that path is a store of that node, and has these records.
-    ghost holds: { Self → List ℕ → ANode → List AnInput → Type 0 };
+    /// A store of that node is in the file at that path, and has these records.
+    ghost holds: { Self → ANode → List ℕ → List AnInput → Type 0 };
 
     /// Writes the records of the node into a new store, in a file at the path.
     ///
@@ -28,7 +28,7 @@ pub trait Exporter {
     ///
     /// Fails with `NotExported` if there is a file at the path, or if the store failed.
     fn export(&self, path: &str, node: Node, records: &[Input]) -> Result<(), NotExported>
-        ensures { OnOk result (holds self.now path.now node records.now) };
+        ensures { OnOk result (holds self.now node path.now records.now) };
 }
 
 /// The path of a line that asks for an export.
@@ -39,14 +39,14 @@ pub(crate) fn export_path(line: &[u8]) -> Option<&[u8]>
     line.strip_prefix(b"export ".as_slice())
 }
 
-/// Exports the records, which are all of the node's, to the path of the line.
+/// Exports the records, which are the node's first ones, to the path of the line.
 fn export_to<E: Exporter>(
     exporter: &E,
     node: Node,
     records: &[Input],
     line: &[u8],
 ) -> Result<(), NotExported>
-    ensures { OnOk result (IsCarried (λ path inputs. E.holds exporter.now path node inputs) records.now line.now
+    ensures { OnOk result (IsCarried (E.holds exporter.now node) records.now line.now
         (length records.now)) }
 {
     let path = export_path(line).ok_or(NotExported)?;
@@ -55,7 +55,7 @@ fn export_to<E: Exporter>(
 }
 
 impl Operator {
-    /// Exports the records, which are all of the node's, to the path of the held line, and writes the result.
+    /// Exports the records, which are the node's first ones, to the path of the held line, and writes the result.
     pub(crate) fn answer_export<E: Exporter, W: Write>(
         &mut self,
         exporter: &E,
@@ -64,7 +64,7 @@ impl Operator {
         writer: &mut W,
     ) -> Result<(), OpFault>
         requires { AsksExport self.old.line.held.items }
-        ensures answered { OnOk result (AnswersExport (λ path inputs. E.holds exporter.now path node inputs) records.now
+        ensures answered { OnOk result (AnswersExport (E.holds exporter.now node) records.now
             self.old.line.held.items (W.contents writer.old) (W.contents writer.new) self.old.count self.new.count) }
         ensures line { OnOk result (self.new.line.held.items ≡ []) }
     {

@@ -2,12 +2,12 @@
 #![tactic(auto)]
 
 mod answering;
+mod evidence;
 mod exporting;
-mod life;
 mod living;
 mod operator;
 mod reading;
-mod shift;
+mod threads;
 mod timer;
 
 pub use answering::OperatorFault;

@@ -1,16 +1,13 @@
 //! The operator of a node, who writes lines and reads the result of each.
-ghost use Rattle.std.specs.Prelude.{◌≡◌, ◌+◌, ◌++◌, ◌∷◌, [], false, true, List, ℕ, IfOk, OnOk, length};
+ghost use Rattle.std.specs.Prelude.{◌≡◌, ◌+◌, [], false, true, List, ℕ, IfOk, OnOk};
 ghost use Rattle.std.specs.Io.KnownBytes.{Appends};
 ghost use Rattle.units.specs.declared.code.Node.{Node as ANode};
 ghost use Rattle.protocol.specs.Registries.{is_node};
-ghost use Rattle.input_lines.specs.declared.script_line.ScriptLine.{ScriptLine as ALine};
-ghost use Rattle.serving.specs.Heard.{Grows, HasHeard};
-ghost use Rattle.serving.specs.Orders.{HasOrders};
-ghost use Rattle.serving.specs.declared.answer.ScriptAnswer.{ScriptAnswer as AnAnswer};
-ghost use Rattle.one_node.specs.Shifts.{IsBegun, IsNext, IsTimed, Operates, TakesLine, Talks};
-ghost use Rattle.one_node.specs.Turns.{IsAhead, IsAnswer, IsTimely, clean_up_moment, fault_line, line_to};
+ghost use Rattle.one_node.specs.Operating.{Asks, IsBegun, IsNext, IsTimed, Operates, TakesLine, Talks, held_nowhere};
+ghost use Rattle.one_node.specs.Turns.{AsksExport, IsAhead, IsTimely, clean_up_moment, fault_line};
 
 use crate::answering::{OperatorFault, push_fault};
+use crate::evidence::Evidence;
 use crate::exporting::export_path;
 use crate::reading::{LineBuffer, Step};
 use crate::timer::Timer;
@@ -33,10 +30,6 @@ use wire::Input;
 /// How long the operator's thread sleeps if there is nothing to read, in milliseconds.
 const QUIET_PAUSE: u64 = 10;
 
-/// How many notes of the operator's lines are kept before they are settled, which takes some 10 MB. Settling goes
-/// through the whole journal and ends all threads, so it has to be rare.
-const MOST_NOTES: usize = 65_536;
-
 /// How many seconds the moment of an operator's clean-up may be ahead of the node's clock: a day. A wrong year would
 /// cancel all transfers with status Checked.
 const MOST_AHEAD: u64 = 86_400;
@@ -51,6 +44,8 @@ pub(crate) enum Next {
     On,
     /// The export of the records, which the held line asks for.
     Export,
+    /// The node's end: the desk has stopped, and nobody asked for it.
+    Stopped,
     /// The node's end: the operator asked for it, or the lines ended.
     End,
 }
@@ -95,22 +90,13 @@ impl<'a, D: SharedNode, N: Network> Client<'a, D, N> {
         instruction: Instruction,
     ) -> ScriptAnswer
         requires member { is_node self.now.scheme.now self.now.node ≡ true }
-        ensures answer { IsAnswer self.now.scheme.now self.now.node (HasHeard seat.new) instruction result }
-        ensures grows { Grows seat.old seat.new }
-        ensures orders { (lines : List ALine) (answers : List AnAnswer) → length answers ≡ length lines
-            → HasOrders self.now.node lines answers seat.old
-            → HasOrders self.now.node (lines ++ line_to self.now.node instruction ∷ []) (answers ++ result ∷ []) seat.new }
+        ensures { Asks self.now.scheme.now self.now.node instruction seat.old seat.new result }
     {
         if takes(self.node, &instruction) {
             ScriptAnswer::Told(ask(rt, self.desk, seat, instruction, &[], &mut Nobody))
         } else {
             ScriptAnswer::NotPossible
         }
-    }
-
-    /// Whether the desk has stopped, or the seat has so many notes that they are to be settled.
-    fn is_to_settle<R: Wait>(&self, rt: &R, seat: &Seat) -> bool {
-        seat.notes().len() >= MOST_NOTES || !self.desk.is_running(rt)
     }
 
     /// Orders a clean-up at the clock's moment, if the node is the log.
@@ -215,12 +201,12 @@ impl Operator {
         rt: &R,
         client: &Client<'_, D, N>,
         writer: &mut W,
-        seat: &mut Seat,
+        evidence: &mut Evidence,
     ) -> Result<Next, OpFault>
         requires member { is_node client.now.scheme.now client.now.node ≡ true }
         ensures { IfOk result (λ next. TakesLine client.now.scheme.now client.now.node
-            (N.Clock.tells client.now.network.now) self.old.line.held.items (W.contents writer.old)
-            (W.contents writer.new) self.old.count self.new.count seat.old seat.new self.new.line.held.items next) }
+            (N.Clock.tells client.now.network.now) held_nowhere self.old.line.held.items
+            (W.contents writer.old) (W.contents writer.new) self.old.count self.new.count evidence.old evidence.new self.new.line.held.items next) }
     {
         if self.line.held() == b"stop".as_slice() {
             return Ok(Next::End);
@@ -239,7 +225,7 @@ impl Operator {
                     self.refuse(writer, OperatorFault::Moment)?;
                     return Ok(Next::On);
                 }
-                let answer = client.answer(rt, seat, instruction);
+                let answer = client.answer(rt, &mut evidence.seat, instruction);
                 push_answer(&mut text, number, answer)?;
                 self.write_answer(writer, text.as_str(), number)?;
                 Ok(Next::On)
@@ -261,21 +247,22 @@ impl Operator {
         client: &Client<'_, D, N>,
         reader: &mut I,
         writer: &mut W,
-        seat: &mut Seat,
+        evidence: &mut Evidence,
     ) -> Result<Next, OpFault>
         requires member { is_node client.now.scheme.now client.now.node ≡ true }
-        ensures { (begun : List ℕ) → IsBegun self.old.line.held.items begun → IfOk result
+        ensures talks { (begun : List ℕ) → IsBegun self.old.line.held.items begun → IfOk result
             (λ next. (left : List ℕ) × Talks client.now.scheme.now client.now.node
-            (N.Clock.tells client.now.network.now) begun (I.remaining reader.old) (I.remaining reader.new)
-            (W.contents writer.old) (W.contents writer.new) self.old.count self.new.count seat.old seat.new left
+            (N.Clock.tells client.now.network.now) held_nowhere begun (I.remaining reader.old) (I.remaining reader.new)
+            (W.contents writer.old) (W.contents writer.new) self.old.count self.new.count evidence.old evidence.new left
             × IsNext self.new.line.held.items (I.remaining reader.new) left next) }
+        ensures asks { IfOk result (λ next. next ≡ Next.Export → AsksExport self.new.line.held.items) }
     {
         if self.timer.is_due(rt) {
-            client.clean_up(rt, seat);
+            client.clean_up(rt, &mut evidence.seat);
             return Ok(Next::On);
         }
         match self.line.step(reader) {
-            Step::Line => self.take_line(rt, client, writer, seat),
+            Step::Line => self.take_line(rt, client, writer, evidence),
             Step::TooLong => {
                 self.refuse(writer, OperatorFault::TooLong)?;
                 Ok(Next::On)
@@ -290,29 +277,36 @@ impl Operator {
     }
 
     /// Reads lines and writes their results until the operator asks for an export, which returns `Export`, or for the
-    /// node's end, which returns `End`; or until the desk has stopped or has enough notes to settle, which returns
-    /// `On`. It has the type parameters of `step`.
+    /// node's end, which returns `End`; or until the desk has stopped, which returns `Stopped`. Meanwhile the evidence
+    /// is kept small. It has the type parameters of `step`.
+    ///
+    /// # Errors
+    ///
+    /// Fails with `Read` if the reader failed, with `Write` if a result can't be written, with `Unsettled` if a result
+    /// isn't one that the node's records bear out, and with `NoMemory` if memory ran out.
     pub(crate) fn operate<D: SharedNode, N: Network, I: Read, W: Write, R: Wait + SystemClock>(
         &mut self,
         rt: &R,
         client: &Client<'_, D, N>,
         reader: &mut I,
         writer: &mut W,
-        seat: &mut Seat,
+        evidence: &mut Evidence,
     ) -> Result<Next, OpFault>
         requires member { is_node client.now.scheme.now client.now.node ≡ true }
-        ensures { Operates client.now.scheme.now client.now.node (N.Clock.tells client.now.network.now)
-            self.old.line.held.items self.new.line.held.items (I.remaining reader.old) (I.remaining reader.new)
-            (W.contents writer.old) (W.contents writer.new) self.old.count self.new.count seat.old seat.new result }
+        ensures operates { Operates client.now.scheme.now client.now.node
+            (N.Clock.tells client.now.network.now) held_nowhere self.old.line.held.items self.new.line.held.items
+            (I.remaining reader.old) (I.remaining reader.new) (W.contents writer.old) (W.contents writer.new)
+            self.old.count self.new.count evidence.old evidence.new result }
+        ensures asks { IfOk result (λ next. next ≡ Next.Export → AsksExport self.new.line.held.items) }
     {
         for _ in rt.forever() {
-            if client.is_to_settle(rt, seat) {
-                return Ok(Next::On);
+            if !client.desk.is_running(rt) {
+                return Ok(Next::Stopped);
             }
-            match self.step(rt, client, reader, writer, seat)? {
+            evidence.keep_few(rt, client.node, client.desk)?;
+            match self.step(rt, client, reader, writer, evidence)? {
                 Next::On => {}
-                Next::Export => return Ok(Next::Export),
-                Next::End => return Ok(Next::End),
+                next => return Ok(next),
             }
         }
         unreachable!()

@@ -66,6 +66,7 @@ module _ (to_send : Node → ℕ → Option (ℕ × Message) → Type 0) (got : 
       acknowledged old new key (record { peer = peer; from = from; message = s.0.0; sent = s.0.1; replied = s.0.2 }) s.1 all
   after_sending peer from old new (sent.NotReceived key) s all = subst Are (sym s.1) all
   after_sending peer from old new (sent.Unreachable key) s all = subst Are (sym s.1) all
+  after_sending peer from old new (sent.Left key) s all = subst Are (sym s.1) all
   after_sending peer from old new sent.NoMemory s all = subst Are (sym s) all
 
   -- seats without notes

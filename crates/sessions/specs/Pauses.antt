@@ -1,7 +1,7 @@
 -- How long a sender pauses for a peer that it can't reach, and how its row of failures goes on.
 use Rattle.std.specs.Prelude.{◌≡◌, ◌⊎◌, ◌+◌, ◌-◌, ◌^◌, ℕ, zero, suc, min}
-use Rattle.sessions.specs.declared.senders.RoundEnd.{RoundEnd}
-use Rattle.sessions.specs.declared.senders.RoundEnd.TheVariants.{Done, Unreachable}
+use Rattle.sessions.specs.declared.senders.PassEnd.{PassEnd}
+use Rattle.sessions.specs.declared.senders.PassEnd.TheVariants.{Done, Unreachable, NoMemory}
 
 -- ---- what the code follows; no public contract cites what stands below
 
@@ -18,7 +18,8 @@ one_more failures = min (failures + 1) (2 ^ 32 - 1)
 abbrev pub GoesOnOrEnds : ℕ → ℕ → Type 0
 GoesOnOrEnds old new = (new ≡ old) ⊎ (new ≡ 0)
 
--- the row after a round: if the round ended with a failure, it is one more of the old row, or the first of a new one
-abbrev pub RowAfter : ℕ → ℕ → RoundEnd → Type 0
+-- the row after a pass: if the pass ended with a failure, it is one more of the old row, or the first of a new one
+abbrev pub RowAfter : ℕ → ℕ → PassEnd → Type 0
 RowAfter old new Done = GoesOnOrEnds old new
 RowAfter old new Unreachable = (new ≡ one_more old) ⊎ (new ≡ one_more 0)
+RowAfter old new NoMemory = GoesOnOrEnds old new

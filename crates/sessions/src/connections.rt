@@ -35,6 +35,14 @@ pub trait Listen {
         drop(reader);
         drop(writer);
     }
+
+    /// From now on no accept waits: one that waits returns soon with `Nobody`, and a further one returns `Nobody` at
+    /// once. Either may still return a connection that has come. A listener whose accepts wait for a short time only
+    /// need not do anything, as this one doesn't.
+    fn stop(&self) {}
+
+    /// Accepts wait again. Undoes the calls of `stop` before it.
+    fn begin(&self) {}
 }
 
 /// Makes connections with nodes.
@@ -50,4 +58,11 @@ pub trait Dial {
     /// Makes a connection with that node, and returns its two directions. `None` if that failed.
     fn connect(&self, peer: Node) -> Option<(Self::Reader, Self::Writer)>
         ensures { IfSome result (λ made. leads self.now peer made.0 made.1) };
+
+    /// From now on reads and writes of all connections that it made fail soon, and of those that it makes. A dialer
+    /// whose connections wait for a short time only need not do anything, as this one doesn't.
+    fn stop(&self) {}
+
+    /// Reads and writes wait again for the other end. Undoes the calls of `stop` before it.
+    fn begin(&self) {}
 }

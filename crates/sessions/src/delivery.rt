@@ -1,17 +1,23 @@
 //! One message over one connection.
-ghost use Rattle.std.specs.Prelude.{◌≡◌, ◌++◌, ◌∷◌, [], MatchResult, IfOk};
+ghost use Rattle.std.specs.Prelude.{◌≡◌, ◌++◌, ◌∷◌, [], MatchResult, IfErr, IfOk};
 ghost use Rattle.wire.specs.Messages.{message_text};
 ghost use Rattle.exchanges.specs.Exchanges.{Exchanges};
-ghost use Rattle.sessions.specs.Delivering.{IsOtherEnd, end_of};
+ghost use Rattle.sessions.specs.Delivering.{IsEnded, IsOtherEnd, end_of, is_cut};
 ghost use Rattle.sessions.specs.Sending.{IsReceivedBy};
 
+use crate::elapsed::have_passed;
 use crate::network::Network;
 use exchanges::{Counted, Exchange, exchange};
 use std::alloc::Global;
 use std::io::{Read, Write};
 use std::marker::Model;
+use std::rt::Clock as SystemClock;
+use std::time::Instant;
 use units::Node;
 use wire::{Message, Reply};
+
+/// After fewer than that many seconds, a message whose connection was cut is sent again at once.
+const QUICK_CUT: u64 = 1;
 
 /// A message with its key, and the node that it is sent to over that network.
 #[derive(Drop)]
@@ -80,10 +86,82 @@ fn deliver_over<R: Read, W: Write>(
     }
 }
 
+/// Whether the exchange ended because its connection was cut before a whole line was read.
+fn was_cut(end: Exchange) -> bool
+    ensures { result ≡ is_cut end }
+{
+    match end {
+        Exchange::WriteFault(_) => true,
+        Exchange::ReadFault => true,
+        Exchange::PeerEnded => true,
+        Exchange::Answered(_) => false,
+        Exchange::BadReply => false,
+        Exchange::NoMemory => false,
+    }
+}
+
 impl<'a, N: Network> Outgoing<'a, N> {
+    /// As `deliver`; but if its connection was cut in less than `QUICK_CUT` seconds, the message is sent once more, over
+    /// a further connection, since a peer may close a connection just as it is used. A cut that took longer may be a
+    /// read that timed out, and a further one would hold the sender as long again. If no further connection could be
+    /// made, this fails as the first exchange did.
+    pub(crate) fn deliver_or_retry<R: SystemClock>(
+        &self,
+        rt: &R,
+        alloc: Global,
+    ) -> Result<Delivered<'a, N>, Undelivered>
+        ensures value { IfOk result
+            (λ delivered. delivered ≡ record {
+              network = self.now.network.now;
+              peer = self.now.peer;
+              key = self.now.key;
+              message = self.now.message.now;
+            }) }
+        ensures received { IfOk result
+            (λ _. IsReceivedBy (N.leads self.now.network.now) N.Reader.remaining N.Writer.contents self.now.peer
+            self.now.message.now) }
+    {
+        let begun = Instant::now(rt).ok();
+        match self.deliver(alloc) {
+            Ok(delivered) => Ok(delivered),
+            Err(Undelivered::NoConnection) => Err(Undelivered::NoConnection),
+            Err(Undelivered::Ended(end)) => {
+                if was_cut(end) && !have_passed(rt, begun, QUICK_CUT) {
+                    return self.deliver_again(alloc, end);
+                }
+                Err(Undelivered::Ended(end))
+            }
+        }
+    }
+
+    /// As `deliver`, after an exchange that had that end. If no connection could be made, it fails with that end.
+    fn deliver_again(
+        &self,
+        alloc: Global,
+        before: Exchange,
+    ) -> Result<Delivered<'a, N>, Undelivered>
+        ensures value { IfOk result
+            (λ delivered. delivered ≡ record {
+              network = self.now.network.now;
+              peer = self.now.peer;
+              key = self.now.key;
+              message = self.now.message.now;
+            }) }
+        ensures received { IfOk result
+            (λ _. IsReceivedBy (N.leads self.now.network.now) N.Reader.remaining N.Writer.contents self.now.peer
+            self.now.message.now) }
+        ensures connected { IfErr result IsEnded }
+    {
+        match self.deliver(alloc) {
+            Ok(delivered) => Ok(delivered),
+            Err(Undelivered::NoConnection) => Err(Undelivered::Ended(before)),
+            Err(Undelivered::Ended(end)) => Err(Undelivered::Ended(end)),
+        }
+    }
+
     /// One exchange of the message over a connection of its own. Fails if no connection could be made, or if the peer
     /// didn't reply that the message was received.
-    pub(crate) fn deliver(&self, alloc: Global) -> Result<Delivered<'a, N>, Undelivered>
+    fn deliver(&self, alloc: Global) -> Result<Delivered<'a, N>, Undelivered>
         ensures value { IfOk result
             (λ delivered. delivered ≡ record {
               network = self.now.network.now;

@@ -1,5 +1,5 @@
 //! A network of listeners and a dialer.
-ghost use Rattle.std.specs.Prelude.{◌≡◌, IfSome};
+ghost use Rattle.std.specs.Prelude.{◌≡◌, ◌↔◌, IfSome, IsTrue, vec_len};
 
 use crate::connections::{Accepted, Dial, Listen};
 use crate::direction::Direction;
@@ -60,6 +60,13 @@ impl<S, L, D, K> JoinedNetwork<S, L, D, K> {
             }
         }
         None
+    }
+
+    /// Whether the dialer makes the connections of one node only.
+    fn has_one_node(&self) -> bool
+        ensures { IsTrue result ↔ (vec_len self.now.listeners ≡ 1) }
+    {
+        self.listeners.len() == 1
     }
 }
 
@@ -137,5 +144,28 @@ where
     > {
         let (reader, writer) = self.dialer.connect(peer)?;
         Some((Direction::Made(reader), Direction::Made(writer)))
+    }
+
+    /// Stops the node's listener. Stops the dialer only if there is one listener: a dialer of several nodes goes on for
+    /// the others.
+    fn stop(&self, node: Node) {
+        let Some(listener) = self.listener(node) else {
+            return;
+        };
+        listener.stop();
+        if self.has_one_node() {
+            self.dialer.stop();
+        }
+    }
+
+    /// Has the node's listener begin, and the dialer if there is one listener.
+    fn begin(&self, node: Node) {
+        let Some(listener) = self.listener(node) else {
+            return;
+        };
+        if self.has_one_node() {
+            self.dialer.begin();
+        }
+        listener.begin();
     }
 }

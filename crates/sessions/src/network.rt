@@ -33,4 +33,13 @@ pub trait Network: Clock + Gate + Send + Sync + Drop {
     /// Makes a connection with that node, and returns its two directions. `None` if that failed.
     fn connect(&self, peer: Node) -> Option<(Self::Reader, Self::Writer)>
         ensures { IfSome result (λ made. leads self.now peer made.0 made.1) };
+
+    /// Ends the waits of the node's threads: from now on no accept for the node waits, as after `Listen::stop`. If it
+    /// is the only node of the network, reads and writes of connections that were made fail soon, as after
+    /// `Dial::stop`.
+    fn stop(&self, node: Node);
+
+    /// The node's threads wait again for connections and for their other ends. Undoes the calls of `stop` for this node
+    /// before it.
+    fn begin(&self, node: Node);
 }

@@ -96,9 +96,9 @@ fn take_sender<R: Wait>(rt: &R, slots: &[SenderSlot], number: usize) -> Option<S
 /// orders.
 ///
 /// The desk stops when it is asked to, if the store has a fault, and if 100 accepts in a row failed. Then each thread
-/// ends by itself: one that waits at a bell, for a worker or for a connection looks at the desk again after a limited
-/// time, a session ends at its next read, and the workers end once all session threads have ended, or once no job has
-/// come for a while.
+/// ends by itself: one that waits at a bell or for a worker looks at the desk again after a limited time; one that
+/// waits for a connection or for a peer is woken, since the network stops for the node; a session ends at its next
+/// read; and the workers end once all session threads have ended, or once no job has come for a while.
 #[derive(Drop)]
 pub struct NodeThreads<'a, D: SharedNode, N: Network> {
     pub node: Node,
@@ -118,6 +118,9 @@ pub struct NodeThreads<'a, D: SharedNode, N: Network> {
 impl<'a, D: SharedNode, N: Network> NodeThreads<'a, D, N> {
     /// The threads of that node at its desk, which sends to these peers over that network. None has begun, and each
     /// arrives at the barrier when it does. Fails with `NoMemory` if memory ran out.
+    ///
+    /// The network begins for the node, since it has stopped for it if threads of the node ran before: see
+    /// `run_thread`.
     pub fn new(
         alloc: Global,
         node: Node,
@@ -133,6 +136,7 @@ impl<'a, D: SharedNode, N: Network> NodeThreads<'a, D, N> {
     {
         let (sender, requests) = crossbeam_channel::bounded(alloc, MOST_JOBS)?;
         let slots = sender_slots(alloc, &sender)?;
+        network.begin(node);
         Ok(NodeThreads {
             node,
             desk,
@@ -155,6 +159,10 @@ impl<'a, D: SharedNode, N: Network> NodeThreads<'a, D, N> {
 
     /// Runs the thread with that index to its end, with a seat of its own at the node's desk. It arrives at the barrier
     /// first, and ends soon after the desk stops, even if other threads of the node haven't begun.
+    ///
+    /// The thread that commits is woken at once when the desk stops, for any reason, and then stops the network for the
+    /// node. Otherwise threads that wait for a connection, or for the reply to a message, would see the stop only once
+    /// their wait has ended by itself.
     pub(crate) fn run_thread<R: Wait + SystemClock>(&self, rt: &R, index: usize, seat: &mut Seat)
         requires { AreOfThread D.is_to_send
             (IsReceivedBy (N.leads self.now.network.now) N.Reader.remaining N.Writer.contents)
@@ -166,7 +174,10 @@ impl<'a, D: SharedNode, N: Network> NodeThreads<'a, D, N> {
     {
         self.barrier.arrive(rt);
         match role_of(index) {
-            ThreadRole::Commit => commit_all(rt, self.desk),
+            ThreadRole::Commit => {
+                commit_all(rt, self.desk);
+                self.network.stop(self.node);
+            }
             ThreadRole::Serve(number) => {
                 if let Some(jobs) = take_sender(rt, self.slots.as_slice(), number) {
                     self.serve_all(rt, &jobs, seat);

@@ -1,11 +1,12 @@
 //! Messages on their way to other nodes.
-ghost use Rattle.sessions.specs.Sending.{Acknowledges, IsReceivedBy, Sends, Tries};
+ghost use Rattle.sessions.specs.Sending.{Acknowledges, IsParted, IsReceivedBy, Sends, Tries};
 
 use crate::delivery::{Delivered, Outgoing, Undelivered};
 use crate::network::Network;
 use desk::{Seat, SharedNode};
 use exchanges::Exchange;
 use std::alloc::Global;
+use std::rt::Clock as SystemClock;
 use std::sync::Wait;
 use units::Node;
 use wire::{Input, Number};
@@ -18,13 +19,24 @@ pub(crate) enum Sent {
     /// The peer replied that it received the message with that key, and the desk was given its acknowledgement. A desk
     /// that has stopped, or is out of memory, doesn't take it, and the message stays unacknowledged.
     Received(usize),
-    /// A connection was made, and the message with that key goes unacknowledged: the exchange ended in another way, or
-    /// the key has too many digits to be acknowledged.
+    /// A connection was made, and the message with that key goes unacknowledged: the last exchange ended in another way,
+    /// or the key has too many digits to be acknowledged.
     NotReceived(usize),
     /// No connection could be made, and the message with that key goes unacknowledged.
     Unreachable(usize),
+    /// The message with that key is left to a later pass, and nothing was sent.
+    Left(usize),
     /// Out of memory.
     NoMemory,
+}
+
+/// The keys at which a pass still looks.
+#[derive(Clone, Copy)]
+pub(crate) struct Keys {
+    /// The first of them.
+    pub(crate) from: usize,
+    /// The one after the last.
+    pub(crate) end: usize,
 }
 
 /// Has the desk take the acknowledgement of the message with that key.
@@ -53,8 +65,9 @@ fn acknowledge<D: SharedNode, N: Network, R: Wait>(
     Sent::Received(key)
 }
 
-/// Sends the message over a connection of its own, and acknowledges it if it was delivered.
-fn send<D: SharedNode, N: Network, R: Wait>(
+/// Sends the message over a connection of its own, or over a further one if that was cut at once, and acknowledges it if
+/// it was delivered.
+fn send<D: SharedNode, N: Network, R: Wait + SystemClock>(
     rt: &R,
     alloc: Global,
     desk: &D,
@@ -65,7 +78,7 @@ fn send<D: SharedNode, N: Network, R: Wait>(
         (IsReceivedBy (N.leads outgoing.now.network.now) N.Reader.remaining N.Writer.contents)
         outgoing.now.peer outgoing.now.message.now seat.old seat.new outgoing.now.key result }
 {
-    match outgoing.deliver(alloc) {
+    match outgoing.deliver_or_retry(rt, alloc) {
         Ok(delivered) => acknowledge(rt, desk, seat, &delivered),
         Err(Undelivered::NoConnection) => Sent::Unreachable(outgoing.key),
         Err(Undelivered::Ended(Exchange::NoMemory)) => Sent::NoMemory,
@@ -73,27 +86,34 @@ fn send<D: SharedNode, N: Network, R: Wait>(
     }
 }
 
-/// Sends the next message to a peer: the one with the least key, from `from` on, that the committed records send and no
-/// record acknowledges. Makes one exchange over a connection of its own; if the peer replies that the message was
-/// received, the desk is given its acknowledgement with the sender's seat, and otherwise the seat notes nothing.
-pub(crate) fn send_next<D: SharedNode, N: Network, R: Wait>(
+/// Sends the next message to a peer: the one with the least key, from `keys.from` on, that the committed records send
+/// and no record acknowledges. Makes one exchange over a connection of its own, and one more if that was cut at once; if
+/// the peer replies that the message was received, the desk is given its acknowledgement with the sender's seat, and
+/// otherwise the seat notes nothing. If its key is `keys.end` or more, the message is left, and no connection is asked
+/// for.
+pub(crate) fn send_next<D: SharedNode, N: Network, R: Wait + SystemClock>(
     rt: &R,
     alloc: Global,
     desk: &D,
     seat: &mut Seat,
     network: &N,
     peer: Node,
-    from: usize,
+    keys: Keys,
 ) -> Sent
-    ensures { Sends D.is_to_send
+    ensures sends { Sends D.is_to_send
         (IsReceivedBy (N.leads network.now) N.Reader.remaining N.Writer.contents)
-        peer from seat.old seat.new result }
+        peer keys.from seat.old seat.new result }
+    ensures parted { IsParted keys.end result }
 {
-    let Ok(found) = desk.next_send(rt, peer, from) else {
+    let Ok(found) = desk.next_send(rt, peer, keys.from) else {
         return Sent::NoMemory;
     };
     match found {
         Some((key, message)) => {
+            if key >= keys.end {
+                drop(message);
+                return Sent::Left(key);
+            }
             let outgoing = Outgoing {
                 network,
                 peer,

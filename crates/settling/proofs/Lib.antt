@@ -1,2 +1,4 @@
 pub mod CountedPlaces
 pub mod NotesOfSeats
+pub mod FollowedRecords
+pub mod JudgedNotes

@@ -1,3 +1,4 @@
 pub mod Covering
 pub mod Settling
 pub mod Counts
+pub mod Replicas

@@ -1,5 +1,5 @@
 //! Whether the journal bears out the notes of the seats.
-ghost use Rattle.std.specs.Prelude.{◌≡◌, ◌↔◌, ◌++◌, ◌⊎◌, ◌≤◌, [], None, length, take, map, flat_map, All, Any, IfErr, IfOk, OnOk, MatchOption, IsTrue, IsPermutation};
+ghost use Rattle.std.specs.Prelude.{◌≡◌, ◌↔◌, ◌++◌, ◌⊎◌, ◌≤◌, [], None, length, take, map, flat_map, All, Any, IfErr, IfOk, OnErr, OnOk, MatchOption, IsTrue, IsPermutation};
 ghost use Rattle.protocol.specs.Cores.{HasFault};
 ghost use Rattle.units.specs.RefusalCodes.{out_of_memory};
 ghost use Rattle.node_state.specs.Expected.{expected, told_of};
@@ -31,6 +31,7 @@ fn ask<C: NodeCore>(core: &mut C, asked: &Asked) -> Result<Told, NoMemory>
     ensures told { IfOk result
         (λ told. told ≡ expected (C.scheme_of core.old) (C.node_of core.old) (C.journal_of core.old) asked.now) }
     ensures journal { IfOk result (λ told. IsNoRecord told → C.journal_of core.new ≡ C.journal_of core.old) }
+    ensures memory { OnErr result (C.journal_of core.new ≡ C.journal_of core.old) }
 {
     match asked {
         Asked::Take(input) => {
@@ -53,9 +54,39 @@ fn is_expected<C: NodeCore>(core: &mut C, note: &Note) -> Result<bool, NoMemory>
         (λ b. IsTrue b ↔ (expected (C.scheme_of core.old) (C.node_of core.old) (C.journal_of core.old) note.now.asked
         ≡ note.now.told)) }
     ensures journal { IfOk result (λ b. IsTrue b → C.journal_of core.new ≡ C.journal_of core.old) }
+    ensures memory { OnErr result (C.journal_of core.new ≡ C.journal_of core.old) }
 {
     let told = ask(core, &note.asked)?;
     Ok(told == note.told)
+}
+
+fn is_no_record(told: Told) -> bool
+    ensures { IsTrue result ↔ IsNoRecord told }
+{
+    match told {
+        Told::Step(Stepped::Recorded(_)) => false,
+        Told::Step(Stepped::Repeat) => true,
+        Told::Step(Stepped::Late) => true,
+        Told::Status(_) => true,
+        Told::Refused(_) => true,
+    }
+}
+
+/// The same for any note. A note that tells of a record isn't judged, and the result is false.
+pub(crate) fn is_true<C: NodeCore>(core: &mut C, note: &Note) -> Result<bool, NoMemory>
+    ensures scheme { C.scheme_of core.new ≡ C.scheme_of core.old }
+    ensures node { C.node_of core.new ≡ C.node_of core.old }
+    ensures expected { IfOk result (λ b. IsTrue b ↔ (IsNoRecord note.now.told
+        × (expected (C.scheme_of core.old) (C.node_of core.old) (C.journal_of core.old) note.now.asked
+        ≡ note.now.told))) }
+    ensures journal { IfOk result (λ b. IsTrue b → C.journal_of core.new ≡ C.journal_of core.old) }
+    ensures memory { OnErr result (C.journal_of core.new ≡ C.journal_of core.old) }
+{
+    if is_no_record(note.told) {
+        is_expected(core, note)
+    } else {
+        Ok(false)
+    }
 }
 
 /// Begins anew if the core has more records than that.

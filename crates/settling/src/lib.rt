@@ -4,7 +4,9 @@
 mod counting;
 mod judging;
 mod life;
+mod replica;
 mod settling;
 
 pub use life::{Life, Settled, Unsettled};
+pub use replica::{Replica, begins_with};
 pub use settling::{settle, settle_with};

@@ -4,12 +4,22 @@ use Rattle.std.specs.Ordering.{int_eq}
 use Rattle.std.specs.declared.io.ErrorKind.{ErrorKind}
 use Rattle.std.specs.declared.io.ErrorKind.TheVariants.{WouldBlock, ConnectionAborted, HostUnreachable, Interrupted, NetworkDown, NetworkUnreachable, PermissionDenied}
 use Rattle.sockets.specs.declared.accept_faults.AcceptFault.{AcceptFault}
+use Rattle.sockets.specs.declared.notice.Trouble.{Trouble}
+use Rattle.sockets.specs.declared.notice.Trouble.TheVariants.{NoHandle, NoMemory}
 use Rattle.sockets.specs.declared.accept_faults.AcceptFault.TheVariants.{Nobody, Gone, NoRoom, Failed}
 
 -- the system has no descriptor or no memory: ENOMEM, ENFILE, EMFILE, ENOBUFS of Linux
 abbrev pub lacks_room : Option ℤ → Bool
 lacks_room None = false
 lacks_room (Some code) = int_eq code (pos 12) || int_eq code (pos 23) || int_eq code (pos 24) || int_eq code (pos 105)
+
+-- what the system lacks: a descriptor after ENFILE and EMFILE, memory after ENOMEM and ENOBUFS
+abbrev pub trouble_of : Option ℤ → Trouble → Trouble
+trouble_of None otherwise = otherwise
+trouble_of (Some code) otherwise =
+    if int_eq code (pos 23) || int_eq code (pos 24) then NoHandle
+    else if int_eq code (pos 12) || int_eq code (pos 105) then NoMemory
+    else otherwise
 
 -- why an accept failed, by the kind of its error alone
 abbrev pub fault_of_kind : ErrorKind → AcceptFault

@@ -5,11 +5,13 @@
 mod accept_faults;
 mod dialled;
 mod line_port;
+mod notice;
 mod port;
 mod ports;
 
 pub use connections::{LONGEST_LINE_TIME, MOST_CONNECTIONS, is_loopback};
 pub use dialled::Dialled;
 pub use line_port::LinePort;
+pub use notice::{Notice, Trouble};
 pub use port::Port;
 pub use ports::Ports;

@@ -3,19 +3,21 @@ ghost use Rattle.std.specs.Prelude.{◌≡◌};
 ghost use Rattle.std.specs.VecDeque.{deque_len};
 ghost use Rattle.connections.specs.Waiting.{MayHold};
 
-use crate::accept_faults::{AcceptFault, accept_fault};
-use crate::port::LONGEST_ACCEPT;
+use crate::accept_faults::{AcceptFault, accept_fault, trouble_of};
+use crate::notice::{Notice, Trouble};
 use connections::{ArrivedLine, Arriving, Connections, Held, Ready, limit_waits};
 use mio::unix::SourceFd;
-use mio::{Events, Interest, Poll, Registry, Token};
+use mio::{Events, Interest, Poll, Registry, Token, Waker};
 use sessions::{Accepted, Listen};
 use std::alloc::Global;
-use std::io;
+use std::io::{self, Eprint};
 use std::marker::Model;
 use std::net::{Net, SocketAddr, TcpListener, TcpStream};
 use std::os::fd::AsRawFd;
 use std::rt::Clock as SystemClock;
+use std::sync::atomic::{AtomicBool, Ordering};
 use std::sync::{Mutex, Wait};
+use std::thread;
 use std::time::{Duration, Instant};
 
 /// How many events one accept handles at most, how many connections it takes, and how many late ones it closes.
@@ -24,8 +26,20 @@ const MOST_AT_ONCE: usize = 64;
 /// The token of the listener among all that is watched.
 const LISTENER: usize = 0;
 
+/// The token of the waker.
+const WAKER: usize = 1;
+
 /// The number of the first connection.
-const FIRST_CONNECTION: usize = 1;
+const FIRST_CONNECTION: usize = 2;
+
+// An event of the listener or of the waker is none of a connection.
+const _: () = prove!(LISTENER < FIRST_CONNECTION && WAKER < FIRST_CONNECTION);
+
+/// The work of a port, as its notices name it.
+const ACCEPTING: &str = "accepting connections";
+
+/// How many milliseconds an accept pauses that can't go on.
+const PAUSE: u64 = 100;
 
 /// Waits for an event of the listener or of a connection.
 #[derive(Drop)]
@@ -34,16 +48,32 @@ struct Watch {
     events: Events,
 }
 
+/// How the work of an accept went.
+#[derive(Clone, Copy)]
+enum Work {
+    /// What was due was done.
+    Done,
+    /// What was due was done, and connections that waited were closed, since the system had no room for others.
+    Cramped(Trouble),
+    /// It can't go on now.
+    Failed(Trouble),
+}
+
 /// A TCP listener that hands a connection to a session only once a whole line of it has come, or the beginning of one
-/// that is too long, and for that line alone: its reader ends after the newline. Each byte is read once, when it comes. `give_back` has the
-/// connection wait for its next line.
+/// that is too long, and for that line alone: its reader ends after the newline. Each byte is read once, when it comes.
+/// `give_back` has the connection wait for its next line.
 ///
 /// It has up to `MOST_CONNECTIONS` connections that no session has. For a further one, the one that has waited longest
 /// for a line is closed. A connection that ends or fails is closed, and so is one whose line isn't whole
 /// `LONGEST_LINE_TIME` seconds after it was accepted or given back.
 ///
-/// An accept waits for 100 milliseconds at most, and does a limited part of the work that is due, so that it returns
+/// An accept waits until something comes or the next connection is late, so for `LONGEST_LINE_TIME` seconds at most,
+/// and not at all from `stop` until `begin`. It does a limited part of the work that is due, so that it returns
 /// regardless of how much comes. Several threads may call it: one waits for all, and the others for it.
+///
+/// An accept never fails. If it can't go on, since the system refuses it something or the clock can't be read, it
+/// pauses for 100 milliseconds and returns `Nobody`. Standard error then has a line that says so, and no further one
+/// until an accept has returned a connection, and nothing was lacking.
 pub struct LinePort<R> {
     rt: R,
     alloc: Global,
@@ -51,6 +81,11 @@ pub struct LinePort<R> {
     address: SocketAddr,
     /// The registry of `watch`, with which a connection can be added while `watch` waits.
     registry: Registry,
+    /// Ends the wait of an accept.
+    waker: Waker,
+    /// Whether accepts don't wait.
+    is_stopped: AtomicBool,
+    notice: Notice,
     /// Code that takes both locks takes this one first.
     watch: Mutex<Watch>,
     held: Mutex<Held>,
@@ -65,12 +100,17 @@ impl<R: Drop> Drop for LinePort<R> {
             listener,
             address: _,
             registry,
+            waker,
+            is_stopped: _,
+            notice,
             watch,
             held,
         } = self;
         drop(rt);
         drop(listener);
         drop(registry);
+        drop(waker);
+        drop(notice);
         drop(watch);
         drop(held);
     }
@@ -107,6 +147,7 @@ impl<R: Net<Listener = TcpListener, Stream = TcpStream> + Drop> LinePort<R> {
             Token(LISTENER),
             Interest::READABLE,
         )?;
+        let waker = Waker::new(&registry, Token(WAKER))?;
         let events = Events::with_capacity(alloc, MOST_AT_ONCE)?;
         let connections = Connections::new(alloc, FIRST_CONNECTION)?;
         let piece = Vec::from_elem(alloc, 0u8, longest_line.saturating_add(1))?;
@@ -116,6 +157,9 @@ impl<R: Net<Listener = TcpListener, Stream = TcpStream> + Drop> LinePort<R> {
             listener,
             address,
             registry,
+            waker,
+            is_stopped: AtomicBool::new(false),
+            notice: Notice::new(ACCEPTING),
             watch: Mutex::new(Watch { poll, events }),
             held: Mutex::new(Held {
                 connections,
@@ -159,16 +203,13 @@ impl<R: Wait + SystemClock> LinePort<R> {
     }
 
     /// Takes the connections that others have made, up to `MOST_AT_ONCE`. If the system has no room for one, the one
-    /// that has waited longest is closed.
-    ///
-    /// # Errors
-    ///
-    /// Fails as the listener does, and if the system has no room for a connection and none waits.
-    fn admit(&self, held: &mut Held, now: Instant) -> io::Result<()> {
+    /// that has waited longest is closed. It can't go on if none waits then, or if the listener fails.
+    fn admit(&self, held: &mut Held, now: Instant) -> Work {
+        let mut work = Work::Done;
         held.is_behind = true;
         for _ in 0..MOST_AT_ONCE {
             if held.connections.is_full_of_lines() {
-                return Ok(());
+                return work;
             }
             match self.listener.accept() {
                 Ok((stream, _)) => {
@@ -179,80 +220,130 @@ impl<R: Wait + SystemClock> LinePort<R> {
                 Err(error) => match accept_fault(&error) {
                     AcceptFault::Nobody => {
                         held.is_behind = false;
-                        return Ok(());
+                        return work;
                     }
                     AcceptFault::Gone => {}
                     AcceptFault::NoRoom => {
+                        let trouble = trouble_of(&error, Trouble::Refused);
                         if held.connections.take_longest().is_none() {
-                            return Err(error);
+                            return Work::Failed(trouble);
                         }
+                        work = Work::Cramped(trouble);
                     }
-                    AcceptFault::Failed => return Err(error),
+                    AcceptFault::Failed => return Work::Failed(Trouble::Refused),
                 },
             }
         }
-        Ok(())
+        work
     }
 
-    /// Handles the events: looks at their connections, ends the wait of those that are late, and takes further ones.
-    ///
-    /// # Errors
-    ///
-    /// Fails as `admit` does, and if the clock can't be read.
-    fn work_off(&self, events: &Events) -> io::Result<()> {
+    /// Handles the events: looks at their connections, ends the wait of those that are late, and takes further ones. It
+    /// can't go on if the clock can't be read, and as `admit`.
+    fn work_off(&self, events: &Events) -> Work {
         let mut guard = self.held.lock(&self.rt);
         let held = &mut *guard;
         for event in events.iter() {
             held.look_at(event.token().0, event.is_read_closed() || event.is_error());
         }
-        let now = Instant::now(&self.rt)?;
+        let Ok(now) = Instant::now(&self.rt) else {
+            return Work::Failed(Trouble::Clock);
+        };
         held.end_late(now, MOST_AT_ONCE);
         self.admit(held, now)
     }
 
     /// A connection on which a line has come, for a session. `None` if there is none, or if it can't be handed over and
     /// is closed.
-    fn next_line(&self) -> Option<(ArrivedLine, TcpStream)> {
+    ///
+    /// # Errors
+    ///
+    /// Fails with `NoHandle` if there is one, and the system has no second handle for it. It is closed.
+    fn next_line(&self) -> Result<Option<(ArrivedLine, TcpStream)>, Trouble> {
         let mut guard = self.held.lock(&self.rt);
         let held = &mut *guard;
-        let Ready { connection, length } = held.connections.take_ready()?;
+        let Some(Ready { connection, length }) = held.connections.take_ready() else {
+            return Ok(None);
+        };
         let stream = connection.stream();
-        self.registry
-            .deregister(&mut SourceFd(&stream.as_raw_fd()))
-            .ok()?;
-        stream.set_nonblocking(false).ok()?;
-        let writer = held.second_handle(stream)?;
-        Some((connection.into_line(length), writer))
+        let source = &mut SourceFd(&stream.as_raw_fd());
+        if self.registry.deregister(source).is_err() || stream.set_nonblocking(false).is_err() {
+            return Ok(None);
+        }
+        match held.second_handle(stream) {
+            Some(writer) => Ok(Some((connection.into_line(length), writer))),
+            None => Err(Trouble::NoHandle),
+        }
     }
 
-    /// How long an accept waits for an event.
-    fn longest_wait(&self) -> Duration {
-        if self.held.lock(&self.rt).has_work() {
-            Duration::ZERO
-        } else {
-            Duration::from_millis(LONGEST_ACCEPT)
+    /// How long an accept waits for an event. `None` if the clock can't be read.
+    fn longest_wait(&self) -> Option<Duration> {
+        if self.is_stopped.load(Ordering::SeqCst) {
+            return Some(Duration::ZERO);
+        }
+        let held = self.held.lock(&self.rt);
+        if held.has_work() {
+            return Some(Duration::ZERO);
+        }
+        let now = Instant::now(&self.rt).ok()?;
+        Some(held.connections.time_left(now))
+    }
+
+    /// Waits for events, and handles them.
+    fn wait_and_work(&self) -> Work {
+        let mut guard = self.watch.lock(&self.rt);
+        let watch = &mut *guard;
+        let Some(longest) = self.longest_wait() else {
+            return Work::Failed(Trouble::Clock);
+        };
+        match watch.poll.poll(&mut watch.events, Some(longest)) {
+            Ok(()) => self.work_off(&watch.events),
+            Err(error) => Work::Failed(trouble_of(&error, Trouble::Refused)),
+        }
+    }
+
+    /// Ends the wait of the accept that waits, or of the next one. If that fails, the wait ends by itself.
+    fn wake(&self) {
+        let _ = self.waker.wake();
+    }
+}
+
+impl<R: Wait + SystemClock + Eprint> LinePort<R> {
+    /// Writes how the work of an accept went that returns nobody, and pauses if it can't go on.
+    fn tell(&self, work: Work) {
+        match work {
+            Work::Done => {}
+            Work::Cramped(trouble) => self.notice.tell(&self.rt, trouble),
+            Work::Failed(trouble) => {
+                self.notice.tell(&self.rt, trouble);
+                thread::sleep(&self.rt, Duration::from_millis(PAUSE));
+            }
         }
     }
 }
 
-impl<R: Wait + SystemClock> Listen for LinePort<R> {
+impl<R: Wait + SystemClock + Eprint> Listen for LinePort<R> {
     // It ends after the line.
     type Reader = ArrivedLine;
 
     type Writer = TcpStream;
 
     fn accept(&self) -> Accepted<ArrivedLine, TcpStream> {
-        let mut guard = self.watch.lock(&self.rt);
-        let watch = &mut *guard;
-        let longest = Some(self.longest_wait());
-        if watch.poll.poll(&mut watch.events, longest).is_err() {
-            return Accepted::Failed;
-        }
-        let worked = self.work_off(&watch.events);
-        match self.next_line() {
-            Some((reader, writer)) => Accepted::Connection(reader, writer),
-            None if worked.is_ok() => Accepted::Nobody,
-            None => Accepted::Failed,
+        // Nothing is written, and nobody pauses, under a lock.
+        let work = self.wait_and_work();
+        match (self.next_line(), work) {
+            (Ok(Some((reader, writer))), Work::Done) => {
+                self.notice.over();
+                Accepted::Connection(reader, writer)
+            }
+            (Ok(Some((reader, writer))), _) => Accepted::Connection(reader, writer),
+            (Ok(None), work) => {
+                self.tell(work);
+                Accepted::Nobody
+            }
+            (Err(trouble), _) => {
+                self.notice.tell(&self.rt, trouble);
+                Accepted::Nobody
+            }
         }
     }
 
@@ -276,6 +367,18 @@ impl<R: Wait + SystemClock> Listen for LinePort<R> {
         self.hold(held, arriving, now);
         if let Some(length) = next {
             held.connections.line_came(number, length);
+            // An accept that waits already gets no event of this line.
+            self.wake();
         }
+    }
+
+    fn stop(&self) {
+        self.is_stopped.store(true, Ordering::SeqCst);
+        // An accept looks before it waits, so none that comes later waits, and one that waits is woken.
+        self.wake();
+    }
+
+    fn begin(&self) {
+        self.is_stopped.store(false, Ordering::SeqCst);
     }
 }

@@ -11,7 +11,7 @@ use std::os::fd::OwnedFd;
 use std::time::Duration;
 
 /// How many milliseconds an accept waits for a peer to connect.
-pub(crate) const LONGEST_ACCEPT: u64 = 100;
+const LONGEST_ACCEPT: u64 = 100;
 
 /// That listener, with accepts that wait for at most `LONGEST_ACCEPT` milliseconds and fail with `WouldBlock` if nobody
 /// connected.

@@ -1,26 +1,39 @@
 //! The addresses at which all nodes accept connections, and the dialer that connects to them there.
-ghost use Rattle.std.specs.Prelude.{◌≡◌, ◌++◌, ◌∷◌, [], Some, OnErr, OnOk};
+ghost use Rattle.std.specs.Prelude.{◌≡◌, ◌++◌, ◌∷◌, [], IfSome, Some, OnErr, OnOk};
 ghost use Rattle.std.specs.Io.Buffered.{reader_inner};
 ghost use Rattle.sockets.specs.Addresses.{address_of};
 
-use crate::dialled::{Dialled, dial_at};
+use crate::accept_faults::{is_for_room, trouble_of};
+use crate::dialled::{Dialled, Stopped, dial_at};
+use crate::notice::{Notice, Trouble};
 use crate::port::Port;
 use sessions::Dial;
 use std::alloc::Global;
-use std::io::BufReader;
+use std::io::{BufReader, Eprint};
 use std::marker::Model;
 use std::net::{Net, SocketAddr, TcpStream};
 use std::rt::Clock as SystemClock;
+use std::sync::Arc;
+use std::sync::atomic::{AtomicBool, Ordering};
 use units::{NoMemory, Node};
 
 /// How many bytes are read of a connection at once: a reply has fewer.
 const READ_AT_ONCE: usize = 256;
 
+/// The work of a dialer, as its notices name it.
+const CONNECTING: &str = "connecting to other nodes";
+
 /// The addresses at which some nodes accept connections.
+///
+/// If the system has no file handle or no memory for a connection, standard error has a line that says so, and no
+/// further one until a connection was made.
 pub struct Ports<R> {
     net: R,
     alloc: Global,
     addresses: Vec<(Node, SocketAddr)>,
+    /// Made with the first address, since making it takes memory.
+    stopped: Option<Stopped>,
+    notice: Notice,
 }
 
 // Written out, since a derived destructor is proved anew in each crate that lets a value go.
@@ -30,9 +43,13 @@ impl<R: Drop> Drop for Ports<R> {
             net,
             alloc: _,
             addresses,
+            stopped,
+            notice,
         } = self;
         drop(net);
         drop(addresses);
+        drop(stopped);
+        drop(notice);
     }
 }
 
@@ -54,6 +71,8 @@ impl<R: Net> Ports<R> {
             net,
             alloc,
             addresses: Vec::new(alloc),
+            stopped: None,
+            notice: Notice::new(CONNECTING),
         }
     }
 
@@ -79,8 +98,18 @@ impl<R: Net> Ports<R> {
         ensures ok { OnOk result (self.new ≡ self.old ++ (node, address) ∷ []) }
         ensures err { OnErr result (self.new ≡ self.old) }
     {
+        if self.stopped.is_none() {
+            self.stopped = Some(Arc::new(self.alloc, AtomicBool::new(false))?);
+        }
         self.addresses.push((node, address))?;
         Ok(())
+    }
+
+    /// From now on its connections know that it has stopped, or that it hasn't.
+    fn set_stopped(&self, is_stopped: bool) {
+        if let Some(stopped) = &self.stopped {
+            stopped.store(is_stopped, Ordering::SeqCst);
+        }
     }
 
     /// The address at which the node accepts connections. `None` if no address was added for it.
@@ -92,7 +121,34 @@ impl<R: Net> Ports<R> {
     }
 }
 
-impl<R: Net<Stream = TcpStream> + SystemClock + Copy + Send> Dial for Ports<R> {
+impl<R: Net<Stream = TcpStream> + SystemClock + Eprint + Copy> Ports<R> {
+    /// The two directions of a connection to that address. `None` if it can't be made or the node has stopped.
+    fn dial(&self, address: SocketAddr) -> Option<(Dialled<R>, Dialled<R>)>
+        ensures { IfSome result (λ made. (made.0 ≡ address) × (made.1 ≡ address)) }
+    {
+        let stopped = self.stopped.as_ref()?;
+        // A connect can wait for seconds, for which a stop would wait too.
+        if stopped.load(Ordering::SeqCst) {
+            return None;
+        }
+        match dial_at(self.net, address, stopped) {
+            Ok(made) => {
+                self.notice.over();
+                Some(made)
+            }
+            Err(error) => {
+                // A peer that is down is no trouble of this node's.
+                if is_for_room(&error) {
+                    let trouble = trouble_of(&error, Trouble::NoHandle);
+                    self.notice.tell(&self.net, trouble);
+                }
+                None
+            }
+        }
+    }
+}
+
+impl<R: Net<Stream = TcpStream> + SystemClock + Eprint + Copy + Send> Dial for Ports<R> {
     // One exchange reads a byte at a time, up to its newline.
     type Reader = BufReader<Dialled<R>>;
 
@@ -104,8 +160,16 @@ impl<R: Net<Stream = TcpStream> + SystemClock + Copy + Send> Dial for Ports<R> {
 
     fn connect(&self, peer: Node) -> Option<(BufReader<Dialled<R>>, Dialled<R>)> {
         let address = self.address_of(peer)?;
-        let (reader, writer) = dial_at(self.net, address)?;
+        let (reader, writer) = self.dial(address)?;
         let reader = BufReader::with_capacity(self.alloc, READ_AT_ONCE, reader).ok()?;
         Some((reader, writer))
+    }
+
+    fn stop(&self) {
+        self.set_stopped(true);
+    }
+
+    fn begin(&self) {
+        self.set_stopped(false);
     }
 }

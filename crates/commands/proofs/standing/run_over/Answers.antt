@@ -1,5 +1,5 @@
 use Rattle.ended_nodes.proofs.Reporting.{if_ok}
-use Rattle.one_node.proofs.Shifting.{life_as}
+use Rattle.one_node.proofs.Ending.{life_as}
 use Rattle.commands.proofs.standing.run_over.Goals as goal
 
 pub returns-clause-life : goal.returns-clause-life

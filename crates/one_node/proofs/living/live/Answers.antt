@@ -1,51 +1,36 @@
-use Rattle.std.proofs.Common.{◌≡◌, ◌∙◌, ap, refl}
+use Rattle.std.proofs.Common.{◌≡◌, ◌∙◌, [], ap, refl, subst, sym}
 use Rattle.units.specs.declared.code.Node.{Node}
 use Rattle.node_state.specs.Views.{StateView, committed_records}
-use Rattle.one_node.proofs.ShiftAfterShift.{asks_export, ends_life, stands_exported, stands_first, stands_on}
+use Rattle.desk.specs.Keeping.{IsToSend}
+use Rattle.sessions.specs.Sending.{IsReceivedBy}
+use Rattle.sessions.specs.Threads.{IsOfThread}
+use Rattle.settling.specs.Replicas.{ReplicaView}
+use Rattle.one_node.specs.Lives.{IsLife, opens_with}
+use Rattle.one_node.specs.Operating.{IsNext}
+use Rattle.one_node.specs.declared.operator.Next.{Next}
+use Rattle.one_node.proofs.Ending.{life_of}
+use Rattle.one_node.proofs.Stepping.{begins}
 use Rattle.one_node.proofs.living.live.Goals as goal
 
-pub loop-init : goal.loop-init
-loop-init g c =
+pub returns-in-Ok-clause-life : goal.returns-in-Ok-clause-life
+returns-in-Ok-clause-life g c =
+    let scheme = c.args.setting.now.scheme.now in
+    let network = c.args.setting.now.network.now in
+    let tells = g.N.Clock.tells network in
     let loaded = c.args.loaded.state in
-    stands_first c.args.setting.now.scheme.now loaded.node (g.N.Clock.tells c.args.setting.now.network.now) g.L.Life.takes (λ node path records. g.E.Exporter.holds c.args.exporter.now path node records)
-    loaded c.requires.opened refl c.in_ok-operator.operator.line.held.items c.in_ok-operator.ensures.line (g.I.Read.remaining c.args.reader.now) (g.W.Write.contents c.args.writer.now) c.in_ok-operator.operator.count c.in_ok-operator.ensures.count
-
-pub loop-preserved-in-On : goal.loop-preserved-in-On
-loop-preserved-in-On g c =
-    let loaded = c.args.loaded.state in
-    stands_on c.args.setting.now.scheme.now loaded.node (g.N.Clock.tells c.args.setting.now.network.now) g.L.Life.takes (λ node path records. g.E.Exporter.holds c.args.exporter.now path node records)
-    loaded.journal c.loop.standing.state c.in_ok-left.left.state c.loop.operator.line.held.items c.next_shift.new.operator.line.held.items
-    (g.I.Read.remaining c.args.reader.now) (g.I.Read.remaining c.loop.reader) (g.I.Read.remaining c.next_shift.new.reader)
-    (g.W.Write.contents c.args.writer.now) (g.W.Write.contents c.loop.writer) (g.W.Write.contents c.next_shift.new.writer) c.loop.operator.count c.next_shift.new.operator.count c.in_ok-left.next
-    c.loop.invariant (c.in_ok-left.ensures.shift c.loop.invariant.left c.loop.invariant.begun) c.in-On.is
-
-pub loop-preserved : goal.loop-preserved
-loop-preserved g c =
-    let loaded = c.args.loaded.state in
-    stands_exported c.args.setting.now.scheme.now loaded.node (g.N.Clock.tells c.args.setting.now.network.now) g.L.Life.takes (λ node path records. g.E.Exporter.holds c.args.exporter.now path node records)
-    loaded.journal c.loop.standing.state c.in_ok-left.left.state c.loop.operator.line.held.items c.next_shift.new.operator.line.held.items
-    (g.I.Read.remaining c.args.reader.now) (g.I.Read.remaining c.loop.reader) (g.I.Read.remaining c.next_shift.new.reader)
-    (g.W.Write.contents c.args.writer.now) (g.W.Write.contents c.loop.writer) (g.W.Write.contents c.next_shift.new.writer) c.loop.operator.count c.next_shift.new.operator.count c.in_ok-left.next
-    c.loop.invariant (c.in_ok-left.ensures.shift c.loop.invariant.left c.loop.invariant.begun) c.in-Export.is
-    c.committed.result.now (c.committed.ensures ∙ ap committed_records c.state-state.ensures.state)
-    c.answer_export.new.self.line.held.items c.in_ok-answer_export-in-Export.ensures.line (g.W.Write.contents c.answer_export.new.writer) c.answer_export.new.self.count
-    c.node.result (c.node.ensures ∙ ap (λ (h : StateView). h.node) c.state-state.ensures.state) c.in_ok-answer_export-in-Export.ensures.answered
-
-pub answer_export-requires : goal.answer_export-requires
-answer_export-requires g c =
-    let loaded = c.args.loaded.state in
-    (asks_export c.args.setting.now.scheme.now loaded.node (g.N.Clock.tells c.args.setting.now.network.now) g.L.Life.takes (λ node path records. g.E.Exporter.holds c.args.exporter.now path node records)
-    loaded.journal c.loop.standing.state c.in_ok-left.left.state c.loop.operator.line.held.items c.next_shift.new.operator.line.held.items
-    (g.I.Read.remaining c.args.reader.now) (g.I.Read.remaining c.loop.reader) (g.I.Read.remaining c.next_shift.new.reader)
-    (g.W.Write.contents c.args.writer.now) (g.W.Write.contents c.loop.writer) (g.W.Write.contents c.next_shift.new.writer) c.loop.operator.count c.next_shift.new.operator.count c.in_ok-left.next
-    c.loop.invariant (c.in_ok-left.ensures.shift c.loop.invariant.left c.loop.invariant.begun) c.in-Export.is).1
-
-pub returns-in-End-clause-life : goal.returns-in-End-clause-life
-returns-in-End-clause-life g c =
-    let loaded = c.args.loaded.state in
-    ends_life c.args.setting.now.scheme.now loaded.node (g.N.Clock.tells c.args.setting.now.network.now) g.L.Life.takes (λ node path records. g.E.Exporter.holds c.args.exporter.now path node records)
-    loaded.journal c.loop.standing.state c.in_ok-left.left.state c.loop.operator.line.held.items c.next_shift.new.operator.line.held.items
-    (g.I.Read.remaining c.args.reader.now) (g.I.Read.remaining c.loop.reader) (g.I.Read.remaining c.next_shift.new.reader)
-    (g.W.Write.contents c.args.writer.now) (g.W.Write.contents c.loop.writer) (g.W.Write.contents c.next_shift.new.writer) c.loop.operator.count c.next_shift.new.operator.count c.in_ok-left.next
-    c.loop.invariant (c.in_ok-left.ensures.shift c.loop.invariant.left c.loop.invariant.begun) c.in-End.is
-    (g.W.Write.contents c.write_end.new.writer) c.in_ok-write_end-in-End.ensures
+    let node : Node = c.node-node.result in
+    let same : node ≡ loaded.node = c.node-node.ensures ∙ ap (λ (h : StateView). h.node) c.state.ensures.state in
+    let takes = IsOfThread (IsToSend g.N.Store.NodeStore g.K.Opening.opened) (IsReceivedBy (g.N.Network.leads network) g.N.Reader.Read.remaining g.N.Writer.Write.contents) tells in
+    let start = c.new-evidence in
+    let ended = c.in_ok-stored-in-Ok in
+    let ran = c.run_desk-ran.new in
+    let operator = c.in_ok-operator.operator in
+    let empty : operator.line.held.items ≡ [] = c.in_ok-operator.ensures.line in
+    let talked = c.in-Ok.ensures.talks.talks [] (begins operator.line.held.items empty) in
+    let asked = subst (λ (next : Next). IsNext ran.operator.line.held.items (g.I.Read.remaining ran.reader) talked.0 next) ended.ensures.asked talked.2 in
+    subst (λ (n : Node). IsLife scheme n tells takes (g.E.Exporter.holds c.args.exporter.now n) loaded.journal (committed_records ended.stored.state) (g.I.Read.remaining c.args.reader.now) (g.I.Read.remaining ran.reader) (g.W.Write.contents c.args.writer.now) (g.W.Write.contents c.write_end.new.writer)) same
+    (life_of scheme node tells takes (g.E.Exporter.holds c.args.exporter.now node) start.result start.ensures.seat start.ensures.judged
+    (ap (λ (r : ReplicaView). r.scheme) start.ensures.replica ∙ c.in_ok-new.ensures.0) (ap (λ (r : ReplicaView). r.node) start.ensures.replica ∙ c.in_ok-new.ensures.1)
+    g.N.Store.NodeStore g.K.Opening.opened loaded.journal (λ its m journal faults is. subst (λ (n : Node). opens_with scheme n loaded.journal its m journal faults) (sym same) (c.requires.opens its m journal faults is))
+    ended.stored c.in-Ok.remains.threads.items c.in-Ok.remains.evidence ended.ensures.ends c.in-Ok.ensures.none c.in-Ok.ensures.taken
+    (g.I.Read.remaining c.args.reader.now) (g.I.Read.remaining ran.reader) (g.W.Write.contents c.args.writer.now) (g.W.Write.contents ran.writer) (g.W.Write.contents c.write_end.new.writer) operator.count ran.operator.count talked.0 c.in_ok-operator.ensures.count talked.1 asked c.in_ok-write_end-in-Ok.ensures)

@@ -1,15 +1,14 @@
 use Rattle.std.proofs.Common.{◌≡◌, ◌∙◌, ◌+◌, ℕ, List, ap, append-nil, inl, length, subst, sym}
 use Rattle.std.specs.Io.KnownBytes.{Appends}
 use Rattle.protocol.specs.Input.{Input}
-use Rattle.one_node.specs.Lives.{IsCarried}
-use Rattle.one_node.specs.Turns.{export_line}
+use Rattle.one_node.specs.Turns.{IsCarried, export_line}
 use Rattle.one_node.proofs.Stepping.{on_both}
 use Rattle.one_node.proofs.Words.{added_to_none}
 use Rattle.one_node.proofs.operator.Operator.answer_export.Goals as goal
 
 pub returns-in_ok-push_export-in-Ok-clause-answered : goal.returns-in_ok-push_export-in-Ok-clause-answered
 returns-in_ok-push_export-in-Ok-clause-answered g c =
-    let holds : List ℕ → List Input → Type 0 = λ path records. g.E.Exporter.holds c.args.exporter.now path c.args.node records in
+    let holds : List ℕ → List Input → Type 0 = g.E.Exporter.holds c.args.exporter.now c.args.node in
     let records = c.args.records.now in
     let count = c.args.self.now.count in
     let number = c.in_ok-number.ensures in

@@ -3,57 +3,31 @@
 
     count_definitions.py [--files] [FOLDER]
 
-FOLDER is a checkout of the repository, by default the one of this file. The script prints the number of lines of
-definitions in crates/protocol/specs, without blank lines, comments and `use` lines; the numbers of definitions and of
-lines that the headline's words cite, directly or through others, in crates/*/specs; and, apart from these, the number
-of cited names of limits and codes, which stand for a number alone. Types that the code declares are not counted. Then
-it prints the number of definitions of all crates and of those that the contracts of public functions reach, and a line
-for each definition whose comment is wrong: one that is reached although its comment denies it, or one that isn't
-reached and has no comment that says it. The exit status is 1 if there is such a definition.
+FOLDER is a checkout of the repository, by default the one of this file. For the headline, for a table and for all
+commands the script prints the numbers of definitions and of their lines that the words of these cite, directly or
+through others, in crates/*/specs, without blank lines, comments and `use` lines; and, apart from these, the number of
+cited names of limits and codes, which stand for a number alone. Types that the code declares are not counted.
+docs/DEFINITIONS.md must have these numbers. Then it prints the number of definitions of all crates and of those that
+the contracts of public functions reach, and a line for each definition whose comment is wrong: one that is reached
+although its comment denies it, or one that isn't reached and has no comment that says it. The exit status is 1 if there
+is such a definition, or if the page has other numbers.
 
 With --files the script prints the tables of out/lists/definitions.md instead: the files of definitions of each crate,
 each after the files that it needs, with the comment at its beginning.
 """
-import glob
 import os
 import re
 import sys
 
 from reached_definitions import Repository
 
-HEADLINE = ["OnePlace", "SpentOnce", "Agrees", "live_of", "committed_of", "opening", "run"]
-HEADLINE_FILES = ["protocol/Claims", "protocol/World"]
+HEADLINE = [
+    *((("protocol", "Claims"), word) for word in ("OnePlace", "SpentOnce", "Agrees", "live_of", "committed_of")),
+    *((("protocol", "World"), word) for word in ("opening", "run")),
+]
+TABLE = [(("report", "Table"), "IsSafeTable")]
+COMMANDS = [(("commands", "Obeying"), "Obeys")]
 NUMBER = re.compile(r"^[a-z_]+ = [\d_]+$")
-START = re.compile(r"^(?:abbrev |unfoldable )?(?:pub )(?:abbrev |unfoldable |data |record )?([^\s:({]+)")
-
-
-def parts(path):
-    """Returns the imports of a specs file, and the lines of each of its definitions."""
-    uses, found, name = {}, {}, None
-    for line in open(path, encoding="utf-8"):
-        text = line.rstrip("\n")
-        if text.startswith("use ") or text.startswith("pub use "):
-            whole = re.match(r"(?:pub )?use ([\w.-]+)\.\{(.*)\}", text)
-            if whole:
-                for item in whole.group(2).split(","):
-                    old, _, new = item.strip().partition(" as ")
-                    uses[(new or old).strip()] = (whole.group(1), old.strip())
-            else:
-                module = re.match(r"(?:pub )?use ([\w.-]+)(?: as ([\w-]+))?", text)
-                if module:
-                    uses[module.group(2) or module.group(1).split(".")[-1]] = (module.group(1), None)
-            continue
-        if not text.strip() or text.lstrip().startswith("--") or text.startswith("pub mod "):
-            continue
-        start = START.match(text) if not text.startswith(" ") else None
-        if text.startswith("abbrev ") and not start:
-            start = re.match(r"^abbrev ([^\s:({]+)", text)
-        if start and (text.startswith(("abbrev ", "unfoldable ")) or text.startswith(("pub data", "pub record")) or " : " in text):
-            name = start.group(1)
-            found[name] = []
-        if name:
-            found[name].append(text)
-    return uses, found
 
 
 def heading(path):
@@ -88,47 +62,31 @@ def tables(top):
             yield "\n"
 
 
+def counts(repository, seen):
+    """Returns the numbers of definitions, of their lines, and of names of limits and codes among them, as a text."""
+    lines = {it: repository.files[it[0]].found[it[1]] for it in seen}
+    names = {it for it in seen if NUMBER.match(lines[it][-1].strip())}
+    return f"{len(seen - names):,} definitions of {sum(len(lines[it]) for it in seen - names):,} lines, and {len(names)} names of limits and codes"
+
+
 def main():
     words = [word for word in sys.argv[1:] if word != "--files"]
     top = words[0] if words else os.path.join(os.path.dirname(os.path.abspath(__file__)), "..")
     if "--files" in sys.argv:
         return print("".join(tables(top)), end="")
-    files = {}
-    for path in sorted(glob.glob(os.path.join(top, "crates/*/specs/*.antt"))):
-        crate = path.split(os.sep)[-3]
-        module = os.path.basename(path)[:-5]
-        files["%s/%s" % (crate, module)] = parts(path)
-    lines = sum(len(t) for key, (_, found) in files.items() if key.startswith("protocol/") for t in found.values())
-    print("lines of definitions in protocol:", lines)
-    todo = [(key, word) for key in HEADLINE_FILES for word in HEADLINE if word in files[key][1]]
-    seen = set()
-    while todo:
-        key, word = todo.pop()
-        if (key, word) in seen:
-            continue
-        seen.add((key, word))
-        uses, found = files[key]
-        for token in re.findall(r"[^\s(){};,=]+", "\n".join(found[word])):
-            for name in {token, token.split(".")[0]}:
-                if name in found:
-                    todo.append((key, name))
-                elif name in uses:
-                    module, old = uses[name]
-                    hit = re.match(r"Rattle\.(\w+)\.specs\.(\w+)$", module)
-                    if hit and "%s/%s" % hit.groups() in files:
-                        other = "%s/%s" % hit.groups()
-                        old = old if old else token.partition(".")[2]
-                        if old in files[other][1]:
-                            todo.append((other, old))
-    names = {(key, word) for key, word in seen if NUMBER.match(files[key][1][word][-1])}
-    count = sum(len(files[key][1][word]) for key, word in seen - names)
-    print("definitions that the headline's words cite: %d, of %d lines" % (len(seen - names), count))
-    print("names of limits and codes among them: %d" % len(names))
     repository = Repository(top)
+    with open(os.path.join(top, "docs/DEFINITIONS.md"), encoding="utf-8") as file:
+        page = " ".join(file.read().split())
+    wrong = []
+    for words, seeds in (("the headline", HEADLINE), ("a table", HEADLINE + TABLE), ("all commands", COMMANDS)):
+        text = counts(repository, repository.reached_from(seeds))
+        print(f"{words}: {text}")
+        if text not in page:
+            wrong.append(f"docs/DEFINITIONS.md doesn't say of {words}: {text}")
     print("definitions of all crates: %d; public contracts reach %d of them" % (repository.count(), len(repository.reached())))
-    misplaced = list(repository.misplaced())
-    print("\n".join(misplaced), end="\n" if misplaced else "")
-    sys.exit(1 if misplaced else 0)
+    wrong += repository.misplaced()
+    print("\n".join(wrong), end="\n" if wrong else "")
+    sys.exit(1 if wrong else 0)
 
 
 if __name__ == "__main__":

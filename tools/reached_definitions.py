@@ -163,8 +163,12 @@ class Repository:
         return None
 
     def reached(self):
-        todo = [it for crate in self.crates for clause, uses in Crate(self.top, crate).clauses() for it in self.cited(clause, uses)]
-        seen = set()
+        """Returns the definitions that contracts of public functions reach."""
+        return self.reached_from(it for crate in self.crates for clause, uses in Crate(self.top, crate).clauses() for it in self.cited(clause, uses))
+
+    def reached_from(self, seeds):
+        """Returns the definitions that these cite, directly or through others, and these themselves."""
+        todo, seen = list(seeds), set()
         while todo:
             it = self.known(*todo.pop())
             if it and it not in seen:

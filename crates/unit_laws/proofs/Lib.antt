@@ -1,0 +1,9 @@
+pub mod NewestCredits
+pub mod OrderedTransfers
+pub mod KnownContents
+pub mod UnitKinds
+pub mod UnitArrivals
+pub mod OneOrder
+pub mod TableOfWorld
+pub mod WorkedUnits
+pub mod WorkedTable
